@@ -1,0 +1,9 @@
+pub mod NumberWidth
+pub mod Packed
+pub mod RowLemmas
+pub mod SumLemmas
+pub mod LimitLemmas
+pub mod OrderLemmas
+pub mod OrderProofs
+pub mod LeastProofs
+pub mod SumProofs

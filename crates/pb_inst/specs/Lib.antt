@@ -1,0 +1,12 @@
+pub mod Literal
+pub mod Problem
+pub mod Meaning
+pub mod Order
+pub mod OrderLaws
+pub mod SumLaws
+pub mod Limits
+pub mod Words
+pub mod Constraints
+pub mod Rows
+pub mod Incumbent
+pub mod Cubes

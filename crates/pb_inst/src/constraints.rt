@@ -1,0 +1,174 @@
+//! Linear constraints over literals, and the list of them that an instance keeps.
+
+ghost use Rattle.std.specs.Prelude.{◌≡◌, ℕ, ◌+◌, ◌<◌, ◌≤◌, [], ◌∷◌, ◌++◌, List, length, map, sum_by, slice_get, slice_range, Some, OnOk, OnErr, pos};
+
+use crate::{Lit, MAX_TERMS, Memory, Number};
+use std::alloc::Global;
+use std::marker::Model;
+
+/// A coefficient, and the literal whose value it is multiplied by.
+#[derive(Clone, Copy, Debug, PartialEq, Eq)]
+pub struct Term {
+    /// Any number, 0 and negative ones too.
+    pub coef: Number,
+    /// The literal, worth 1 where it is true, else 0.
+    pub lit: Lit,
+}
+
+/// How the sum of a constraint's terms stands to its bound.
+#[derive(Clone, Copy, Debug, PartialEq, Eq)]
+pub enum Relation {
+    /// `>=`
+    AtLeast,
+    /// `<=`
+    AtMost,
+    /// `=`
+    Equal,
+}
+
+/// A constraint as it is read back: the sum of the terms stands in the relation to the bound.
+#[derive(Clone, Copy, Debug)]
+pub struct Constraint<'a> {
+    /// The terms as they were added, repeats included.
+    pub terms: &'a [Term],
+    /// How the sum of the terms is to stand to the bound.
+    pub relation: Relation,
+    /// The number on the right side.
+    pub bound: Number,
+}
+
+/// Where a constraint's terms lie in the list of all terms, and the rest of the constraint. `MAX_TERMS` fits 32 bits.
+#[derive(Clone, Copy, Debug)]
+struct Row {
+    start: u32,
+    end: u32,
+    relation: Relation,
+    bound: Number,
+}
+
+// Large instances are kept flat: with numbers of 64 bits a term takes 16 bytes, and a constraint at most 40 besides its terms.
+const _: () = prove!(size_of::<Term>() == 2 * size_of::<Number>());
+
+const _: () = prove!(size_of::<Row>() <= 40);
+
+/// Constraints in the order in which they were added, over one list of all their terms. Contracts see the list of them.
+#[derive(Debug, Drop)]
+pub struct ConstraintList {
+    terms: Vec<Term>,
+    rows: Vec<Row>,
+}
+
+impl Model for ConstraintList {
+    ghost use Rattle.std.specs.Prelude.{List};
+    ghost use Rattle.pb_inst.specs.Problem.{LinearConstraint};
+
+    ghost Value = { List LinearConstraint };
+
+    ghost use Rattle.pb_inst.specs.Rows.{constraints_of_rows, AreRowsOf};
+
+    ghost view = { λ l. constraints_of_rows l.terms.items l.rows.items };
+
+    ghost invariant = { λ l. AreRowsOf l.terms.items l.rows.items };
+}
+
+impl ConstraintList {
+    ghost use Rattle.pb_inst.specs.Constraints.{linear, unit_term, clause_constraint};
+    ghost use Rattle.pb_inst.specs.Limits.{constraint_terms};
+
+    /// No constraints. Takes no memory.
+    pub fn new(alloc: Global) -> ConstraintList
+        ensures { result ≡ [] }
+    {
+        ConstraintList {
+            terms: Vec::new(alloc),
+            rows: Vec::new(alloc),
+        }
+    }
+
+    /// The number of constraints.
+    pub fn len(&self) -> usize
+        ensures { result ≡ length self.now }
+    {
+        self.rows.len()
+    }
+
+    /// The number of terms of all constraints together.
+    pub fn term_count(&self) -> usize
+        ensures { result ≡ constraint_terms self.now }
+    {
+        self.terms.len()
+    }
+
+    /// The i-th constraint, from 0.
+    pub fn get(&self, i: usize) -> Constraint<'_>
+        requires { i < length self.now }
+        ensures { slice_get self.now i ≡ Some (linear result) }
+    {
+        let row = self.rows[i];
+        Constraint {
+            terms: part(&self.terms, row.start as usize, row.end as usize),
+            relation: row.relation,
+            bound: row.bound,
+        }
+    }
+
+    /// Adds a constraint at the end, or leaves the list unchanged where memory runs out.
+    pub fn push(&mut self, terms: &[Term], relation: Relation, bound: Number) -> Result<(), Memory>
+        requires { constraint_terms self.old + length terms.now ≤ MAX_TERMS }
+        ensures added { OnOk result (self.new ≡ self.old ++ record { terms = terms.now; relation = relation; bound = bound } ∷ []) }
+        ensures unchanged { OnErr result (self.new ≡ self.old) }
+    {
+        // Room for the row comes first, so that nothing can fail once the terms are there.
+        self.rows.reserve(1)?;
+        let start = self.terms.len() as u32;
+        self.terms.extend_from_slice(terms)?;
+        let end = self.terms.len() as u32;
+        self.rows.push_reserved(Row {
+            start,
+            end,
+            relation,
+            bound,
+        });
+        Ok(())
+    }
+
+    /// Adds the constraint that some literal is true, or leaves the list unchanged where memory runs out.
+    pub fn push_clause(&mut self, lits: &[Lit]) -> Result<(), Memory>
+        requires { constraint_terms self.old + length lits.now ≤ MAX_TERMS }
+        ensures added { OnOk result (self.new ≡ self.old ++ clause_constraint lits.now ∷ []) }
+        ensures unchanged { OnErr result (self.new ≡ self.old) }
+    {
+        self.rows.reserve(1)?;
+        let start = self.terms.len() as u32;
+        extend_with_units(&mut self.terms, lits)?;
+        let end = self.terms.len() as u32;
+        self.rows.push_reserved(Row {
+            start,
+            end,
+            relation: Relation::AtLeast,
+            bound: 1,
+        });
+        Ok(())
+    }
+}
+
+/// The terms from `start` up to `end`.
+fn part(terms: &[Term], start: usize, end: usize) -> &[Term]
+    requires ordered { start ≤ end }
+    requires within { end ≤ length terms.now }
+    ensures { result.now ≡ slice_range terms.now start end }
+{
+    &terms[start..end]
+}
+
+/// Adds each literal once to the terms, or nothing where memory runs out.
+fn extend_with_units(terms: &mut Vec<Term>, lits: &[Lit]) -> Result<(), Memory>
+    ensures added { OnOk result (terms.new.items ≡ terms.old.items ++ map (λ l. record { coef = pos 1; lit = l }) lits.now) }
+    ensures unchanged { OnErr result (terms.new.items ≡ terms.old.items) }
+{
+    terms.reserve(lits.len())?;
+    for lit in lits {
+        terms.push_reserved(Term { coef: 1, lit: *lit });
+    }
+    Ok(())
+}

@@ -1,0 +1,88 @@
+//! The best assignment found so far.
+
+ghost use Rattle.std.specs.Prelude.{◌≡◌, ◌↔◌, None, Some, length, IsTrue, IfOk, IfSome, if◌then◌else◌};
+ghost use Rattle.std.specs.Option.{option_copied, option_map};
+ghost use Rattle.pb_inst.specs.Incumbent.{IsSound, Improves, solution_of};
+ghost use Rattle.pb_inst.specs.Meaning.{IsFeasible};
+
+use crate::{Assignment, Instance, Memory, Number, precedes};
+use std::alloc::Global;
+use std::marker::Model;
+
+/// Nothing, or an assignment that the instance's `check` accepts, and its cost. Contracts see an `Incumbent`.
+#[derive(Debug, Drop)]
+pub struct Best<'i> {
+    instance: &'i Instance,
+    cost: Option<Number>,
+    assignment: Assignment,
+}
+
+impl<'i> Model for Best<'i> {
+    ghost use Rattle.pb_inst.specs.Incumbent.{Incumbent};
+
+    ghost Value = { Incumbent };
+
+    ghost use Rattle.std.specs.Prelude.{◌≡◌, length};
+    ghost use Rattle.std.specs.Option.{option_map};
+    ghost use Rattle.pb_inst.specs.Incumbent.{IsSound};
+
+    ghost view = { λ b. record { problem = b.instance.now; held = option_map (λ c. record { cost = c; assignment = b.assignment }) b.cost } };
+
+    ghost invariant = { λ b. (length b.assignment ≡ b.instance.now.vars) × IsSound (record { problem = b.instance.now; held = option_map (λ c. record { cost = c; assignment = b.assignment }) b.cost }) };
+}
+
+impl<'i> Best<'i> {
+    /// Holds nothing, and has the memory for all that it will hold. Fails where memory is refused.
+    pub fn none(alloc: Global, instance: &'i Instance) -> Result<Best<'i>, Memory>
+        ensures { IfOk result (λ best. best ≡ record { problem = instance.now; held = None }) }
+    {
+        let assignment = Assignment::new(alloc, instance.vars())?;
+        Ok(Best {
+            instance,
+            cost: None,
+            assignment,
+        })
+    }
+
+    /// The cost of the assignment that is held, if one is.
+    pub fn cost(&self) -> Option<Number>
+        ensures value { result ≡ option_map (λ s. s.cost) self.now.held }
+        ensures sound { IsSound self.now }
+    {
+        self.cost
+    }
+
+    /// The assignment that is held, if one is.
+    pub fn assignment(&self) -> Option<&Assignment>
+        ensures value { option_copied result ≡ option_map (λ s. s.assignment) self.now.held }
+        ensures sound { IsSound self.now }
+    {
+        match self.cost {
+            Some(_) => Some(&self.assignment),
+            None => None,
+        }
+    }
+
+    /// Where the assignment, to as many variables as the instance's, is feasible and before what is held, or nothing is
+    /// held, copies it in and answers true; else changes nothing and answers false. Takes no memory.
+    pub fn take(&mut self, assignment: &Assignment) -> bool
+        requires { length assignment.now ≡ self.old.problem.vars }
+        ensures decides { IsTrue result ↔ (IsFeasible self.old.problem assignment.now × Improves assignment.now self.old) }
+        ensures same_instance { self.new.problem ≡ self.old.problem }
+        ensures held { self.new.held ≡ (if result then Some (solution_of self.old.problem assignment.now) else self.old.held) }
+        ensures sound { IsSound self.new }
+        ensures was_sound { IsSound self.old }
+    {
+        let Some(cost) = self.instance.check(assignment) else {
+            return false;
+        };
+        if let Some(held) = self.cost
+            && !precedes(cost, assignment, held, &self.assignment)
+        {
+            return false;
+        }
+        self.assignment.copy_from(assignment);
+        self.cost = Some(cost);
+        true
+    }
+}
