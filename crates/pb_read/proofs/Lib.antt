@@ -1,0 +1,36 @@
+mod OpbRows
+mod ClauseRows
+pub mod Limits
+pub mod Pieces
+pub mod Spelled
+pub mod OpbLaws
+pub mod ClausesSpelled
+pub mod ClauseLaws
+pub mod CnfLaws
+pub mod CubeLaws
+pub mod IcnfLaws
+pub mod WordCuts
+pub mod Scanning
+pub mod Counting
+pub mod CubeReading
+pub mod Following
+pub mod ClauseLines
+pub mod ClauseIndices
+pub mod CnfReading
+pub mod IcnfReading
+pub mod ContentLines
+pub mod FaultOnly
+pub mod Lexing
+pub mod TokenCuts
+pub mod Lines
+pub mod Taking
+pub mod Streaming
+pub mod Gathering
+pub mod Drafting
+pub mod Places
+pub mod Headers
+pub mod Taken
+pub mod Amounts
+pub mod Steps
+pub mod Seen
+pub mod Finishing

@@ -1,0 +1,5 @@
+use Rattle.pb_read.proofs.IcnfLaws.{spells, not_refused, one}
+use Rattle.pb_read.proofs.laws.one_reading_of_icnf.Goals as goal
+
+pub returns : goal.returns
+returns c = record { spells = spells; not_both = not_refused; one = one }

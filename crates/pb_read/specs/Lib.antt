@@ -1,0 +1,17 @@
+pub mod Runs
+pub mod Text
+pub mod Terms
+pub mod Refusal
+pub mod Opb
+pub mod Capped
+pub mod TokenCuts
+pub mod Clauses
+pub mod Cnf
+pub mod Cubes
+pub mod Icnf
+pub mod Reading
+pub mod ClauseReading
+pub mod Failure
+pub mod Places
+pub mod Drafts
+pub mod Building
