@@ -1,0 +1,10 @@
+pub mod NormalLemmas
+pub mod MergeLemmas
+pub mod SortLemmas
+pub mod SpanLemmas
+pub mod RowLemmas
+pub mod FormLemmas
+pub mod LiteralLemmas
+pub mod ExactLemmas
+pub mod UniqueLemmas
+pub mod MinimaLemmas

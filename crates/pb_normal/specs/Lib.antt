@@ -1,0 +1,5 @@
+pub mod NormalForm
+pub mod Literals
+pub mod Exact
+pub mod Merging
+pub mod Layout

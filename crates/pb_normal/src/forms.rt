@@ -1,0 +1,177 @@
+//! The normal form of an instance.
+
+ghost use Rattle.std.specs.Prelude.{◌≡◌, ℕ, ◌+◌, ◌*◌, ◌<◌, ◌≤◌, List, [], ◌∷◌, All, length, map, slice_get, sum_by, unsigned_abs, IfOk, OnOk, IsSomeAnd, pos, ◌+ℤ◌, ◌≤ℤ◌, neg_ℤ};
+ghost use Rattle.pb_inst.specs.declared.TheConstants.{SUM_BOUND};
+ghost use Rattle.pb_inst.specs.declared.constraints.Term.{Term};
+ghost use Rattle.pb_inst.specs.Constraints.{linear};
+ghost use Rattle.pb_inst.specs.Limits.{constraint_magnitude, total_magnitude, AllVariablesWithin};
+ghost use Rattle.pb_normal.specs.declared.TheConstants.{MAX_ROW_TERMS};
+ghost use Rattle.pb_normal.specs.Exact.{negated, inequalities, objective_terms, IsNormalFormOf};
+ghost use Rattle.pb_normal.specs.Layout.{row_terms};
+ghost use Rattle.pb_normal.specs.NormalForm.{total_coefficient, KeepsFeasible, KeepsCost, IsNormal};
+ghost use Rattle.pb_normal.specs.Merging.{AddsRows, IsSumOf, HasValueOf};
+
+use crate::PositiveTerm;
+use crate::merging::PositiveSum;
+use crate::rows::RowList;
+use pb_inst::{Constraint, Instance, Magnitude, Memory, Number, Relation};
+use std::alloc::Global;
+use std::marker::Model;
+
+/// Rows of positive terms, and the cost as a base and positive terms. The terms of a row add up to at least its degree,
+/// and the terms of the objective are what the cost is above its base. Contracts see a `NormalForm`.
+#[derive(Debug, Drop)]
+pub struct Normal {
+    vars: u32,
+    rows: RowList,
+    base: Number,
+    objective: Vec<PositiveTerm>,
+}
+
+impl Model for Normal {
+    ghost use Rattle.pb_normal.specs.NormalForm.{NormalForm, IsNormal};
+
+    ghost Value = { NormalForm };
+
+    ghost view = { λ f. record { vars = f.vars; rows = f.rows; base = f.base; objective = f.objective.items } };
+
+    ghost invariant = { λ f. IsNormal (record { vars = f.vars; rows = f.rows; base = f.base; objective = f.objective.items }) };
+}
+
+impl Normal {
+    /// The number of variables: they are 1 to `vars`, as in the instance.
+    pub fn vars(&self) -> u32
+        ensures value { result ≡ self.now.vars }
+        ensures normal { IsNormal self.now }
+    {
+        self.vars
+    }
+
+    /// The number of rows, at most two for each constraint.
+    pub fn len(&self) -> usize
+        ensures value { result ≡ length self.now.rows }
+        ensures normal { IsNormal self.now }
+    {
+        self.rows.len()
+    }
+
+    /// The terms of row i, from 0, by rising variable: coefficients of 1 up to the degree. There may be none.
+    pub fn terms(&self, i: usize) -> &[PositiveTerm]
+        requires { i < length self.now.rows }
+        ensures { IsSomeAnd (slice_get self.now.rows i) (λ row. row.terms ≡ result.now) }
+    {
+        self.rows.terms(i)
+    }
+
+    /// What the terms of row i, from 0, must add up to: at least 1, and at most `SUM_BOUND`.
+    pub fn degree(&self, i: usize) -> Magnitude
+        requires { i < length self.now.rows }
+        ensures { IsSomeAnd (slice_get self.now.rows i) (λ row. row.degree ≡ result) }
+    {
+        self.rows.degree(i)
+    }
+
+    /// The cost where no literal of the objective is true. Without regard to the constraints it is the least cost.
+    pub fn base(&self) -> Number
+        ensures value { result ≡ self.now.base }
+        ensures normal { IsNormal self.now }
+    {
+        self.base
+    }
+
+    /// The terms that the cost adds to the base, by rising variable. The base and all of them are at most `SUM_BOUND`.
+    pub fn objective(&self) -> &[PositiveTerm]
+        ensures value { result.now ≡ self.now.objective }
+        ensures normal { IsNormal self.now }
+    {
+        &self.objective
+    }
+}
+
+/// The normal form of the instance. The rows stand in the order of their constraints, an equality's `>=` before its `<=`;
+/// a constraint that always holds has no row. Takes time in proportion to the terms, but for sorting those of a constraint.
+/// `Memory` says that a growth of memory was refused.
+pub fn normalise(alloc: Global, instance: &Instance) -> Result<Normal, Memory>
+    ensures exact { IfOk result (λ form. IsNormalFormOf instance.now form) }
+    ensures variables { IfOk result (λ form. form.vars ≡ instance.now.vars) }
+    ensures feasible { IfOk result (λ form. KeepsFeasible instance.now form) }
+    ensures cost { IfOk result (λ form. KeepsCost instance.now form) }
+    ensures normal { IfOk result (λ form. IsNormal form) }
+{
+    let mut sum = PositiveSum::new(alloc);
+    let mut rows = RowList::new(alloc);
+    for i in 0..instance.len() {
+        add_constraint(&mut rows, &mut sum, instance.constraint(i))?;
+    }
+    merge_objective(&mut sum, instance)?;
+    let mut objective = Vec::new(alloc);
+    objective.extend_from_slice(&sum.terms)?;
+    Ok(Normal {
+        vars: instance.vars(),
+        rows,
+        base: sum.base,
+        objective,
+    })
+}
+
+/// The sum becomes the objective's.
+fn merge_objective(sum: &mut PositiveSum, instance: &Instance) -> Result<(), Memory>
+    ensures value { OnOk result (HasValueOf (objective_terms instance.now) sum.new.base sum.new.terms.items) }
+    ensures bounded { OnOk result (total_magnitude (objective_terms instance.now) ≤ SUM_BOUND) }
+    ensures sum { OnOk result (IsSumOf instance.now.vars (objective_terms instance.now) sum.new.base sum.new.terms.items) }
+{
+    match instance.objective() {
+        Some(terms) => sum.merge(terms),
+        None => sum.merge(&[]),
+    }
+}
+
+/// Adds the rows of the constraint, by way of the sum. An equality gives the row of `>=` before that of `<=`.
+fn add_constraint(
+    rows: &mut RowList,
+    sum: &mut PositiveSum,
+    constraint: Constraint<'_>,
+) -> Result<(), Memory>
+    requires bounded { constraint_magnitude (linear constraint) ≤ SUM_BOUND }
+    requires room { row_terms rows.old + 2 * length constraint.terms.now ≤ MAX_ROW_TERMS }
+    ensures rows { OnOk result ((n : ℕ) → AllVariablesWithin n constraint.entry.terms.now → AddsRows n (inequalities (linear constraint.entry)) rows.old rows.new) }
+    ensures room { OnOk result (row_terms rows.new ≤ row_terms rows.old + 2 * length constraint.entry.terms.now) }
+{
+    sum.merge(constraint.terms)?;
+    match constraint.relation {
+        Relation::AtLeast => add_at_least(rows, sum, constraint.bound),
+        Relation::AtMost => add_at_most(rows, sum, constraint.bound),
+        Relation::Equal => {
+            add_at_least(rows, sum, constraint.bound)?;
+            add_at_most(rows, sum, constraint.bound)
+        }
+    }
+}
+
+/// Adds the row that the sum is at least the bound, unless it always is.
+fn add_at_least(rows: &mut RowList, sum: &PositiveSum, bound: Number) -> Result<(), Memory>
+    requires bounded { unsigned_abs sum.now.base + unsigned_abs bound ≤ SUM_BOUND }
+    requires coefficients { total_coefficient sum.now.terms.items ≤ SUM_BOUND }
+    requires room { row_terms rows.old + length sum.now.terms.items ≤ MAX_ROW_TERMS }
+    ensures rows { OnOk result ((n : ℕ) (terms : List Term) → IsSumOf n terms sum.now.base sum.now.terms.items → AddsRows n (record { terms = terms; bound = bound } ∷ []) rows.old rows.new) }
+    ensures room { OnOk result (row_terms rows.new ≤ row_terms rows.old + length sum.now.terms.items) }
+{
+    let degree = bound - sum.base;
+    if degree <= 0 {
+        return Ok(());
+    }
+    rows.push(&sum.terms, degree as Magnitude)
+}
+
+/// Adds the row that the sum is at most the bound, unless it always is, and leaves the sum negated.
+fn add_at_most(rows: &mut RowList, sum: &mut PositiveSum, bound: Number) -> Result<(), Memory>
+    requires bounded { unsigned_abs sum.old.base + unsigned_abs bound ≤ SUM_BOUND }
+    requires coefficients { total_coefficient sum.old.terms.items ≤ SUM_BOUND }
+    requires highest { ((sum.old.base +ℤ pos (total_coefficient sum.old.terms.items)) +ℤ pos (unsigned_abs bound)) ≤ℤ pos SUM_BOUND }
+    requires room { row_terms rows.old + length sum.old.terms.items ≤ MAX_ROW_TERMS }
+    ensures rows { OnOk result ((n : ℕ) (terms : List Term) → IsSumOf n terms sum.old.base sum.old.terms.items → AddsRows n (record { terms = map negated terms; bound = neg_ℤ bound } ∷ []) rows.old rows.new) }
+    ensures room { OnOk result (row_terms rows.new ≤ row_terms rows.old + length sum.old.terms.items) }
+{
+    sum.negate();
+    add_at_least(rows, sum, -bound)
+}

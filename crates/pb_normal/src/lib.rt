@@ -1,0 +1,19 @@
+//! The normal form of an instance: rows of positive terms, and the cost as a base and positive terms.
+#![tactic(auto)]
+
+mod forms;
+mod laws;
+mod merging;
+mod rows;
+mod terms;
+
+pub use forms::{Normal, normalise};
+pub use laws::normal_form_laws;
+use pb_inst::MAX_TERMS;
+pub use terms::PositiveTerm;
+
+/// The most terms that all rows may have together: an equality gives two rows.
+pub const MAX_ROW_TERMS: usize = 2 * MAX_TERMS;
+
+#[cfg(test)]
+mod tests;
