@@ -1,0 +1,5 @@
+pub mod Cover
+pub mod Counting
+pub mod Ranking
+pub mod Numbering
+pub mod SplitCover

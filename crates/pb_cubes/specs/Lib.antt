@@ -1,0 +1,4 @@
+pub mod Pieces
+pub mod Piece
+pub mod Occurrences
+pub mod Split
