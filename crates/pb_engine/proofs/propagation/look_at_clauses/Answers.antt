@@ -1,0 +1,45 @@
+use Rattle.std.proofs.Common.{◌≡◌, ℕ, ◌+◌, ◌<◌, ◌≤◌, [], List, length, take, get_or, ap, ◌∙◌, arith, refl, inl, inr}
+use Rattle.std.proofs.lemmas.Bool.{cases_eq}
+use Rattle.std.proofs.lemmas.List.{take_all, get_or_read}
+use Rattle.pb_inst.specs.Literal.{Literal}
+use Rattle.pb_engine.specs.declared.occurrences.Occurrence.{Occurrence}
+use Rattle.pb_engine.specs.Index.{occurrences_of, total_for}
+use Rattle.pb_engine.specs.Tracked.{Tracked}
+use Rattle.pb_engine.proofs.TableLemmas.{total_for-nil, total_for-other, none}
+use Rattle.pb_engine.proofs.Looking.{looked_through_none, looked_through_forced, looked_through_next}
+use Rattle.pb_engine.proofs.propagation.look_at_clauses.Goals as goal
+
+pub loop-i-init : goal.loop-i-init
+loop-i-init c = looked_through_none c.args.slacks.now (λ r. 0 < total_for r []) (λ r h. omega (arith, total_for-nil r))
+
+abbrev Done : (before : Tracked) (l : Literal) → ℕ → ℕ → Type 0
+Done before l i r = 0 < total_for r (take i (occurrences_of before.units before.unit_starts l))
+
+pub returns-in-Conflict-clause-forced : goal.returns-in-Conflict-clause-forced
+returns-in-Conflict-clause-forced c = (looked_through_forced c.args.slacks.now c.loop-i.slacks c.look_at.new.slacks (Done c.args.slacks.now c.args.lit c.loop-i.i) c.loop-i.invariant c.in-Conflict.ensures.same_rows c.in-Conflict.ensures.forced).forced
+
+pub loop-i-preserved : goal.loop-i-preserved
+loop-i-preserved c =
+    let before = c.args.slacks.now in
+    let now = c.loop-i.slacks in
+    let i = c.loop-i.i in
+    let os = occurrences_of before.units before.unit_starts c.args.lit in
+    let same : c.units.result.now ≡ os = c.units.ensures.value ∙ ap (λ (k : Tracked). occurrences_of k.units k.unit_starts c.args.lit) c.loop-i.invariant.same_rows in
+    let within : i < length os = omega (arith, ap (λ (xs : List Occurrence). length xs) c.units-i-end.ensures.value) in
+    let item = c.index-units-i.result in
+    let read : item ≡ get_or c.units.result.now i none = get_or_read c.units.result.now i item (omega (arith, ap (λ (xs : List Occurrence). length xs) same)) c.index-units-i.is none in
+    let row = c.row-row.result in
+    looked_through_next before now c.look_at.new.slacks (Done before c.args.lit i) (Done before c.args.lit (i + 1)) row c.loop-i.invariant c.in_default.ensures.same_rows c.in_default.ensures.forced (c.in_default.ensures.settled refl)
+    (λ r h. elim (cases_eq row r) [
+      | inl at ↦ inr at
+      | inr other ↦ inl (omega (arith, total_for-other os i none r within (λ e. other (c.row-row.ensures.value ∙ (ap (λ (o : Occurrence). o.row) read ∙ (ap (λ (xs : List Occurrence). (get_or xs i none).row) same ∙ e))))))
+    ])
+
+pub returns-clause-settled : goal.returns-clause-settled
+returns-clause-settled c = λ fixed r head exists occurs low.
+    let before = c.args.slacks.now in
+    let os = occurrences_of before.units before.unit_starts c.args.lit in
+    let long : length os ≤ c.loop-i.i = omega (arith, ap (λ (xs : List Occurrence). length xs) c.units-i-end.ensures.value) in
+    let all : take c.loop-i.i os ≡ os = take_all c.loop-i.i os long in
+    let some = ap (λ (xs : List Occurrence). total_for r xs) all in
+    c.loop-i.invariant.settled r head (omega arith) low

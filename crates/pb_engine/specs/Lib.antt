@@ -1,0 +1,13 @@
+pub mod Trail
+pub mod Completion
+pub mod Index
+pub mod Constraints
+pub mod Table
+pub mod Tracked
+pub mod Propagation
+pub mod EngineState
+pub mod Levels
+pub mod Soundness
+pub mod Clauses
+pub mod LiteralLists
+pub mod Tables

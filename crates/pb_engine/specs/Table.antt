@@ -1,0 +1,35 @@
+-- The rows of a normal form, and the clauses of cubes, with the occurrences of each literal.
+use Rattle.std.specs.Prelude.{◌≡◌, ℕ, ◌<◌, ◌≤◌, List, length, All, slice_index_or}
+use Rattle.pb_engine.specs.Index.{IsIndexOf}
+use Rattle.pb_normal.specs.NormalForm.{PositiveRow, NormalForm}
+use Rattle.pb_engine.specs.declared.rows.Limits.{Limits}
+use Rattle.pb_engine.specs.declared.occurrences.Occurrence.{Occurrence}
+use Rattle.pb_engine.specs.Constraints.{AreRowsOver, row_at}
+
+-- the degree and a bound on the coefficients of each of the first n rows
+pub record AreLimitsOf (rows : List PositiveRow) (n : ℕ) (limits : List Limits) : Type 0 where
+  pub count : length limits ≡ n
+  pub degrees : (r : ℕ) (d : Limits) → r < n → (slice_index_or limits r d).degree ≡ (row_at rows r).degree
+  pub widest : (r : ℕ) (d : Limits) → r < n → All (λ t. t.coef ≤ (slice_index_or limits r d).widest) (row_at rows r).terms
+
+-- a normal form, and the occurrences of the literals in its rows with where each literal's begin
+pub record FormRows : Type 0 where
+  pub form : NormalForm
+  pub occurrences : List Occurrence
+  pub starts : List ℕ
+
+pub record AreFormRows (form : NormalForm) (limits : List Limits) (occurrences : List Occurrence) (starts : List ℕ) : Type 0 where
+  pub limited : AreLimitsOf form.rows (length form.rows) limits
+  pub index : IsIndexOf form.vars 0 form.rows occurrences starts
+
+-- the clauses of cubes, numbered from `first` on, and the occurrences of their literals with where each literal's begin
+pub record ClauseRows : Type 0 where
+  pub vars : ℕ
+  pub first : ℕ
+  pub rows : List PositiveRow
+  pub occurrences : List Occurrence
+  pub starts : List ℕ
+
+pub record AreClauseRows (vars first : ℕ) (rows : List PositiveRow) (occurrences : List Occurrence) (starts : List ℕ) : Type 0 where
+  pub over : AreRowsOver vars rows
+  pub index : IsIndexOf vars first rows occurrences starts

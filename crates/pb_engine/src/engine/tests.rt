@@ -1,0 +1,154 @@
+//! Worked rows: slacks, what is propagated, conflicts and bounds.
+
+use crate::{Engine, Step};
+use pb_inst::{InstanceBuilder, Lit, Magnitude, Number, Relation, Term};
+use pb_normal::{Normal, normalise};
+use std::alloc::Global;
+use std::process::Abort;
+
+fn lit(rt: &impl Abort, number: i32) -> Lit {
+    Lit::new(number.unsigned_abs(), number > 0).expect(rt, "a variable")
+}
+
+fn term(rt: &impl Abort, coef: Number, number: i32) -> Term {
+    Term {
+        coef,
+        lit: lit(rt, number),
+    }
+}
+
+/// The normal form of an objective and constraints of `>=`, each a list of coefficients and literals and a bound.
+fn form(
+    rt: &impl Abort,
+    alloc: Global,
+    vars: u32,
+    objective: &[(Number, i32)],
+    rows: &[(&[(Number, i32)], Number)],
+) -> Normal {
+    let mut builder = InstanceBuilder::new(alloc);
+    let mut terms = Vec::new(alloc);
+    for (coef, number) in objective {
+        terms.push(term(rt, *coef, *number)).expect(rt, "memory");
+    }
+    builder.set_objective(&terms).expect(rt, "an objective");
+    for (row, bound) in rows {
+        let mut terms = Vec::new(alloc);
+        for (coef, number) in *row {
+            terms.push(term(rt, *coef, *number)).expect(rt, "memory");
+        }
+        builder
+            .add(&terms, Relation::AtLeast, *bound)
+            .expect(rt, "a constraint");
+    }
+    let instance = builder.finish(vars).ok().expect(rt, "an instance");
+    normalise(alloc, &instance).expect(rt, "memory")
+}
+
+/// The slack of a row by its counter, or none where it is negative.
+fn slack(rt: &impl Abort, engine: &Engine<'_>, row: usize) -> Option<Magnitude> {
+    assert!(rt; row < engine.slacks.rows());
+    engine
+        .slacks
+        .reachable(row)
+        .checked_sub(engine.slacks.degree(row))
+}
+
+fn assume(rt: &impl Abort, engine: &mut Engine<'_>, number: i32) -> Step {
+    let lit = lit(rt, number);
+    assert!(rt; lit.var() <= engine.vars());
+    assert!(rt; engine.value(lit.var()).is_none());
+    assert!(rt; !engine.conflict());
+    engine.assume(lit)
+}
+
+fn propagate(rt: &impl Abort, engine: &mut Engine<'_>) -> Step {
+    assert!(rt; !engine.conflict());
+    engine.propagate()
+}
+
+fn undo_to(rt: &impl Abort, engine: &mut Engine<'_>, level: u32) {
+    assert!(rt; level <= engine.level());
+    engine.undo_to(level);
+}
+
+/// `3 x1 2 x2 1 x3 >= 4`
+const THREE: &[(Number, i32)] = &[(3, 1), (2, 2), (1, 3)];
+
+#[test]
+fn forces_what_is_greater_than_the_slack(rt: HostRuntime) {
+    let form = form(&rt, rt.alloc(), 3, &[], &[(THREE, 4)]);
+    let mut engine = Engine::new(rt.alloc(), &form, &[]).expect(&rt, "memory");
+    assert_eq!(rt; slack(&rt, &engine, 0), Some(2));
+    assert!(rt; propagate(&rt, &mut engine) == Step::Fixed);
+    assert_eq!(rt; engine.value(1), Some(true));
+    assert_eq!(rt; engine.value(2), None);
+    assert!(rt; assume(&rt, &mut engine, -2) == Step::Fixed);
+    assert_eq!(rt; slack(&rt, &engine, 0), Some(0));
+    assert!(rt; propagate(&rt, &mut engine) == Step::Fixed);
+    assert_eq!(rt; engine.value(3), Some(true));
+    assert_eq!(rt; engine.level(), 1);
+    undo_to(&rt, &mut engine, 0);
+    assert_eq!(rt; slack(&rt, &engine, 0), Some(2));
+    assert_eq!(rt; engine.value(1), Some(true));
+    assert_eq!(rt; engine.value(2), None);
+    assert_eq!(rt; engine.value(3), None);
+    assert_eq!(rt; engine.value(0), None);
+    assert_eq!(rt; engine.value(4), None);
+}
+
+#[test]
+fn puts_a_slack_back_after_undo(rt: HostRuntime) {
+    let form = form(&rt, rt.alloc(), 3, &[], &[(THREE, 4)]);
+    let mut engine = Engine::new(rt.alloc(), &form, &[]).expect(&rt, "memory");
+    assert!(rt; propagate(&rt, &mut engine) == Step::Fixed);
+    assert!(rt; assume(&rt, &mut engine, 2) == Step::Fixed);
+    assert!(rt; propagate(&rt, &mut engine) == Step::Fixed);
+    assert_eq!(rt; slack(&rt, &engine, 0), Some(2));
+    assert_eq!(rt; engine.value(3), None);
+    undo_to(&rt, &mut engine, 0);
+    assert!(rt; assume(&rt, &mut engine, -3) == Step::Fixed);
+    assert!(rt; propagate(&rt, &mut engine) == Step::Fixed);
+    assert_eq!(rt; slack(&rt, &engine, 0), Some(1));
+    assert_eq!(rt; engine.value(2), Some(true));
+}
+
+#[test]
+fn a_conflict_leaves_no_slack_behind(rt: HostRuntime) {
+    let rows: &[(&[(Number, i32)], Number)] = &[(&[(1, 1), (1, 2)], 1), (&[(1, 1), (1, -2)], 1)];
+    let form = form(&rt, rt.alloc(), 2, &[], rows);
+    let mut engine = Engine::new(rt.alloc(), &form, &[]).expect(&rt, "memory");
+    assert!(rt; propagate(&rt, &mut engine) == Step::Fixed);
+    assert!(rt; assume(&rt, &mut engine, -1) == Step::Fixed);
+    assert!(rt; propagate(&rt, &mut engine) == Step::Conflict);
+    assert!(rt; engine.conflict());
+    undo_to(&rt, &mut engine, 0);
+    assert!(rt; !engine.conflict());
+    assert_eq!(rt; slack(&rt, &engine, 0), Some(1));
+    assert_eq!(rt; slack(&rt, &engine, 1), Some(1));
+    assert!(rt; assume(&rt, &mut engine, 1) == Step::Fixed);
+    assert!(rt; propagate(&rt, &mut engine) == Step::Fixed);
+    assert_eq!(rt; engine.value(2), None);
+}
+
+#[test]
+fn rows_that_cannot_be_met_are_conflicts(rt: HostRuntime) {
+    let two: &[(Number, i32)] = &[(2, 1), (2, 2)];
+    let rows: &[(&[(Number, i32)], Number)] = &[(two, 3), (&[(-2, 1), (-2, 2)], -3)];
+    let form_of_two = form(&rt, rt.alloc(), 2, &[], rows);
+    let mut engine = Engine::new(rt.alloc(), &form_of_two, &[]).expect(&rt, "memory");
+    assert!(rt; propagate(&rt, &mut engine) == Step::Conflict);
+    let empty = form(&rt, rt.alloc(), 1, &[], &[(&[(0, 1)], 1)]);
+    let mut engine = Engine::new(rt.alloc(), &empty, &[]).expect(&rt, "memory");
+    assert!(rt; propagate(&rt, &mut engine) == Step::Conflict);
+}
+
+#[test]
+fn bounds_by_what_is_paid(rt: HostRuntime) {
+    let rows: &[(&[(Number, i32)], Number)] = &[(&[(1, 1), (1, 2)], 1)];
+    let form = form(&rt, rt.alloc(), 2, &[(-2, 1), (3, 2)], rows);
+    let mut engine = Engine::new(rt.alloc(), &form, &[]).expect(&rt, "memory");
+    assert_eq!(rt; engine.bound(), -2);
+    assert!(rt; assume(&rt, &mut engine, -1) == Step::Fixed);
+    assert!(rt; propagate(&rt, &mut engine) == Step::Fixed);
+    assert_eq!(rt; engine.bound(), 3);
+}

@@ -1,0 +1,60 @@
+//! Where literals occur.
+
+ghost use Rattle.std.specs.Prelude.{◌≡◌, ◌+◌, ◌*◌, ◌<◌, ◌≤◌};
+ghost use Rattle.pb_engine.specs.Index.{literal_place};
+
+use pb_inst::{Lit, Magnitude};
+use std::marker::Model;
+
+/// A row in which a literal occurs, and with which coefficient.
+#[derive(Clone, Copy, Debug)]
+pub struct Occurrence {
+    pub row: usize,
+    pub coef: Magnitude,
+}
+
+/// A row in which a literal occurs with the coefficient 1, which is not stored. Contracts see an `Occurrence`.
+#[derive(Clone, Copy, Debug)]
+pub struct UnitOccurrence {
+    row: usize,
+}
+
+impl Model for UnitOccurrence {
+    ghost use Rattle.pb_engine.specs.declared.occurrences.Occurrence.{Occurrence as Weighted};
+
+    ghost Value = { Weighted };
+
+    ghost view = { λ o. record { row = o.row; coef = 1 } };
+
+    ghost inverse = { λ o. record { row = o.row } };
+}
+
+impl UnitOccurrence {
+    pub fn new(row: usize) -> UnitOccurrence
+        ensures { result ≡ record { row = row; coef = 1 } }
+    {
+        UnitOccurrence { row }
+    }
+
+    pub fn row(self) -> usize
+        ensures value { result ≡ self.row }
+        ensures unit { self.coef ≡ 1 }
+    {
+        self.row
+    }
+}
+
+/// An occurrence, and the place of its literal.
+#[derive(Clone, Copy, Debug)]
+pub struct Entry {
+    pub place: usize,
+    pub occurrence: Occurrence,
+}
+
+/// The place of a literal: two for each variable, the negation first.
+pub fn place_of(lit: Lit) -> usize
+    ensures place { result ≡ literal_place lit }
+    ensures within { (1 ≤ lit.var) × (result < 2 * lit.var) }
+{
+    2 * (lit.var() as usize - 1) + usize::from(lit.positive())
+}

@@ -1,0 +1,159 @@
+//! Looking at rows for literals that they force.
+
+ghost use Rattle.std.specs.Prelude.{◌≡◌, ℕ, ◌+◌, ◌<◌, ◌≤◌, length};
+ghost use Rattle.pb_engine.specs.Constraints.{row_at};
+ghost use Rattle.pb_engine.specs.Index.{occurrences_of, total_for};
+ghost use Rattle.pb_engine.specs.Trail.{reachable, weight_of};
+ghost use Rattle.pb_engine.specs.Completion.{IsSettled};
+ghost use Rattle.pb_engine.specs.Propagation.{AddsForced, IsBroken, IsSettledFrom};
+ghost use Rattle.std.specs.Option.{ForSome};
+ghost use Rattle.pb_engine.specs.Levels.{AllSettled, AllSettledFrom};
+
+use crate::slacks::Slacks;
+use pb_inst::{Lit, Magnitude};
+
+/// What a step of the engine found.
+#[derive(Clone, Copy, Debug, PartialEq, Eq)]
+pub enum Step {
+    Fixed,
+    Conflict,
+}
+
+/// Puts the literals that the row forces on the trail, or finds that the row can't be met any more.
+pub fn look_at(slacks: &mut Slacks<'_>, row: usize) -> Step
+    requires { row < length slacks.old.rows }
+    ensures same_rows { slacks.new ≡ record slacks.old { trail = slacks.new.trail } }
+    ensures forced { AddsForced slacks.old.rows slacks.old.trail slacks.new.trail }
+    ensures settled { result ≡ Step.Fixed → (head : ℕ) → head ≤ length slacks.old.trail → IsSettledFrom head slacks.new.trail (row_at slacks.old.rows row) }
+    ensures broken { result ≡ Step.Conflict → reachable slacks.new.trail (row_at slacks.old.rows row).terms < (row_at slacks.old.rows row).degree }
+{
+    let (reachable, degree) = (slacks.reachable(row), slacks.degree(row));
+    if reachable < degree {
+        return Step::Conflict;
+    }
+    let slack = reachable - degree;
+    if slack < slacks.widest(row) {
+        add_forced(slacks, row, slack);
+    }
+    Step::Fixed
+}
+
+/// Adds what is forced, where the rows are known to be settled but for the literals from a place on, or nothing is known.
+pub fn propagate_all(slacks: &mut Slacks<'_>, settled_until: Option<usize>) -> Step
+    requires { ForSome settled_until (λ from. AllSettledFrom slacks.old.rows slacks.old.trail from) }
+    ensures same_rows { slacks.new ≡ record slacks.old { trail = slacks.new.trail } }
+    ensures forced { AddsForced slacks.old.rows slacks.old.trail slacks.new.trail }
+    ensures settled { result ≡ Step.Fixed → AllSettled slacks.old.rows slacks.new.trail }
+    ensures broken { result ≡ Step.Conflict → IsBroken slacks.old.rows slacks.new.trail }
+{
+    match settled_until {
+        Some(start) => propagate_from(slacks, start),
+        None => {
+            let start = slacks.len();
+            if let Step::Conflict = look_at_all(slacks) {
+                return Step::Conflict;
+            }
+            propagate_from(slacks, start)
+        }
+    }
+}
+
+/// Looks at every row.
+pub fn look_at_all(slacks: &mut Slacks<'_>) -> Step
+    ensures same_rows { slacks.new ≡ record slacks.old { trail = slacks.new.trail } }
+    ensures forced { AddsForced slacks.old.rows slacks.old.trail slacks.new.trail }
+    ensures settled { result ≡ Step.Fixed → (r head : ℕ) → r < length slacks.old.rows → head ≤ length slacks.old.trail → IsSettledFrom head slacks.new.trail (row_at slacks.old.rows r) }
+    ensures broken { result ≡ Step.Conflict → IsBroken slacks.old.rows slacks.new.trail }
+{
+    for row in 0..slacks.rows() {
+        if let Step::Conflict = look_at(slacks, row) {
+            return Step::Conflict;
+        }
+    }
+    Step::Fixed
+}
+
+/// Looks at every row in which the literal occurs.
+pub fn look_at_occurrences(slacks: &mut Slacks<'_>, lit: Lit) -> Step
+    requires { lit.var ≤ slacks.old.vars }
+    ensures same_rows { slacks.new ≡ record slacks.old { trail = slacks.new.trail } }
+    ensures forced { AddsForced slacks.old.rows slacks.old.trail slacks.new.trail }
+    ensures settled { result ≡ Step.Fixed → (r head : ℕ) → r < length slacks.old.rows → 0 < weight_of lit (row_at slacks.old.rows r).terms → head ≤ length slacks.old.trail → IsSettledFrom head slacks.new.trail (row_at slacks.old.rows r) }
+    ensures broken { result ≡ Step.Conflict → IsBroken slacks.old.rows slacks.new.trail }
+{
+    if let Step::Conflict = look_at_form(slacks, lit) {
+        return Step::Conflict;
+    }
+    look_at_clauses(slacks, lit)
+}
+
+/// Looks at every row of the form in which the literal occurs.
+fn look_at_form(slacks: &mut Slacks<'_>, lit: Lit) -> Step
+    requires { lit.var ≤ slacks.old.vars }
+    ensures same_rows { slacks.new ≡ record slacks.old { trail = slacks.new.trail } }
+    ensures forced { AddsForced slacks.old.rows slacks.old.trail slacks.new.trail }
+    ensures settled { result ≡ Step.Fixed → (r head : ℕ) → r < length slacks.old.rows → 0 < total_for r (occurrences_of slacks.old.occurrences slacks.old.starts lit) → head ≤ length slacks.old.trail → IsSettledFrom head slacks.new.trail (row_at slacks.old.rows r) }
+    ensures broken { result ≡ Step.Conflict → IsBroken slacks.old.rows slacks.new.trail }
+    ensures weights { (r : ℕ) → r < length slacks.old.rows → total_for r (occurrences_of slacks.old.occurrences slacks.old.starts lit) + total_for r (occurrences_of slacks.old.units slacks.old.unit_starts lit) ≡ weight_of lit (row_at slacks.old.rows r).terms }
+{
+    for i in 0..slacks.occurrences(lit).len() {
+        let row = slacks.occurrences(lit)[i].row;
+        if let Step::Conflict = look_at(slacks, row) {
+            return Step::Conflict;
+        }
+    }
+    Step::Fixed
+}
+
+/// Looks at every clause in which the literal occurs.
+fn look_at_clauses(slacks: &mut Slacks<'_>, lit: Lit) -> Step
+    requires { lit.var ≤ slacks.old.vars }
+    ensures same_rows { slacks.new ≡ record slacks.old { trail = slacks.new.trail } }
+    ensures forced { AddsForced slacks.old.rows slacks.old.trail slacks.new.trail }
+    ensures settled { result ≡ Step.Fixed → (r head : ℕ) → r < length slacks.old.rows → 0 < total_for r (occurrences_of slacks.old.units slacks.old.unit_starts lit) → head ≤ length slacks.old.trail → IsSettledFrom head slacks.new.trail (row_at slacks.old.rows r) }
+    ensures broken { result ≡ Step.Conflict → IsBroken slacks.old.rows slacks.new.trail }
+{
+    for i in 0..slacks.units(lit).len() {
+        let row = slacks.units(lit)[i].row();
+        if let Step::Conflict = look_at(slacks, row) {
+            return Step::Conflict;
+        }
+    }
+    Step::Fixed
+}
+
+/// Looks at the rows that the literals from `start` on touch, and at those that their own literals touch in turn.
+pub fn propagate_from(slacks: &mut Slacks<'_>, start: usize) -> Step
+    requires within { start ≤ length slacks.old.trail }
+    requires settled { (r : ℕ) → r < length slacks.old.rows → IsSettledFrom start slacks.old.trail (row_at slacks.old.rows r) }
+    ensures same_rows { slacks.new ≡ record slacks.old { trail = slacks.new.trail } }
+    ensures forced { AddsForced slacks.old.rows slacks.old.trail slacks.new.trail }
+    ensures settled { result ≡ Step.Fixed → (r : ℕ) → r < length slacks.old.rows → IsSettled slacks.new.trail (row_at slacks.old.rows r) }
+    ensures broken { result ≡ Step.Conflict → IsBroken slacks.old.rows slacks.new.trail }
+{
+    let mut head = start;
+    while head < slacks.len() {
+        let lit = slacks.literal(head);
+        if let Step::Conflict = look_at_occurrences(slacks, lit.negate()) {
+            return Step::Conflict;
+        }
+        head += 1;
+    }
+    Step::Fixed
+}
+
+/// Puts the row's literals that have no value and a coefficient greater than the slack on the trail.
+fn add_forced(slacks: &mut Slacks<'_>, row: usize, slack: Magnitude)
+    requires exists { row < length slacks.old.rows }
+    requires slack { (row_at slacks.old.rows row).degree + slack ≡ reachable slacks.old.trail (row_at slacks.old.rows row).terms }
+    ensures same_rows { slacks.new ≡ record slacks.old { trail = slacks.new.trail } }
+    ensures forced { AddsForced slacks.old.rows slacks.old.trail slacks.new.trail }
+    ensures settled { (head : ℕ) → head ≤ length slacks.old.trail → IsSettledFrom head slacks.new.trail (row_at slacks.old.rows row) }
+{
+    for i in 0..slacks.width(row) {
+        let term = slacks.term(row, i);
+        if term.coef > slack && slacks.value(term.lit.var()).is_none() {
+            slacks.push(term.lit);
+        }
+    }
+}

@@ -1,0 +1,278 @@
+//! A trail, with what it leaves each row to reach.
+
+ghost use Rattle.std.specs.Prelude.{◌≡◌, ℕ, ◌+◌, ◌-◌, ◌^◌, ◌<◌, ◌≤◌, [], ◌∷◌, ◌++◌, length, take, All, None, slice_index, slice_index_or, IfOk, sum_by, sum, map};
+ghost use Rattle.pb_engine.specs.Constraints.{AreRowsOver, row_at};
+ghost use Rattle.pb_engine.specs.Tracked.{tracked_of};
+ghost use Rattle.pb_engine.specs.Index.{occurrences_of, total_for};
+ghost use Rattle.pb_engine.specs.Trail.{is_true, value_on, reachable, reached, weight_of};
+ghost use Rattle.pb_engine.specs.Soundness.{IsProperTrail};
+
+use crate::occurrences::{Occurrence, UnitOccurrence};
+use crate::tables::Tables;
+use pb_inst::{Lit, Magnitude, Memory};
+use pb_normal::{Normal, PositiveTerm};
+use std::alloc::Global;
+use std::marker::Model;
+
+/// A trail over the variables of rows that are lent, with the sum that each row can still reach and the value of each variable.
+#[derive(Debug, Drop)]
+pub struct Slacks<'a> {
+    tables: Tables<'a>,
+    sums: Vec<Magnitude>,
+    values: Vec<Option<bool>>,
+    trail: Vec<Lit>,
+}
+
+impl<'a> Model for Slacks<'a> {
+    ghost use Rattle.std.specs.Vec.{vec_capacity};
+    ghost use Rattle.pb_engine.specs.Tracked.{Tracked, tracked_of, IsUpToDate};
+
+    ghost Value = { Tracked };
+
+    ghost view = { λ s. tracked_of s.tables s.trail.items };
+
+    ghost invariant = { λ s. IsUpToDate s.tables s.sums.items s.values.items s.trail.items (vec_capacity s.trail) };
+}
+
+impl<'a> Slacks<'a> {
+    /// The empty trail over the rows. It makes room for all variables.
+    pub fn new(alloc: Global, tables: Tables<'a>) -> Result<Slacks<'a>, Memory>
+        ensures { IfOk result (λ s. s ≡ tracked_of tables.entry []) }
+    {
+        let vars = tables.vars() as usize;
+        let sums = totals(alloc, &tables)?;
+        let values = vec![in alloc; None; vars]?;
+        let trail = Vec::with_capacity(alloc, vars)?;
+        Ok(Slacks {
+            tables,
+            sums,
+            values,
+            trail,
+        })
+    }
+
+    pub fn vars(&self) -> u32
+        ensures value { result ≡ self.now.vars }
+        ensures form { self.now.vars ≡ self.now.form.vars }
+    {
+        self.tables.vars()
+    }
+
+    /// The value that the trail gives the variable, if any.
+    pub fn value(&self, var: u32) -> Option<bool>
+        requires { (1 ≤ var) × (var ≤ self.now.vars) }
+        ensures { result ≡ value_on self.now.trail var }
+    {
+        self.values[var as usize - 1]
+    }
+
+    /// The number of literals on the trail.
+    pub fn len(&self) -> usize
+        ensures length { result ≡ length self.now.trail }
+        ensures within { result ≤ self.now.vars }
+        ensures proper { IsProperTrail self.now.vars self.now.trail }
+        ensures rows { AreRowsOver self.now.vars self.now.rows }
+    {
+        self.trail.len()
+    }
+
+    /// What the row can still reach: the coefficients of its literals that are not false.
+    pub fn reachable(&self, row: usize) -> Magnitude
+        requires { row < length self.now.rows }
+        ensures { result ≡ reachable self.now.trail (row_at self.now.rows row).terms }
+    {
+        self.sums[row]
+    }
+
+    /// The literal at a place of the trail.
+    pub fn literal(&self, place: usize) -> Lit
+        requires { place < length self.now.trail }
+        ensures value { result ≡ slice_index_or self.now.trail place result }
+        ensures within { result.var ≤ self.now.vars }
+    {
+        self.trail[place]
+    }
+
+    /// The number of rows.
+    pub fn rows(&self) -> usize
+        ensures { result ≡ length self.now.rows }
+    {
+        self.tables.len()
+    }
+
+    pub fn degree(&self, row: usize) -> Magnitude
+        requires { row < length self.now.rows }
+        ensures { result ≡ (row_at self.now.rows row).degree }
+    {
+        self.tables.degree(row)
+    }
+
+    /// No coefficient of the row is greater.
+    pub fn widest(&self, row: usize) -> Magnitude
+        requires { row < length self.now.rows }
+        ensures { All (λ t. t.coef ≤ result) (row_at self.now.rows row).terms }
+    {
+        self.tables.widest(row)
+    }
+
+    /// The number of the row's terms.
+    pub fn width(&self, row: usize) -> usize
+        requires { row < length self.now.rows }
+        ensures { result ≡ length (row_at self.now.rows row).terms }
+    {
+        self.tables.width(row)
+    }
+
+    /// Term i of the row, from 0.
+    pub fn term(&self, row: usize, i: usize) -> PositiveTerm
+        requires row { row < length self.now.rows }
+        requires term { i < length (row_at self.now.rows row).terms }
+        ensures value { result ≡ slice_index_or (row_at self.now.rows row).terms i result }
+        ensures variable { (1 ≤ result.lit.var) × (result.lit.var ≤ self.now.vars) }
+    {
+        let _vars = self.tables.vars();
+        self.tables.term(row, i)
+    }
+
+    pub fn form(&self) -> &Normal
+        ensures { result.now ≡ self.now.form }
+    {
+        self.tables.form()
+    }
+
+    /// The rows of the form in which the literal occurs.
+    pub fn occurrences(&self, lit: Lit) -> &[Occurrence]
+        requires { lit.var ≤ self.now.vars }
+        ensures value { result.now ≡ occurrences_of self.now.occurrences self.now.starts lit }
+        ensures rows_exist { All (λ o. o.row < length self.now.rows) result.now }
+        ensures weights { (r : ℕ) → r < length self.now.rows → total_for r (occurrences_of self.now.occurrences self.now.starts lit) + total_for r (occurrences_of self.now.units self.now.unit_starts lit) ≡ weight_of lit (row_at self.now.rows r).terms }
+    {
+        self.tables.occurrences(lit)
+    }
+
+    /// The clauses in which the literal occurs.
+    pub fn units(&self, lit: Lit) -> &[UnitOccurrence]
+        requires { lit.var ≤ self.now.vars }
+        ensures value { result.now ≡ occurrences_of self.now.units self.now.unit_starts lit }
+        ensures rows_exist { All (λ o. o.row < length self.now.rows) result.now }
+    {
+        self.tables.units(lit)
+    }
+
+    /// Whether the literal is on the trail.
+    pub fn is_true(&self, lit: Lit) -> bool
+        requires { lit.var ≤ self.now.vars }
+        ensures { result ≡ is_true self.now.trail lit }
+    {
+        match self.values[lit.var() as usize - 1] {
+            Some(positive) => positive == lit.positive(),
+            None => false,
+        }
+    }
+
+    /// Puts a literal without a value on the trail.
+    pub fn push(&mut self, lit: Lit)
+        requires variable { lit.var ≤ self.old.vars }
+        requires no_value { value_on self.old.trail lit.var ≡ None }
+        ensures pushed { self.new ≡ record self.old { trail = self.old.trail ++ lit ∷ [] } }
+        ensures within { length self.old.trail < self.old.vars }
+        ensures from_one { 1 ≤ lit.var }
+    {
+        self.values[lit.var() as usize - 1] = Some(lit.positive());
+        self.trail.push_reserved(lit);
+        let negation = lit.negate();
+        lower(&mut self.sums, self.tables.occurrences(negation));
+        lower_units(&mut self.sums, self.tables.units(negation));
+    }
+
+    /// Takes the last literal off the trail.
+    pub fn pop(&mut self)
+        ensures { self.new ≡ record self.old { trail = take (length self.old.trail - 1) self.old.trail } }
+    {
+        if let Some(lit) = self.trail.pop() {
+            self.values[lit.var() as usize - 1] = None;
+            let negation = lit.negate();
+            raise(&mut self.sums, self.tables.occurrences(negation));
+            raise_units(&mut self.sums, self.tables.units(negation));
+        }
+    }
+}
+
+/// The sum of all coefficients, for each row.
+fn totals(alloc: Global, tables: &Tables<'_>) -> Result<Vec<Magnitude>, Memory>
+    ensures { IfOk result (λ sums. (length sums.items ≡ length tables.now.rows) × ((r : ℕ) → r < length tables.now.rows → (slice_index sums.items r ≡ reachable [] (row_at tables.now.rows r).terms) × (sum_by (λ t. t.coef) (row_at tables.now.rows r).terms < 2 ^ 64))) }
+{
+    let mut sums = Vec::with_capacity(alloc, tables.len())?;
+    for row in 0..tables.len() {
+        sums.push(tables.total(row))?;
+    }
+    Ok(sums)
+}
+
+/// Takes literals off the trail until `length` are left.
+pub fn cut(slacks: &mut Slacks<'_>, length: usize)
+    ensures { slacks.new ≡ record slacks.old { trail = take length slacks.old.trail } }
+{
+    while slacks.len() > length {
+        slacks.pop();
+    }
+}
+
+/// Takes the coefficients of the occurrences from the sums of their rows.
+fn lower(sums: &mut [Magnitude], occurrences: &[Occurrence])
+    requires rows_exist { All (λ o. o.row < length sums.old) occurrences.now }
+    requires enough { (r : ℕ) → r < length sums.old → total_for r occurrences.now ≤ slice_index sums.old r }
+    ensures { (r : ℕ) → r < length sums.old → slice_index sums.new r + total_for r occurrences.now ≡ slice_index sums.old r }
+{
+    for occurrence in occurrences {
+        sums[occurrence.row] -= occurrence.coef;
+    }
+}
+
+/// Takes 1 for each occurrence from the sum of its row.
+fn lower_units(sums: &mut [Magnitude], occurrences: &[UnitOccurrence])
+    requires rows_exist { All (λ o. o.row < length sums.old) occurrences.now }
+    requires enough { (r : ℕ) → r < length sums.old → total_for r occurrences.now ≤ slice_index sums.old r }
+    ensures { (r : ℕ) → r < length sums.old → slice_index sums.new r + total_for r occurrences.now ≡ slice_index sums.old r }
+{
+    for occurrence in occurrences {
+        sums[occurrence.row()] -= 1;
+    }
+}
+
+/// Adds the coefficients of the occurrences to the sums of their rows.
+fn raise(sums: &mut [Magnitude], occurrences: &[Occurrence])
+    requires rows_exist { All (λ o. o.row < length sums.old) occurrences.now }
+    requires fits { (r : ℕ) → r < length sums.old → slice_index sums.old r + total_for r occurrences.now < 2 ^ 64 }
+    ensures { (r : ℕ) → r < length sums.old → slice_index sums.new r ≡ slice_index sums.old r + total_for r occurrences.now }
+{
+    for occurrence in occurrences {
+        sums[occurrence.row] += occurrence.coef;
+    }
+}
+
+/// Adds 1 for each occurrence to the sum of its row.
+fn raise_units(sums: &mut [Magnitude], occurrences: &[UnitOccurrence])
+    requires rows_exist { All (λ o. o.row < length sums.old) occurrences.now }
+    requires fits { (r : ℕ) → r < length sums.old → slice_index sums.old r + total_for r occurrences.now < 2 ^ 64 }
+    ensures { (r : ℕ) → r < length sums.old → slice_index sums.new r ≡ slice_index sums.old r + total_for r occurrences.now }
+{
+    for occurrence in occurrences {
+        sums[occurrence.row()] += 1;
+    }
+}
+
+/// The sum of the coefficients of the literals on the trail.
+pub fn reached(slacks: &Slacks<'_>, terms: &[PositiveTerm]) -> Magnitude
+    requires variables { All (λ t. t.lit.var ≤ slacks.now.vars) terms.now }
+    requires fits { sum_by (λ t. t.coef) terms.now < 2 ^ 64 }
+    ensures { result ≡ reached slacks.now.trail terms.now }
+{
+    let mut sum = 0;
+    for term in terms {
+        if slacks.is_true(term.lit) {
+            sum += term.coef;
+        }
+    }
+    sum
+}
