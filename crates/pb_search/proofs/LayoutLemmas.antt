@@ -1,0 +1,57 @@
+-- How a search is laid out when it is made.
+use Rattle.std.proofs.Common.{◌≡◌, ℕ, ◌≤◌, List, [], ◌++◌, length, sym, ◌∙◌, subst, Bool, All}
+use Rattle.std.specs.Prelude.{◌↔◌, vec_capacity}
+use Rattle.std.proofs.lemmas.List.Elements.{All-nil}
+use Rattle.pb_inst.specs.Literal.{Literal}
+use Rattle.pb_inst.specs.Problem.{Problem}
+use Rattle.pb_inst.specs.Meaning.{IsFeasible}
+use Rattle.pb_inst.specs.Cubes.{MakesFalse}
+use Rattle.pb_inst.specs.declared.TheConstants.{MAX_VARS}
+use Rattle.pb_normal.specs.NormalForm.{NormalForm, PositiveRow, MeetsRows, KeepsFeasible, KeepsCost}
+use Rattle.pb_engine.specs.Clauses.{AreClausesOf}
+use Rattle.pb_engine.specs.EngineState.{EngineState}
+use Rattle.pb_engine.proofs.ClauseLemmas.{both_met, both_from}
+use Rattle.pb_cubes.specs.Pieces.{CubeList}
+use Rattle.pb_search.specs.declared.trees.Tree.{Tree}
+use Rattle.pb_search.specs.Layout.{IsLaidOut}
+use Rattle.pb_search.specs.Trees.{IsTreeOf}
+
+-- the rows are those of the form and the clauses of the cubes
+abbrev pub HasRowsOf : NormalForm → List (List Literal) → EngineState → Type 0
+HasRowsOf f cubes s = (clauses : List PositiveRow) × (s.rows ≡ f.rows ++ clauses) × AreClausesOf cubes clauses
+
+-- so who meets them is feasible and makes each cube false
+rows_mean : (p : Problem) (f : NormalForm) (cubes : List (List Literal)) (s : EngineState) → KeepsFeasible p f → HasRowsOf f cubes s → (a : List Bool) → MeetsRows a s.rows ↔ (IsFeasible p a × All (λ cube. MakesFalse a cube) cubes)
+rows_mean p f cubes s feasible rows a = (
+  (λ h. (let b = both_met a f.rows rows.0 cubes rows.2 (subst (λ (x : List PositiveRow). MeetsRows a x) rows.1 h) in ((feasible a).0 b.0, b.1))),
+  (λ h. subst (λ (x : List PositiveRow). MeetsRows a x) (sym rows.1) (both_from a f.rows rows.0 cubes rows.2 ((feasible a).1 h.0) h.1)),
+)
+
+-- what a tree has that was made over the form, to make the cubes false
+pub record IsMade (f : NormalForm) (cubes : List (List Literal)) (t : Tree) : Type 0 where
+  pub form : t.engine.form ≡ f
+  pub vars : t.engine.vars ≡ f.vars
+  pub rows : HasRowsOf f cubes t.engine
+  pub candidate : length t.candidate ≡ f.vars
+  pub room : f.vars ≤ vec_capacity t.branches
+
+made_tree : (p : Problem) (f : NormalForm) (cubes : List (List Literal)) (t : Tree) → f.vars ≡ p.vars → KeepsFeasible p f → KeepsCost p f → p.vars ≤ MAX_VARS → IsMade f cubes t → IsTreeOf p t
+made_tree p f cubes t vars feasible costs few made = record {
+  engine = record {
+    vars = made.vars ∙ vars;
+    feasible = λ a h. ((rows_mean p f cubes t.engine feasible made.rows a).0 h).0;
+    costs = subst (λ (x : NormalForm). KeepsCost p x) (sym made.form) costs;
+  };
+  few_variables = few;
+  candidate = made.candidate ∙ vars;
+  room = subst (λ (n : ℕ). n ≤ vec_capacity t.branches) vars made.room;
+}
+
+pub laid_out : (p : Problem) (f : NormalForm) (pieces : CubeList) (cube rest : Tree) → f.vars ≡ p.vars → KeepsFeasible p f → KeepsCost p f → p.vars ≤ MAX_VARS → pieces.vars ≡ p.vars → IsMade f [] cube → IsMade f pieces.cubes rest → IsLaidOut p pieces cube rest
+laid_out p f pieces cube rest vars feasible costs few same none all = record {
+  vars = same;
+  cube_tree = made_tree p f [] cube vars feasible costs few none;
+  rest_tree = made_tree p f pieces.cubes rest vars feasible costs few all;
+  cube_rows = λ a h. (rows_mean p f [] cube.engine feasible none.rows a).1 (h, All-nil (λ (c : List Literal). MakesFalse a c));
+  rest_rows = rows_mean p f pieces.cubes rest.engine feasible all.rows;
+}

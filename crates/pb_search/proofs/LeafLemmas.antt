@@ -1,0 +1,156 @@
+-- Full trails, and subtrees that may be left.
+use Rattle.std.proofs.Common.{◌≡◌, ◌≢◌, ℕ, ◌+◌, ◌-◌, List, length, refl, sym, ◌∙◌, ap, subst, arith, Bool, true, false, cond, inl, inr, ◌⊎◌, Option, None, Some}
+use Rattle.std.specs.Prelude.{slice_index_or, unwrap_or, ℤ, ◌<ℤ◌, ◌≤ℤ◌, IsSomeAnd}
+use Rattle.std.specs.Option.{option_map}
+use Rattle.std.proofs.lemmas.List.{ext_get_or}
+use Rattle.std.proofs.Math.ListN.{get_or-eq_default}
+use Rattle.std.proofs.lemmas.Bool.{cases_lt}
+use Rattle.std.proofs.lemmas.Int.{ints}
+use Rattle.pb_inst.specs.Literal.{Literal}
+use Rattle.pb_inst.specs.Problem.{Problem}
+use Rattle.pb_inst.specs.Meaning.{literal_value, IsFeasible, cost}
+use Rattle.pb_inst.specs.Order.{IsBefore}
+use Rattle.pb_inst.specs.Cubes.{MakesTrue}
+use Rattle.pb_inst.specs.Incumbent.{Incumbent, Solution, IsSolution, solution_of}
+use Rattle.pb_inst.proofs.OrderProofs.{none_before_itself}
+use Rattle.pb_normal.specs.NormalForm.{normal_cost}
+use Rattle.pb_engine.specs.Trail.{value_on}
+use Rattle.pb_engine.specs.Completion.{IsLowerBound}
+use Rattle.pb_engine.specs.EngineState.{EngineState}
+use Rattle.pb_engine.specs.Soundness.{IsFull, IsSolved, IsSoundTrail}
+use Rattle.pb_search.specs.Held.{IsImprovement}
+use Rattle.pb_search.specs.Solutions.{Completes}
+use Rattle.pb_search.specs.Trees.{IsEngineOf, IsFilledFrom, IsClosed, IsNotBefore, AgreesBelow, DifferFirstAt, bit_on}
+use Rattle.pb_search.proofs.HeldLemmas.{IsTaken}
+use Rattle.pb_search.proofs.Engines.{value_on-true, value_on-entry}
+
+abbrev at : List Bool → ℕ → Bool
+at a k = slice_index_or a k false
+
+pub sign_is : (b v : Bool) → cond b (cond v 1 0) (1 - cond v 1 0) ≡ 1 → v ≡ b
+sign_is true true h = refl
+sign_is true false h = cc
+sign_is false true h = cc
+sign_is false false h = refl
+
+is_sign : (b v : Bool) → v ≡ b → cond b (cond v 1 0) (1 - cond v 1 0) ≡ 1
+is_sign true true h = refl
+is_sign true false h = cc
+is_sign false true h = cc
+is_sign false false h = refl
+
+-- a true literal tells the bit of its variable
+pub bit_of_true : (a : List Bool) (k : ℕ) (b : Bool) → literal_value a (record { var = k + 1; positive = b }) ≡ 1 → at a k ≡ b
+bit_of_true a k b h = let e : k + 1 - 1 ≡ k = omega arith in subst (λ (n : ℕ). at a n ≡ b) e (sign_is b (at a (k + 1 - 1)) h)
+
+true_by_bit : (a : List Bool) (l : Literal) → at a (l.var - 1) ≡ l.positive → literal_value a l ≡ 1
+true_by_bit a l h = is_sign l.positive (at a (l.var - 1)) h
+
+some_is : (o : Option Bool) → o ≢ None → (b : Bool) × (o ≡ Some b)
+some_is None h = absurd (h refl)
+some_is (Some b) h = (b, refl)
+
+unwrap_true : (o : Option Bool) → unwrap_or o false ≡ true → o ≡ Some true
+unwrap_true None h = let bad : ⊥ = cc in absurd bad
+unwrap_true (Some b) h = ap (λ (x : Bool). Some x) h
+
+-- a full trail has one completion
+full_completion_is : (s : EngineState) (z a : List Bool) → IsFull s → IsFilledFrom s.trail z → length z ≡ s.vars → Completes s a → a ≡ z
+full_completion_is s z a full filled len h =
+    ext_get_or false a z (h.solution.for_all_variables ∙ sym len) (λ k lt.
+    let v = some_is (value_on s.trail (k + 1)) (full (k + 1) (omega arith) (omega (arith, h.solution.for_all_variables))) in
+    let in_a : at a k ≡ v.0 = bit_of_true a k v.0 (value_on-true a s.trail (k + 1) v.0 h.makes_true v.1) in
+    let in_z : at z k ≡ v.0 = filled k (omega (arith, h.solution.for_all_variables)) ∙ ap (λ (o : Option Bool). unwrap_or o false) v.1 in
+    in_a ∙ sym in_z)
+
+-- what is filled from a trail makes the trail true
+filled_makes_true : (s : EngineState) (z : List Bool) → IsFilledFrom s.trail z → length z ≡ s.vars → IsSoundTrail s → MakesTrue z s.trail
+filled_makes_true s z filled len sound k d lt =
+    let range = sound.proper.variables k d lt in
+    let e : (slice_index_or s.trail k d).var - 1 + 1 ≡ (slice_index_or s.trail k d).var = omega (arith, range.0) in
+    let bit : at z ((slice_index_or s.trail k d).var - 1) ≡ unwrap_or (value_on s.trail ((slice_index_or s.trail k d).var - 1 + 1)) false = filled ((slice_index_or s.trail k d).var - 1) (omega (arith, range.0, range.1)) in
+    true_by_bit z (slice_index_or s.trail k d) (bit ∙ ap (λ (n : ℕ). unwrap_or (value_on s.trail n) false) e ∙ ap (λ (o : Option Bool). unwrap_or o false) (value_on-entry s.trail sound.proper.once k d lt))
+
+filled_completes : (s : EngineState) (z : List Bool) → IsFilledFrom s.trail z → length z ≡ s.vars → IsSoundTrail s → IsSolved s → Completes s z
+filled_completes s z filled len sound solved =
+    let all = filled_makes_true s z filled len sound in record { solution = record { for_all_variables = len; meets_rows = solved z all }; makes_true = all }
+
+-- once the only completion is held, none is before it
+closed_when_held : (p : Problem) (s : EngineState) (z : List Bool) (held : Option Solution) → ((a : List Bool) → Completes s a → a ≡ z) → held ≡ Some (solution_of p z) → IsClosed p s held
+closed_when_held p s z held only e a h k = none_before_itself p z (subst (λ (x : List Bool). IsBefore p x z) (only a h) (subst (λ (o : Option Solution). IsImprovement p a o) e k))
+
+-- where the only completion is no improvement, none is
+closed_when_refused : (p : Problem) (s : EngineState) (z : List Bool) (held : Option Solution) → IsEngineOf p s → ((a : List Bool) → Completes s a → a ≡ z) → ¬ (IsFeasible p z × IsImprovement p z held) → IsClosed p s held
+closed_when_refused p s z held engine only refused a h k =
+    refused (subst (λ (x : List Bool). IsFeasible p x × IsImprovement p x held) (only a h) (engine.feasible a h.solution.meets_rows, k))
+
+-- whatever the incumbent answers to the assignment of a full trail, its only completion
+pub leaf_closes : (s : EngineState) (old new : Incumbent) (z : List Bool) (answer : Bool) → IsEngineOf old.problem s → IsFull s → IsFilledFrom s.trail z → length z ≡ s.vars → IsTaken old new z answer → IsClosed old.problem s new.held
+leaf_closes s old new z true engine full filled len h = closed_when_held old.problem s z new.held (λ a k. full_completion_is s z a full filled len k) (h.accepted refl).0
+leaf_closes s old new z false engine full filled len h =
+    let r = h.refused refl in
+    subst (λ (i : Incumbent). IsClosed old.problem s i.held) (sym r.0) (closed_when_refused old.problem s z old.held engine (λ a k. full_completion_is s z a full filled len k) r.1)
+
+pub leaf_own : (s : EngineState) (old new : Incumbent) (z : List Bool) (answer : Bool) → IsFilledFrom s.trail z → length z ≡ s.vars → IsSoundTrail s → IsSolved s → IsTaken old new z answer → (new ≡ old) ⊎ IsSomeAnd new.held (λ t. Completes s t.assignment)
+leaf_own s old new z true filled len sound solved h = inr (subst (λ (o : Option Solution). IsSomeAnd o (λ t. Completes s t.assignment)) (sym (h.accepted refl).0) (filled_completes s z filled len sound solved))
+leaf_own s old new z false filled len sound solved h = inl (h.refused refl).0
+
+-- what a trail makes 1 is 1 wherever the trail is true
+one_within : (trail : List Literal) (a : List Bool) → MakesTrue a trail → (k : ℕ) → bit_on trail k ≡ true → at a k ≡ true
+one_within trail a all k one = bit_of_true a k true (value_on-true a trail (k + 1) true all (unwrap_true (value_on trail (k + 1)) one))
+
+not_both : (b : Bool) → b ≡ true → b ≡ false → ⊥
+not_both b h k = let e : true ≡ false = sym h ∙ k in let bad : ⊥ = cc in bad
+
+-- where the trail with zeros elsewhere is the assignment itself
+pub same_not_before : (trail : List Literal) (b : List Bool) → AgreesBelow trail b (length b) → IsNotBefore trail b
+same_not_before trail b same a all h =
+    elim (cases_lt h.place (length b)) [
+      | inl lt ↦ not_both (at a h.place) (one_within trail a all h.place (sym (same h.place lt) ∙ h.second_has_one)) h.first_has_zero
+      | inr over ↦ not_both (at b h.place) h.second_has_one (get_or-eq_default b false over)
+    ]
+
+other_bit : (x y : Bool) → x ≡ false → ¬ (x ≡ y) → y ≡ true
+other_bit x true e other = refl
+other_bit x false e other = absurd (other e)
+
+-- where the trail has 1 at the first difference
+pub later_not_before : (trail : List Literal) (b : List Bool) (var : ℕ) → DifferFirstAt trail b var → at b (var - 1) ≡ false → IsNotBefore trail b
+later_not_before trail b var first zero_there a all h =
+    let one : bit_on trail (var - 1) ≡ true = other_bit (at b (var - 1)) (bit_on trail (var - 1)) zero_there first.differ in
+    let one_in : at a (var - 1) ≡ true = one_within trail a all (var - 1) one in
+    elim (cases_lt h.place (var - 1)) [
+      | inl lt ↦ not_both (at a h.place) (one_within trail a all h.place (sym (first.same_before h.place lt) ∙ h.second_has_one)) h.first_has_zero
+      | inr rest ↦ elim (cases_lt (var - 1) h.place) [
+        | inl lt ↦ not_both (at b (var - 1)) (sym (h.same_before (var - 1) lt) ∙ one_in) zero_there
+        | inr also ↦ let same : var - 1 ≡ h.place = omega arith in not_both (at b h.place) h.second_has_one (subst (λ (k : ℕ). at b k ≡ false) same zero_there)
+      ]
+    ]
+
+-- a bound above the best cost
+pub closed_above : (p : Problem) (s : EngineState) (bound : ℤ) (t : Solution) → IsEngineOf p s → IsLowerBound s.form s.rows s.trail bound → IsSolution p t → t.cost <ℤ bound → IsClosed p s (Some t)
+closed_above p s bound t engine low sound over a h (inl less) =
+    let at_most : bound ≤ℤ normal_cost s.form a = low.below_costs a (record { makes_true = h.makes_true; meets_rows = h.solution.meets_rows }) in
+    let same : normal_cost s.form a ≡ cost p a = engine.costs a in
+    let is : t.cost ≡ cost p t.assignment = sound.cost_is in omega (arith, ints)
+closed_above p s bound t engine low sound over a h (inr equal) =
+    let at_most : bound ≤ℤ normal_cost s.form a = low.below_costs a (record { makes_true = h.makes_true; meets_rows = h.solution.meets_rows }) in
+    let same : normal_cost s.form a ≡ cost p a = engine.costs a in
+    let is : t.cost ≡ cost p t.assignment = sound.cost_is in
+    let tie : cost p a ≡ cost p t.assignment = equal.0 in omega (arith, ints)
+
+-- a bound equal to the best cost, and a trail none of whose completions comes before the best
+pub closed_at_tie : (p : Problem) (s : EngineState) (bound : ℤ) (t : Solution) → IsEngineOf p s → IsLowerBound s.form s.rows s.trail bound → IsSolution p t → t.cost ≤ℤ bound → IsNotBefore s.trail t.assignment → IsClosed p s (Some t)
+closed_at_tie p s bound t engine low sound over after a h (inl less) =
+    let at_most : bound ≤ℤ normal_cost s.form a = low.below_costs a (record { makes_true = h.makes_true; meets_rows = h.solution.meets_rows }) in
+    let same : normal_cost s.form a ≡ cost p a = engine.costs a in
+    let is : t.cost ≡ cost p t.assignment = sound.cost_is in omega (arith, ints)
+closed_at_tie p s bound t engine low sound over after a h (inr equal) = after a h.makes_true equal.1
+
+-- what is held has the cost and the assignment that are told
+pub held_is : (held : Option Solution) (c : ℤ) (a : List Bool) → option_map (λ (s : Solution). s.cost) held ≡ Some c → option_map (λ (s : Solution). s.assignment) held ≡ Some a → held ≡ Some (record { cost = c; assignment = a })
+held_is None c a h k = let bad : ⊥ = cc in absurd bad
+held_is (Some s) c a h k =
+    let cost_is : s.cost ≡ c = cc in
+    let assignment_is : s.assignment ≡ a = cc in
+    ap (λ (x : ℤ). Some (record { cost = x; assignment = s.assignment })) cost_is ∙ ap (λ (x : List Bool). Some (record { cost = c; assignment = x })) assignment_is

@@ -1,0 +1,72 @@
+-- How open branches and the steps that are left change when the path does.
+use Rattle.std.proofs.Common.{◌≡◌, ℕ, ◌*◌, ◌-◌, ◌^◌, ◌<◌, ◌≤◌, List, [], ◌∷◌, ◌++◌, length, refl, arith, suc, zero, Bool, true, false, not, cond, inl, inr, ◌⊎◌}
+use Rattle.std.specs.Prelude.{slice_index_or}
+use Rattle.std.proofs.lemmas.List.Elements.{All-nil, All-cons}
+use Rattle.pb_inst.specs.Literal.{Literal}
+use Rattle.pb_inst.specs.Meaning.{literal_value}
+use Rattle.pb_inst.specs.Cubes.{MakesTrue}
+use Rattle.pb_search.specs.declared.branches.Branch.{Branch}
+use Rattle.pb_search.specs.Paths.{decided, LeavesOpen, LiesOpen, steps_left, IsOtherValue}
+use Rattle.pb_inst.proofs.SumProofs.{literal_cases}
+
+-- a false literal's negation is true
+negated_bools : (sign value : Bool) → cond sign (cond value 1 0) (1 - cond value 1 0) ≡ 0 → cond (not sign) (cond value 1 0) (1 - cond value 1 0) ≡ 1
+negated_bools true true h = cc
+negated_bools true false h = refl
+negated_bools false true h = refl
+negated_bools false false h = cc
+
+pub negated_true : (a : List Bool) (l m : Literal) → m.var ≡ l.var → m.positive ≡ not l.positive → literal_value a l ≡ 0 → literal_value a m ≡ 1
+negated_true a l m same other h = rw (same, other) (negated_bools l.positive (slice_index_or a (l.var - 1) false) h)
+
+-- one more decision: what lies open still does, below the new branch or at its other value
+pub decide_keeps : (a : List Bool) (path : List Branch) (b : Branch) → b.flipped ≡ false → LiesOpen a path → LiesOpen a (path ++ b ∷ [])
+decide_keeps a [] b fresh h = elim (literal_cases a b.lit) [ inl one ↦ inl (one, tt) | inr none ↦ inr (none, fresh) ]
+decide_keeps a (c ∷ path) b fresh (inl on) = inl (on.0, decide_keeps a path b fresh on.1)
+decide_keeps a (c ∷ path) b fresh (inr off) = inr off
+
+-- what lies open leaves the path open, unless it follows the path to its end
+pub leaves_open : (a : List Bool) (path : List Branch) → LiesOpen a path → ¬ MakesTrue a (decided path) → LeavesOpen a path
+leaves_open a [] h closed = closed (All-nil (λ l. literal_value a l ≡ 1))
+leaves_open a (b ∷ path) (inr off) closed = inr off
+leaves_open a (b ∷ path) (inl on) closed = inl (on.0, leaves_open a path on.1 (λ all. closed (All-cons (λ l. literal_value a l ≡ 1) b.lit (decided path) on.0 all)))
+
+-- what leaves a path leaves it before its last branch, or there
+pub leaves_last : (a : List Bool) (path : List Branch) (b : Branch) → LeavesOpen a (path ++ b ∷ []) → LeavesOpen a path ⊎ (MakesTrue a (decided path) × (b.flipped ≡ false))
+leaves_last a [] b (inl on) = absurd on.1
+leaves_last a [] b (inr off) = inr (All-nil (λ l. literal_value a l ≡ 1), off.1)
+leaves_last a (c ∷ path) b (inr off) = inl (inr off)
+leaves_last a (c ∷ path) b (inl on) = elim (leaves_last a path b on.1) [
+  | inl before ↦ inl (inl (on.0, before))
+  | inr here ↦ inr (All-cons (λ l. literal_value a l ≡ 1) c.lit (decided path) on.0 here.0, here.1)
+]
+
+-- turning to the other value of the last branch keeps all that leaves the path open
+pub turn_keeps : (a : List Bool) (path : List Branch) (last next : Branch) → IsOtherValue last next → LeavesOpen a (path ++ last ∷ []) → LiesOpen a (path ++ next ∷ [])
+turn_keeps a [] last next other (inl on) = absurd on.1
+turn_keeps a [] last next other (inr off) = inl (negated_true a last.lit next.lit other.same_variable other.other_value off.0, tt)
+turn_keeps a (c ∷ path) last next other (inl on) = inl (on.0, turn_keeps a path last next other on.1)
+turn_keeps a (c ∷ path) last next other (inr off) = inr off
+
+-- some step is always left
+power_positive : (n : ℕ) → 1 ≤ 3 ^ n
+power_positive zero = omega arith
+power_positive (suc n) = let h : 1 ≤ 3 ^ n = power_positive n in grind arith
+
+steps_positive : (n : ℕ) (path : List Branch) → 1 ≤ steps_left n path
+steps_positive n [] = power_positive n
+steps_positive n (b ∷ path) = omega (arith, steps_positive (n - 1) path)
+
+power_next : (n : ℕ) → 1 ≤ n → 3 ^ n ≡ 3 * 3 ^ (n - 1)
+power_next zero h = absurd (omega arith)
+power_next (suc n) h = grind arith
+
+-- a decision leaves fewer steps
+pub decide_falls : (n : ℕ) (path : List Branch) (b : Branch) → b.flipped ≡ false → length path < n → steps_left n (path ++ b ∷ []) < steps_left n path
+decide_falls n [] b fresh lt = rw (fresh, power_next n (omega arith)) (omega (arith, power_positive (n - 1)))
+decide_falls n (c ∷ path) b fresh lt = omega (arith, decide_falls (n - 1) path b fresh (omega arith))
+
+-- turning to the other value leaves fewer steps
+pub turn_falls : (n : ℕ) (kept taken_back : List Branch) (last next : Branch) → last.flipped ≡ false → next.flipped ≡ true → steps_left n (kept ++ next ∷ []) < steps_left n (kept ++ last ∷ taken_back)
+turn_falls n [] taken_back last next was_open flipped = rw (was_open, flipped) (omega (arith, steps_positive (n - 1) taken_back))
+turn_falls n (c ∷ kept) taken_back last next was_open flipped = omega (arith, turn_falls (n - 1) kept taken_back last next was_open flipped)

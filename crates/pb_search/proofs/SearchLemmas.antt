@@ -1,0 +1,241 @@
+-- The invariant of the search: how it starts, goes on and ends.
+use Rattle.std.proofs.Common.{◌≡◌, ℕ, ◌<◌, ◌≤◌, List, [], ◌∷◌, ◌++◌, length, refl, sym, ◌∙◌, ap, subst, arith, Bool, true, false, All, inl, inr, ◌⊎◌, Option, None, Some}
+use Rattle.std.specs.Prelude.{IsSomeAnd, IfSome, IfNone, vec_capacity, ◌↔◌}
+use Rattle.std.proofs.lemmas.List.Elements.{All-nil, All-append}
+use Rattle.std.proofs.lemmas.List.{append-nil, get_or-map, length-map}
+use Rattle.pb_inst.specs.Literal.{Literal}
+use Rattle.pb_inst.specs.Problem.{Problem}
+use Rattle.pb_inst.specs.Meaning.{literal_value, IsFeasible}
+use Rattle.pb_inst.specs.Cubes.{MakesTrue, MakesFalse}
+use Rattle.pb_inst.specs.Incumbent.{Incumbent, Solution}
+use Rattle.pb_normal.specs.NormalForm.{PositiveRow, NormalForm, MeetsRows, KeepsCost}
+use Rattle.pb_engine.specs.EngineState.{EngineState}
+use Rattle.pb_engine.specs.Completion.{HasNoCompletion}
+use Rattle.pb_engine.specs.Soundness.{assumptions, literal_at, IsSoundTrail}
+use Rattle.pb_search.specs.declared.branches.Branch.{Branch}
+use Rattle.pb_search.specs.declared.trees.Tree.{Tree}
+use Rattle.pb_cubes.specs.Pieces.{CubeList}
+use Rattle.pb_search.specs.Layout.{IsLaidOut}
+use Rattle.pb_search.specs.Held.{IsNotAfter}
+use Rattle.pb_search.specs.Paths.{decided, LiesOpen, LeavesOpen, IsOtherValue}
+use Rattle.pb_search.specs.Solutions.{SameConstraints, Satisfies, SatisfiesUnder, Completes}
+use Rattle.pb_search.specs.Trees.{IsEngineOf, IsTreeOf, IsAtPath, IsFree, IsClosed, SameBranches, IsUnderWay, IsLeaving, IsNext, IsSearched, IsOwn}
+use Rattle.pb_search.proofs.HeldLemmas.{improvement_on_earlier}
+use Rattle.pb_search.proofs.PathLemmas.{decide_keeps, leaves_open, leaves_last, turn_keeps}
+use Rattle.pb_search.proofs.Engines.{same_constraints_onward, same_constraints_itself}
+use Rattle.pb_search.proofs.Moves.{All_front, free_other}
+
+-- the same constraints have the same solutions
+pub same_solution : (s t : EngineState) (a : List Bool) → SameConstraints s t → Satisfies s a → Satisfies t a
+same_solution s t a same h = record {
+  for_all_variables = h.for_all_variables ∙ sym same.vars;
+  meets_rows = subst (λ (rows : List PositiveRow). MeetsRows a rows) (sym same.rows) h.meets_rows;
+}
+
+pub back_solution : (s t : EngineState) (a : List Bool) → SameConstraints s t → Satisfies t a → Satisfies s a
+back_solution s t a same h = same_solution t s a (record { form = sym same.form; vars = sym same.vars; rows = sym same.rows }) h
+
+pub same_engine : (p : Problem) (s t : EngineState) → SameConstraints s t → IsEngineOf p s → IsEngineOf p t
+same_engine p s t same h = record {
+  vars = same.vars ∙ h.vars;
+  feasible = λ a meets. h.feasible a (subst (λ (rows : List PositiveRow). MeetsRows a rows) same.rows meets);
+  costs = subst (λ (f : NormalForm). KeepsCost p f) (sym same.form) h.costs;
+}
+
+-- what makes the trail true makes the assumptions true
+assumptions_true : (a : List Bool) (s : EngineState) → IsSoundTrail s → MakesTrue a s.trail → MakesTrue a (assumptions s)
+assumptions_true a s sound h k d lt =
+    let n : length (assumptions s) ≡ length s.levels = simp length-map refl in
+    let low : k < length s.levels = omega arith in
+    subst (λ (l : Literal). literal_value a l ≡ 1) (sym (get_or-map (λ (place : ℕ). literal_at s.trail place) s.levels k 0 d low)) (h _ _ (sound.places.within k 0 low))
+
+-- a solution below the start that follows the path completes the trail
+pub completes : (root : List Literal) (s t : EngineState) (path : List Branch) (a : List Bool) → SameConstraints s t → IsAtPath root t path → SatisfiesUnder s root a → MakesTrue a (decided path) → Completes t a
+completes root s t path a same at h follows =
+    let sol = same_solution s t a same h.solution in
+    record {
+      solution = sol;
+      makes_true = at.sound.forced a sol.meets_rows (subst (λ (x : List Literal). MakesTrue a x) (sym at.assumed) (All-append (λ l. literal_value a l ≡ 1) root (decided path) h.makes_true follows));
+    }
+
+-- a completion of the trail is a solution below the start
+pub below_start : (root : List Literal) (s t : EngineState) (path : List Branch) (a : List Bool) → SameConstraints s t → IsAtPath root t path → Completes t a → SatisfiesUnder s root a
+below_start root s t path a same at h = record {
+  solution = back_solution s t a same h.solution;
+  makes_true = All_front (λ l. literal_value a l ≡ 1) root (decided path) (subst (λ (x : List Literal). MakesTrue a x) at.assumed (assumptions_true a t at.sound h.makes_true));
+}
+
+-- where a trail has no completion nothing is left to find
+pub none_closed : (p : Problem) (s : EngineState) (held : Option Solution) → HasNoCompletion s.rows s.trail → IsClosed p s held
+none_closed p s held none a h better = none a (record { makes_true = h.makes_true; meets_rows = h.solution.meets_rows })
+
+-- a visit keeps the place of the tree
+visited_at : (root : List Literal) (t u : Tree) → SameBranches t u → IsSoundTrail u.engine → IsAtPath root t.engine t.branches.items → IsAtPath root u.engine u.branches.items
+visited_at root t u same sound at = record {
+  assumed = same.assumptions ∙ at.assumed ∙ ap (λ v. root ++ decided v.items) (sym same.branches);
+  variables = subst (λ v. All (λ (b : Branch). b.lit.var ≤ u.engine.vars) v.items) (sym same.branches) (subst (λ (n : ℕ). All (λ (b : Branch). b.lit.var ≤ n) t.branches.items) (sym same.constraints.vars) at.variables);
+  sound = sound;
+}
+
+pub visited_tree : (p : Problem) (t u : Tree) → SameBranches t u → IsTreeOf p t → IsTreeOf p u
+visited_tree p t u same h = record {
+  engine = same_engine p t.engine u.engine same.constraints h.engine;
+  few_variables = h.few_variables;
+  candidate = same.room ∙ h.candidate;
+  room = subst (λ v. p.vars ≤ vec_capacity v) (sym same.branches) h.room;
+}
+
+pub tree_moves : (p : Problem) (u w : Tree) → SameConstraints u.engine w.engine → vec_capacity w.branches ≡ vec_capacity u.branches → length w.candidate ≡ length u.candidate → IsTreeOf p u → IsTreeOf p w
+tree_moves p u w same room candidate h = record {
+  engine = same_engine p u.engine w.engine same h.engine;
+  few_variables = h.few_variables;
+  candidate = candidate ∙ h.candidate;
+  room = subst (λ (n : ℕ). p.vars ≤ n) (sym room) h.room;
+}
+
+-- after a visit that left the place open
+pub open_next : (p : Problem) (start : EngineState) (t u : Tree) (next : Branch) (old new : Option Solution) → SameBranches t u → IsSoundTrail u.engine → IsFree u.engine next.lit → next.flipped ≡ false → IsNotAfter p old new → IsUnderWay p start t old → IsNext p start u next new
+open_next p start t u next old new same sound free fresh later h = record {
+  made_for = visited_tree p t u same h.made_for;
+  at_path = visited_at (assumptions start) t u same sound h.at_path;
+  constraints = same_constraints_onward start t.engine u.engine h.constraints same.constraints;
+  free = free;
+  all_open = λ a below better. subst (λ v. LiesOpen a (v.items ++ next ∷ [])) (sym same.branches) (decide_keeps a t.branches.items next fresh (h.all_open a below (improvement_on_earlier p a old new later better)));
+}
+
+-- after a visit that closed the place
+pub closed_leaving : (p : Problem) (start : EngineState) (t u : Tree) (old new : Option Solution) → SameBranches t u → IsSoundTrail u.engine → IsClosed p u.engine new → IsNotAfter p old new → IsUnderWay p start t old → IsLeaving p start u new
+closed_leaving p start t u old new same sound closed later h =
+    let at = visited_at (assumptions start) t u same sound h.at_path in
+    let constraints = same_constraints_onward start t.engine u.engine h.constraints same.constraints in
+    record {
+      made_for = visited_tree p t u same h.made_for;
+      at_path = at;
+      constraints = constraints;
+      all_leave = λ a below better.
+          leaves_open a u.branches.items (subst (λ v. LiesOpen a v.items) (sym same.branches) (h.all_open a below (improvement_on_earlier p a old new later better)))
+          (λ follows. closed a (completes (assumptions start) start u.engine u.branches.items a constraints at below follows) better);
+    }
+
+-- a decision was taken back
+pub record IsStep (p : Problem) (t u : Tree) (b : Branch) : Type 0 where
+  pub popped : t.branches.items ≡ u.branches.items ++ b ∷ []
+  pub constraints : SameConstraints t.engine u.engine
+  pub at_path : (root : List Literal) → IsAtPath root t.engine t.branches.items → IsAtPath root u.engine u.branches.items
+  pub made_for : IsTreeOf p t → IsTreeOf p u
+  pub free : IsFree u.engine b.lit
+
+pub step_of : (p : Problem) (t u : Tree) (e : EngineState) (b : Branch) → t.branches.items ≡ u.branches.items ++ b ∷ [] → SameConstraints t.engine e → ((root : List Literal) → IsAtPath root t.engine t.branches.items → IsAtPath root e u.branches.items) → IsFree e b.lit → vec_capacity u.branches ≡ vec_capacity t.branches → length u.candidate ≡ length t.candidate → u.engine ≡ e → IsStep p t u b
+step_of p t u e b popped same at free room candidate is =
+    let constraints : SameConstraints t.engine u.engine = subst (λ (x : EngineState). SameConstraints t.engine x) (sym is) same in
+    record {
+      popped = popped;
+      constraints = constraints;
+      at_path = λ root h. subst (λ (x : EngineState). IsAtPath root x u.branches.items) (sym is) (at root h);
+      made_for = λ h. tree_moves p t u constraints room candidate h;
+      free = subst (λ (x : EngineState). IsFree x b.lit) (sym is) free;
+    }
+
+-- nothing is left to try at the decision that was taken back
+pub leaving_on : (p : Problem) (start : EngineState) (t u : Tree) (b : Branch) (held : Option Solution) → IsStep p t u b → (b.flipped ≡ true) ⊎ IsClosed p u.engine held → IsLeaving p start t held → IsLeaving p start u held
+leaving_on p start t u b held step spent h =
+    let constraints = same_constraints_onward start t.engine u.engine h.constraints step.constraints in
+    let at = step.at_path (assumptions start) h.at_path in
+    record {
+      made_for = step.made_for h.made_for;
+      at_path = at;
+      constraints = constraints;
+      all_leave = λ a below better.
+          leaves_before a u.branches.items b (subst (λ (x : List Branch). LeavesOpen a x) step.popped (h.all_leave a below better))
+          (λ here. absurd (no_choice b.flipped spent here.1 (λ closed. closed a (completes (assumptions start) start u.engine u.branches.items a constraints at below here.0) better)));
+    }
+  where
+    leaves_before : (a : List Bool) (path : List Branch) (c : Branch) → LeavesOpen a (path ++ c ∷ []) → (MakesTrue a (decided path) × (c.flipped ≡ false) → LeavesOpen a path) → LeavesOpen a path
+    leaves_before a path c k otherwise = elim (leaves_last a path c k) [ inl before ↦ before | inr here ↦ otherwise here ]
+
+    no_choice : (flipped : Bool) → (flipped ≡ true) ⊎ IsClosed p u.engine held → flipped ≡ false → (IsClosed p u.engine held → ⊥) → ⊥
+    no_choice flipped (inl is) isnt none = let e : true ≡ false = sym is ∙ isnt in let bad : ⊥ = cc in bad
+    no_choice flipped (inr closed) isnt none = none closed
+
+-- the other value of the decision that was taken back is tried next
+pub turn_next : (p : Problem) (start : EngineState) (t u : Tree) (b next : Branch) (held : Option Solution) → IsStep p t u b → IsOtherValue b next → IsLeaving p start t held → IsNext p start u next held
+turn_next p start t u b next held step other h = record {
+  made_for = step.made_for h.made_for;
+  at_path = step.at_path (assumptions start) h.at_path;
+  constraints = same_constraints_onward start t.engine u.engine h.constraints step.constraints;
+  free = free_other u.engine b next other step.free;
+  all_open = λ a below better. turn_keeps a u.branches.items b next other (subst (λ (x : List Branch). LeavesOpen a x) step.popped (h.all_leave a below better));
+}
+
+-- no decision is left
+pub nothing_leaves : (p : Problem) (start : EngineState) (t : Tree) (held : Option Solution) → t.branches.items ≡ [] → IsLeaving p start t held → IsSearched p start held
+nothing_leaves p start t held empty h a below better = subst (λ (x : List Branch). LeavesOpen a x) empty (h.all_leave a below better)
+
+-- what a visit found lies below the start
+pub visit_own : (p : Problem) (start : EngineState) (t u : Tree) (old new : Incumbent) → SameBranches t u → IsSoundTrail u.engine → (new ≡ old) ⊎ IsSomeAnd new.held (λ s. Completes u.engine s.assignment) → IsUnderWay p start t old.held → IsOwn start old new
+visit_own p start t u old new same sound (inl is) h = inl is
+visit_own p start t u old new same sound (inr found) h =
+    inr (within new.held found)
+  where
+    within : (o : Option Solution) → IsSomeAnd o (λ s. Completes u.engine s.assignment) → IsSomeAnd o (λ s. SatisfiesUnder start (assumptions start) s.assignment)
+    within None k = k
+    within (Some s) k = below_start (assumptions start) start u.engine u.branches.items s.assignment (same_constraints_onward start t.engine u.engine h.constraints same.constraints) (visited_at (assumptions start) t u same sound h.at_path) k
+
+-- the search begins
+pub begins : (p : Problem) (t : Tree) (held : Option Solution) → IsTreeOf p t → IsSoundTrail t.engine → t.branches.items ≡ [] → IsUnderWay p t.engine t held
+begins p t held made sound empty = record {
+  made_for = made;
+  at_path = record {
+    assumed = sym (append-nil (assumptions t.engine)) ∙ ap (λ (x : List Branch). assumptions t.engine ++ decided x) (sym empty);
+    variables = subst (λ (x : List Branch). All (λ b. b.lit.var ≤ t.engine.vars) x) (sym empty) (All-nil (λ (b : Branch). b.lit.var ≤ t.engine.vars));
+    sound = sound;
+  };
+  constraints = same_constraints_itself t.engine;
+  all_open = λ a below better. subst (λ (x : List Branch). LiesOpen a x) (sym empty) tt;
+}
+
+-- the decision is made, and what is held may have moved on
+pub goes_on : (p : Problem) (start : EngineState) (t u : Tree) (next : Branch) (old new : Option Solution) → IsNext p start t next old → IsNotAfter p old new → IsAtPath (assumptions start) u.engine u.branches.items → u.branches.items ≡ t.branches.items ++ next ∷ [] → SameConstraints t.engine u.engine → IsTreeOf p u → IsUnderWay p start u new
+goes_on p start t u next old new h later at added same made = record {
+  made_for = made;
+  at_path = at;
+  constraints = same_constraints_onward start t.engine u.engine h.constraints same;
+  all_open = λ a below better. subst (λ (x : List Branch). LiesOpen a x) (sym added) (h.all_open a below (improvement_on_earlier p a old new later better));
+}
+
+pub own_onward : (start : EngineState) (x y z : Incumbent) → IsOwn start x y → IsOwn start y z → IsOwn start x z
+own_onward start x y z (inl h) (inl k) = inl (k ∙ h)
+own_onward start x y z (inr h) (inl k) = inr (subst (λ (i : Incumbent). IsSomeAnd i.held (λ s. SatisfiesUnder start (assumptions start) s.assignment)) (sym k) h)
+own_onward start x y z h (inr k) = inr k
+
+-- what is said at one problem holds at an equal one
+pub at_problem : (p q : Problem) (F G : Problem → Type 0) → q ≡ p → (F q → G q) → F p → G p
+at_problem p q F G e h = subst (λ (x : Problem). F x → G x) e h
+
+-- facts on the value of an option
+pub if_some_map : (o : Option Branch) (P Q : Branch → Type 0) → ((b : Branch) → P b → Q b) → IfSome o P → IfSome o Q
+if_some_map None P Q f h = h
+if_some_map (Some b) P Q f h = f b h
+
+pub if_none_map : (o : Option Branch) (P Q : Type 0) → (P → Q) → IfNone o P → IfNone o Q
+if_none_map None P Q f h = f h
+if_none_map (Some b) P Q f h = h
+
+-- a search is laid out as before where the tree of the remainder has the same constraints
+pub rest_laid_out : (p : Problem) (pieces : CubeList) (cube rest new : Tree) → IsLaidOut p pieces cube rest → IsTreeOf p new → SameConstraints rest.engine new.engine → IsLaidOut p pieces cube new
+rest_laid_out p pieces cube rest new h made same = record {
+  vars = h.vars;
+  cube_tree = h.cube_tree;
+  rest_tree = made;
+  cube_rows = h.cube_rows;
+  rest_rows = subst (λ (rows : List PositiveRow). (a : List Bool) → MeetsRows a rows ↔ (IsFeasible p a × All (λ c. MakesFalse a c) pieces.cubes)) (sym same.rows) h.rest_rows;
+}
+
+pub cube_laid_out : (p : Problem) (pieces : CubeList) (cube rest new : Tree) → IsLaidOut p pieces cube rest → IsTreeOf p new → SameConstraints cube.engine new.engine → IsLaidOut p pieces new rest
+cube_laid_out p pieces cube rest new h made same = record {
+  vars = h.vars;
+  cube_tree = made;
+  rest_tree = h.rest_tree;
+  cube_rows = subst (λ (rows : List PositiveRow). (a : List Bool) → IsFeasible p a → MeetsRows a rows) (sym same.rows) h.cube_rows;
+  rest_rows = h.rest_rows;
+}

@@ -1,0 +1,10 @@
+use Rattle.pb_search.proofs.Moves.{popped_back}
+use Rattle.pb_search.proofs.paths.step_back.Goals as goal
+
+pub returns-clause-free : goal.returns-clause-free
+returns-clause-free c =
+    (popped_back c.requires.at_path.root c.args.engine.now c.undo_to.new.self c.args.path.now.items c.pop.new.self.items c.in_ok-branch.branch c.level-level.result c.in_ok-branch.ensures.items c.level-level.ensures.count c.undo_to.ensures.undone c.undo_to.ensures.sound c.requires.at_path.at).free
+
+pub returns-clause-at_path : goal.returns-clause-at_path
+returns-clause-at_path c root at =
+    (popped_back root c.args.engine.now c.undo_to.new.self c.args.path.now.items c.pop.new.self.items c.in_ok-branch.branch c.level-level.result c.in_ok-branch.ensures.items c.level-level.ensures.count c.undo_to.ensures.undone c.undo_to.ensures.sound at).at

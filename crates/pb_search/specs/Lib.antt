@@ -1,0 +1,6 @@
+pub mod Held
+pub mod Solutions
+pub mod Done
+pub mod Paths
+pub mod Trees
+pub mod Layout

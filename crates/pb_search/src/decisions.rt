@@ -1,0 +1,111 @@
+//! What to decide next: an order of literals, and where to leave it.
+
+ghost use Rattle.std.specs.Prelude.{◌≡◌, ◌≤◌, false, IsTrue, IfSome, IfNone, None};
+ghost use Rattle.pb_inst.specs.declared.TheConstants.{MAX_VARS};
+ghost use Rattle.pb_engine.specs.Trail.{value_on};
+ghost use Rattle.pb_engine.specs.Soundness.{IsFull};
+
+use crate::branches::Branch;
+use crate::outlooks::Outlook;
+use pb_engine::Engine;
+use pb_inst::{Lit, Number};
+
+/// A decision of a variable without a value, or none where every variable has one. Any such decision is right. Where the
+/// bound equals the best cost, the lowest variable up to the first difference to the best assignment comes first, 0
+/// first, so that the order of assignments soon decides; else the literals come in their order, of which `scanned`
+/// places are known to have values.
+pub fn next_decision(
+    engine: &Engine<'_>,
+    vars: u32,
+    order: &[Lit],
+    scanned: usize,
+    outlook: Outlook,
+    bound: Number,
+) -> Option<Branch>
+    requires variables { vars ≡ engine.now.vars }
+    requires few { vars ≤ MAX_VARS }
+    ensures free { IfSome result (λ b. (b.lit.var ≤ vars) × (value_on engine.now.trail b.lit.var ≡ None)) }
+    ensures fresh { IfSome result (λ b. b.flipped ≡ false) }
+    ensures full { IfNone result (IsFull engine.now) }
+{
+    if let Some(lit) = tied_literal(engine, vars, outlook) {
+        return Some(decision(lit, bound, scanned));
+    }
+    if let Some(branch) = ordered_decision(engine, vars, order, scanned, bound) {
+        return Some(branch);
+    }
+    let lit = lowest_free(engine, vars)?;
+    Some(decision(lit, bound, scanned))
+}
+
+/// The decision for the literal, the first one of its variable.
+fn decision(lit: Lit, bound: Number, scanned: usize) -> Branch
+    ensures literal { result.lit ≡ lit }
+    ensures fresh { result.flipped ≡ false }
+{
+    Branch {
+        lit,
+        flipped: false,
+        bound,
+        scanned,
+    }
+}
+
+/// Where the bound equals the best cost: the negated lowest variable without a value, up to the first difference.
+fn tied_literal(engine: &Engine<'_>, vars: u32, outlook: Outlook) -> Option<Lit>
+    requires variables { vars ≡ engine.now.vars }
+    requires few { vars ≤ MAX_VARS }
+    ensures free { IfSome result (λ l. (l.var ≤ vars) × (value_on engine.now.trail l.var ≡ None)) }
+{
+    match outlook {
+        Outlook::Tied(var) => lowest_free(engine, var.min(vars)),
+        _ => None,
+    }
+}
+
+/// The first literal of the order, from a place on, whose variable has no value.
+fn ordered_decision(
+    engine: &Engine<'_>,
+    vars: u32,
+    order: &[Lit],
+    scanned: usize,
+    bound: Number,
+) -> Option<Branch>
+    requires variables { vars ≡ engine.now.vars }
+    ensures free { IfSome result (λ b. (b.lit.var ≤ vars) × (value_on engine.now.trail b.lit.var ≡ None)) }
+    ensures fresh { IfSome result (λ b. b.flipped ≡ false) }
+{
+    for place in scanned..order.len() {
+        let lit = order[place];
+        if is_free(engine, vars, lit) {
+            return Some(decision(lit, bound, place));
+        }
+    }
+    None
+}
+
+/// Whether the literal's variable is one of the engine's and has no value.
+fn is_free(engine: &Engine<'_>, vars: u32, lit: Lit) -> bool
+    requires variables { vars ≡ engine.now.vars }
+    ensures { IsTrue result → (lit.var ≤ vars) × (value_on engine.now.trail lit.var ≡ None) }
+{
+    if lit.var() > vars {
+        return false;
+    }
+    engine.value(lit.var()).is_none()
+}
+
+/// The negated lowest variable without a value among the first `count`, or none where each of them has one.
+fn lowest_free(engine: &Engine<'_>, count: u32) -> Option<Lit>
+    requires variables { count ≤ engine.now.vars }
+    requires few { count ≤ MAX_VARS }
+    ensures free { IfSome result (λ l. (l.var ≤ count) × (value_on engine.now.trail l.var ≡ None)) }
+    ensures full { IfNone result (count ≡ engine.now.vars → IsFull engine.now) }
+{
+    for place in 0..count {
+        if engine.value(place + 1).is_none() {
+            return Lit::new(place + 1, false).ok();
+        }
+    }
+    None
+}

@@ -1,0 +1,18 @@
+//! Branch and bound on one piece: decisions stand on the engine's trail, and a subtree is left where it holds no
+//! assignment that comes before the best one.
+#![tactic(auto)]
+
+mod branches;
+mod cubes;
+mod decisions;
+mod leaves;
+mod orders;
+mod outlooks;
+mod paths;
+mod searches;
+mod shares;
+mod trees;
+mod visits;
+
+pub use searches::Search;
+pub use shares::{Alone, Share};

@@ -1,0 +1,96 @@
+//! Whether a subtree may be left.
+
+ghost use Rattle.std.specs.Prelude.{◌≡◌, ℕ, ◌-◌, ◌≤◌, false, length, IsTrue, IfSome, IfNone, None, ◌⊎◌, true};
+ghost use Rattle.pb_engine.specs.Completion.{IsLowerBound};
+ghost use Rattle.pb_search.specs.Trees.{AgreesBelow, DifferFirstAt, IsClosed, IsEngineOf, IsNotBefore};
+
+use crate::branches::Branch;
+use pb_engine::Engine;
+use pb_inst::{Assignment, Best, Number};
+
+/// What the bound says of a subtree.
+#[derive(Clone, Copy, Debug, PartialEq, Eq)]
+pub enum Outlook {
+    /// Something in it may cost less than the best assignment.
+    Open,
+    /// Nothing in it costs less, but an assignment that costs as much may come before the best one, whose first
+    /// difference to the trail with zeros elsewhere is at this variable.
+    Tied(u32),
+    /// Nothing in it comes before the best assignment.
+    Closed,
+}
+
+/// Compares a bound of the trail's completions with the best cost. Where they are equal the order of assignments decides:
+/// with zeros elsewhere the trail is the first of its completions, so all come after the best assignment where that one
+/// does, or is the best one itself.
+pub fn judge(engine: &Engine<'_>, bound: Number, best: &Best<'_>) -> Outlook
+    requires engine { IsEngineOf best.now.problem engine.now }
+    requires bound { IsLowerBound engine.now.form engine.now.rows engine.now.trail bound }
+    ensures closed { result ≡ Outlook.Closed → IsClosed best.now.problem engine.now best.now.held }
+{
+    let Some(cost) = best.cost() else {
+        return Outlook::Open;
+    };
+    let Some(held) = best.assignment() else {
+        return Outlook::Open;
+    };
+    if bound < cost {
+        return Outlook::Open;
+    }
+    if bound > cost {
+        return Outlook::Closed;
+    }
+    judge_tie(engine, held)
+}
+
+/// The outlook where the bound equals the cost of this assignment.
+fn judge_tie(engine: &Engine<'_>, held: &Assignment) -> Outlook
+    requires room { length held.now ≡ engine.now.vars }
+    ensures closed { result ≡ Outlook.Closed → IsNotBefore engine.now.trail held.now }
+{
+    match first_difference(engine, held) {
+        Some(var) => {
+            if held.get(var) {
+                Outlook::Tied(var)
+            } else {
+                Outlook::Closed
+            }
+        }
+        None => Outlook::Closed,
+    }
+}
+
+/// The first variable where the trail, with zeros elsewhere, and the assignment differ.
+fn first_difference(engine: &Engine<'_>, held: &Assignment) -> Option<u32>
+    requires room { length held.now ≡ engine.now.vars }
+    ensures differ { IfSome result (λ var. DifferFirstAt engine.now.trail held.now var) }
+    ensures same { IfNone result (AgreesBelow engine.now.trail held.now (length held.now)) }
+{
+    for place in 0..held.len() {
+        if held.get(place + 1) != engine.value(place + 1).unwrap_or(false) {
+            return Some(place + 1);
+        }
+    }
+    None
+}
+
+/// Whether nothing is left to try at a branch whose decision was taken back: both values were tried, or by now no
+/// completion of the trail before it comes before the best assignment.
+pub fn is_spent(engine: &mut Engine<'_>, branch: &Branch, best: &Best<'_>) -> bool
+    requires engine { IsEngineOf best.now.problem engine.old }
+    ensures spent { IsTrue result → (branch.now.flipped ≡ true) ⊎ IsClosed best.now.problem engine.old best.now.held }
+    ensures fresh { result ≡ false → branch.now.flipped ≡ false }
+    ensures unchanged { engine.new ≡ engine.old }
+{
+    if branch.flipped {
+        return true;
+    }
+    let Some(cost) = best.cost() else {
+        return false;
+    };
+    if branch.bound < cost {
+        return false;
+    }
+    let bound = engine.bound();
+    judge(engine, bound, best) == Outlook::Closed
+}

@@ -1,0 +1,41 @@
+//! The tree of a search.
+
+ghost use Rattle.std.specs.Prelude.{◌≡◌, ◌++◌, ◌≤◌, List, All, IfOk, length, vec_capacity};
+ghost use Rattle.pb_normal.specs.NormalForm.{PositiveRow};
+ghost use Rattle.pb_engine.specs.Clauses.{AreClausesOf};
+
+use crate::branches::Branch;
+use crate::orders::literal_order;
+use pb_engine::Engine;
+use pb_inst::{Assignment, Cube, Lit, Memory};
+use pb_normal::Normal;
+use std::alloc::Global;
+
+/// An engine, the decisions on its trail, room for one assignment, and the order in which literals are decided.
+#[derive(Drop)]
+pub struct Tree<'a> {
+    pub engine: Engine<'a>,
+    pub branches: Vec<Branch>,
+    pub candidate: Assignment,
+    pub order: Vec<Lit>,
+}
+
+impl<'a> Tree<'a> {
+    /// A tree over the normal form, whose solutions make each of the cubes false.
+    pub fn new(alloc: Global, normal: &'a Normal, negated: &'a [Cube]) -> Result<Tree<'a>, Memory>
+        requires { All (λ cube. All (λ l. l.var ≤ normal.now.vars) cube) negated.now }
+        ensures form { IfOk result (λ t. t.engine.form ≡ normal.now) }
+        ensures vars { IfOk result (λ t. t.engine.vars ≡ normal.now.vars) }
+        ensures rows { IfOk result (λ t. (clauses : List PositiveRow) × (t.engine.rows ≡ normal.now.rows ++ clauses) × AreClausesOf negated.now clauses) }
+        ensures candidate { IfOk result (λ t. length t.candidate ≡ normal.now.vars) }
+        ensures room { IfOk result (λ t. normal.now.vars ≤ vec_capacity t.branches) }
+    {
+        let vars = normal.vars();
+        Ok(Tree {
+            engine: Engine::new(alloc, normal, negated)?,
+            branches: Vec::with_capacity(alloc, vars as usize)?,
+            candidate: Assignment::new(alloc, vars)?,
+            order: literal_order(alloc, normal, negated)?,
+        })
+    }
+}
