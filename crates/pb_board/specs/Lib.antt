@@ -1,0 +1,5 @@
+pub mod Laws
+pub mod Numbers
+pub mod Rule
+pub mod Seats
+pub mod Steps
