@@ -1,0 +1,7 @@
+mod DivisionLaws
+mod OutcomeLaws
+mod PreparingLaws
+mod ReportLaws
+mod SendingLaws
+mod SolvingLaws
+mod TextLaws

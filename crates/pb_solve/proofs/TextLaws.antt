@@ -1,0 +1,38 @@
+-- A text spells one instance or has a refusal, by its format; and a cube file likewise.
+use Rattle.std.proofs.Common.{◌≡◌, ℕ, List, Option, None, Some, sym, ◌∙◌}
+use Rattle.pb_inst.specs.Literal.{Literal}
+use Rattle.pb_inst.specs.Problem.{Problem}
+use Rattle.pb_read.specs.declared.fault.ReadFault.{ReadFault}
+use Rattle.pb_read.proofs.OpbLaws as opb
+use Rattle.pb_read.proofs.CnfLaws as cnf
+use Rattle.pb_read.proofs.IcnfLaws as icnf
+use Rattle.pb_read.proofs.CubeLaws as cube
+use Rattle.pb_solve.specs.declared.options.Format.{Format}
+use Rattle.pb_solve.specs.declared.options.Format.TheVariants.{Opb, Cnf, Icnf}
+use Rattle.pb_solve.specs.Texts.{Spells, text_refusal, SpellsCubes, cube_text_refusal}
+
+not_refused : (format : Format) (text : List ℕ) (p : Problem) (own : List (List Literal)) → Spells format text p own → text_refusal format text ≡ None
+not_refused Opb text p own h = opb.not_refused text p h.0
+not_refused Cnf text p own h = cnf.not_refused text p h.0
+not_refused Icnf text p own h = icnf.not_refused text p own h
+
+-- what has a refusal spells nothing
+pub not_both : (format : Format) (text : List ℕ) (p : Problem) (own : List (List Literal)) (fault : ReadFault) → Spells format text p own → text_refusal format text ≡ Some fault → ⊥
+not_both format text p own fault h refused =
+    let both : None ≡ Some fault = sym (not_refused format text p own h) ∙ refused in cc
+
+pub one_spelling : (format : Format) (text : List ℕ) (p q : Problem) (own own' : List (List Literal)) → Spells format text p own → Spells format text q own' → (p ≡ q) × (own ≡ own')
+one_spelling Opb text p q own own' h k = (opb.one_instance text p q h.0 k.0, h.1 ∙ sym k.1)
+one_spelling Cnf text p q own own' h k = (cnf.one text p q h.0 k.0, h.1 ∙ sym k.1)
+one_spelling Icnf text p q own own' h k = icnf.one text p q own own' h k
+
+pub same_fault : (o : Option ReadFault) (f g : ReadFault) → o ≡ Some f → o ≡ Some g → f ≡ g
+same_fault o f g h k = let both : Some f ≡ Some g = sym h ∙ k in cc
+
+-- the same of a cube file
+pub cubes_not_both : (vars : ℕ) (text : List ℕ) (cubes : List (List Literal)) (fault : ReadFault) → SpellsCubes vars text cubes → cube_text_refusal vars text ≡ Some fault → ⊥
+cubes_not_both vars text cubes fault h refused =
+    let both : None ≡ Some fault = sym (cube.not_refused text vars cubes h) ∙ refused in cc
+
+pub one_cube_list : (vars : ℕ) (text : List ℕ) (cubes cubes' : List (List Literal)) → SpellsCubes vars text cubes → SpellsCubes vars text cubes' → cubes ≡ cubes'
+one_cube_list vars text cubes cubes' h k = cube.one text vars cubes cubes' h k

@@ -1,0 +1,9 @@
+pub mod Device
+pub mod Reading
+pub mod Sending
+pub mod Texts
+pub mod Outcome
+pub mod Report
+pub mod Solving
+pub mod Run
+pub mod Laws

@@ -1,0 +1,88 @@
+-- What a run has to report. Nothing here speaks of workers, and an answer speaks of the instance alone.
+use Rattle.std.specs.Prelude.{◌≡◌, ℕ, ℤ, ◌+◌, ◌^◌, ◌<◌, ◌≤◌, ◌⊎◌, ◌==◌, if◌then◌else◌, Bool, List, [], length, Option, None, Some, IsSome, IsSomeAnd}
+use Rattle.pb_inst.specs.Literal.{Literal}
+use Rattle.pb_inst.specs.Problem.{Problem}
+use Rattle.pb_inst.specs.Meaning.{IsFeasible, cost}
+use Rattle.pb_inst.specs.Order.{IsLeast}
+use Rattle.pb_read.specs.declared.fault.ReadFault.{ReadFault}
+use Rattle.pb_solve.specs.declared.options.Format.{Format}
+use Rattle.pb_solve.specs.declared.options.Refusal.{Refusal}
+use Rattle.pb_solve.specs.declared.options.Refusal.TheVariants.{Input, Cubes, Split, TooManyCubes}
+use Rattle.pb_solve.specs.Texts.{Spells, text_refusal, SpellsCubes, cube_text_refusal}
+
+-- a refusal, or the answer: nothing is feasible, or this assignment is least, with its cost where there is an objective
+pub data Outcome : Type 0 where
+  Refused : Refusal → Outcome
+  Infeasible : Outcome
+  Feasible : List Bool → Outcome
+  Optimal : ℤ → List Bool → Outcome
+
+-- no assignment to the instance's variables meets every constraint
+abbrev pub IsInfeasible : Problem → Type 0
+IsInfeasible p = (a : List Bool) → length a ≡ p.vars → ¬ IsFeasible p a
+
+-- the answer on an instance
+abbrev pub IsAnswer : Problem → Outcome → Type 0
+IsAnswer p (Refused refusal) = ⊥
+IsAnswer p Infeasible = IsInfeasible p
+IsAnswer p (Feasible a) = (p.objective ≡ None) × IsLeast p a
+IsAnswer p (Optimal z a) = IsSome p.objective × IsLeast p a × (z ≡ cost p a)
+
+-- the most cubes that may be taken together
+abbrev pub most_cubes : ℕ
+most_cubes = 1048575
+
+-- the most variables that may be split
+abbrev pub most_split : ℕ
+most_split = 12
+
+-- so many variables of the instance's cannot be split
+abbrev pub IsBadSplit : ℕ → ℕ → Type 0
+IsBadSplit split vars = (1 ≤ split) × ((most_split < split) ⊎ (vars < split))
+
+-- a split of 0 makes no cube
+abbrev pub split_cubes : ℕ → ℕ
+split_cubes split = if split == 0 then 0 else 2 ^ split
+
+-- the cubes of a cube file, and none where there is no file
+abbrev pub FileSpells : ℕ → Option (List ℕ) → List (List Literal) → Type 0
+FileSpells vars None cubes = cubes ≡ []
+FileSpells vars (Some text) cubes = SpellsCubes vars text cubes
+
+-- the fault of a cube file, where there is one
+abbrev pub IsFileRefused : ℕ → Option (List ℕ) → ReadFault → Type 0
+IsFileRefused vars cube_text fault = IsSomeAnd cube_text (λ text. cube_text_refusal vars text ≡ Some fault)
+
+-- the cube file has so many cubes
+abbrev pub FileCounts : ℕ → Option (List ℕ) → ℕ → Type 0
+FileCounts vars cube_text count = (cubes : List (List Literal)) × FileSpells vars cube_text cubes × (length cubes ≡ count)
+
+-- so many cubes are too many with those that the split makes
+abbrev pub IsTooMany : ℕ → ℕ → Type 0
+IsTooMany count split = most_cubes < count + split_cubes split
+
+-- of the cubes and the split, the first that is refused is this
+abbrev pub IsDivisionRefused : Problem → List (List Literal) → Option (List ℕ) → ℕ → Refusal → Type 0
+IsDivisionRefused p own cube_text split (Input fault) = ⊥
+IsDivisionRefused p own cube_text split (Cubes fault) = IsFileRefused p.vars cube_text fault
+IsDivisionRefused p own cube_text split Split = ((filed : List (List Literal)) × FileSpells p.vars cube_text filed) × IsBadSplit split p.vars
+IsDivisionRefused p own cube_text split TooManyCubes =
+    (filed : List (List Literal)) × FileSpells p.vars cube_text filed × (¬ IsBadSplit split p.vars) × IsTooMany (length own + length filed) split
+
+-- nothing of the cubes and the split is refused
+abbrev pub IsDivisionAccepted : Problem → List (List Literal) → Option (List ℕ) → ℕ → Type 0
+IsDivisionAccepted p own cube_text split =
+    (filed : List (List Literal)) × FileSpells p.vars cube_text filed × (¬ IsBadSplit split p.vars) × (¬ IsTooMany (length own + length filed) split)
+
+-- the outcome on an instance and its text's own cubes
+abbrev pub IsOutcomeOn : Problem → List (List Literal) → Option (List ℕ) → ℕ → Outcome → Type 0
+IsOutcomeOn p own cube_text split outcome =
+    ((refusal : Refusal) × (outcome ≡ Refused refusal) × IsDivisionRefused p own cube_text split refusal)
+    ⊎ (IsDivisionAccepted p own cube_text split × IsAnswer p outcome)
+
+-- The outcome of an input text, the text of a cube file if there is one, and a split: the input's refusal,
+-- else that of the cubes or the split, else the answer.
+abbrev pub IsOutcome : Format → List ℕ → Option (List ℕ) → ℕ → Outcome → Type 0
+IsOutcome format text cube_text split outcome =
+    ((fault : ReadFault) × (outcome ≡ Refused (Input fault)) × (text_refusal format text ≡ Some fault))
+    ⊎ ((p : Problem) × (own : List (List Literal)) × Spells format text p own × IsOutcomeOn p own cube_text split outcome)

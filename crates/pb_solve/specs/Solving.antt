@@ -1,0 +1,12 @@
+-- What a solved instance holds.
+use Rattle.std.specs.Prelude.{◌≡◌, Option, None, Some}
+use Rattle.pb_inst.specs.Problem.{Problem}
+use Rattle.pb_inst.specs.Meaning.{cost}
+use Rattle.pb_inst.specs.Order.{IsLeast}
+use Rattle.pb_inst.specs.Incumbent.{Solution}
+use Rattle.pb_solve.specs.Outcome.{IsInfeasible}
+
+-- what is held is the least assignment with its cost, and nothing is held where nothing is feasible
+abbrev pub HoldsLeast : Problem → Option Solution → Type 0
+HoldsLeast p None = IsInfeasible p
+HoldsLeast p (Some s) = IsLeast p s.assignment × (s.cost ≡ cost p s.assignment)

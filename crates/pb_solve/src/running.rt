@@ -1,0 +1,131 @@
+//! The whole run.
+ghost use Rattle.std.specs.Prelude.{◌≡◌, ◌≢◌, ◌↔◌, false, is_err, Ok, Some, IfOk, IfErr, IfSome, IsErrOf, IsTrue};
+ghost use Rattle.std.specs.Io.KnownBytes.{Appends};
+ghost use Rattle.pb_read.specs.declared.fault.ReadFault.{ReadFault};
+ghost use Rattle.pb_solve.specs.Solving.{HoldsLeast};
+ghost use Rattle.pb_solve.specs.Report.{memory_report};
+ghost use Rattle.pb_solve.specs.Texts.{text_refusal};
+ghost use Rattle.pb_solve.specs.Run.{Reports, Answers, IsUnfailed, IsUnread, failed_after, text_left};
+
+use crate::device::Device;
+use crate::options::{Format, Options, RunFault, Status};
+use crate::preparing::{Halt, prepare};
+use crate::reading::{CubeFile, NoCubeFile};
+use crate::report::{
+    report_infeasible, report_memory, report_optimum, report_refusal, report_satisfiable,
+};
+use crate::solving::solve;
+use pb_inst::{Best, Instance};
+use std::alloc::Global;
+use std::io::{Read, Write};
+
+/// Reads the texts, solves the instance, and writes the report, which is flushed.
+///
+/// The cube file is read after the input, and only where the input is not refused. Cubes and the split only divide the work.
+/// A fault names the device that failed. After `ReadInput` and `ReadCubes` nothing was written;
+/// what was written before `Write` is not said.
+pub fn run<I: Read, C: Read, W: Write>(
+    alloc: Global,
+    input: &mut Device<I>,
+    cubes: Option<&mut Device<C>>,
+    options: Options,
+    out: &mut Device<W>,
+) -> Result<Status, RunFault>
+    requires input { input.old.failed ≡ false }
+    requires cubes { IsUnfailed cubes }
+    requires out { out.old.failed ≡ false }
+
+    ensures headline { IfOk result (λ status. status ≢ Status.Unknown
+        → Reports options.format (I.remaining input.old.held) (text_left C.remaining cubes.entry) options.split
+        (W.contents out.old.held) (W.contents out.new.held) status) }
+
+    ensures memory { result ≡ Ok Status.Unknown → Appends (W.contents out.old.held) (W.contents out.new.held) memory_report }
+
+    ensures read_input { IsTrue input.new.failed ↔ IsErrOf result RunFault.ReadInput }
+    ensures read_cubes { IsTrue (failed_after cubes.exit) ↔ IsErrOf result RunFault.ReadCubes }
+    ensures write { IsTrue out.new.failed ↔ IsErrOf result RunFault.Write }
+    ensures unwritten { IfErr result (λ fault. fault ≢ RunFault.Write → out.new ≡ out.old) }
+
+    // Where the input is refused the cube file is not read.
+    ensures unread { IfSome (I.remaining input.old.held) (λ text. (fault : ReadFault) → text_refusal options.format text ≡ Some fault
+        → IsUnread cubes.entry cubes.exit) }
+{
+    match cubes {
+        None => run_with(alloc, input, &mut NoCubeFile, options, out),
+        Some(cubes) => run_with(alloc, input, cubes, options, out),
+    }
+}
+
+/// The run with a cube file or none.
+fn run_with<I: Read, C: CubeFile, W: Write>(
+    alloc: Global,
+    input: &mut Device<I>,
+    cubes: &mut C,
+    options: Options,
+    out: &mut Device<W>,
+) -> Result<Status, RunFault>
+    requires input { input.old.failed ≡ false }
+    requires cubes { C.has_failed cubes.old ≡ false }
+    requires out { out.old.failed ≡ false }
+    ensures headline { IfOk result (λ status. status ≢ Status.Unknown
+        → Reports options.format (I.remaining input.old.held) (C.text_left cubes.old) options.split
+        (W.contents out.old.held) (W.contents out.new.held) status) }
+    ensures memory { result ≡ Ok Status.Unknown → Appends (W.contents out.old.held) (W.contents out.new.held) memory_report }
+    ensures read_input { IsTrue input.new.failed ↔ IsErrOf result RunFault.ReadInput }
+    ensures read_cubes { IsTrue (C.has_failed cubes.new) ↔ IsErrOf result RunFault.ReadCubes }
+    ensures write { IsTrue out.new.failed ↔ IsErrOf result RunFault.Write }
+    ensures unwritten { IfErr result (λ fault. fault ≢ RunFault.Write → out.new ≡ out.old) }
+    ensures unread { IfSome (I.remaining input.old.held) (λ text. (fault : ReadFault) → text_refusal options.format text ≡ Some fault
+        → cubes.new ≡ cubes.old) }
+{
+    match prepare(alloc, input, cubes, options.format, options.split) {
+        Ok(instance) => answer(alloc, &instance, options.format, out),
+        Err(Halt::Refused(refusal)) => report_refusal(out, refusal),
+        Err(Halt::Memory) => report_memory(out),
+        Err(Halt::ReadInput) => Err(RunFault::ReadInput),
+        Err(Halt::ReadCubes) => Err(RunFault::ReadCubes),
+    }
+}
+
+/// Solves the instance, and reports the answer.
+fn answer<W: Write>(
+    alloc: Global,
+    instance: &Instance,
+    format: Format,
+    out: &mut Device<W>,
+) -> Result<Status, RunFault>
+    requires { out.old.failed ≡ false }
+    ensures answers { IfOk result (λ status. status ≢ Status.Unknown
+        → Answers format instance.now (W.contents out.old.held) (W.contents out.new.held) status) }
+    ensures memory { result ≡ Ok Status.Unknown → Appends (W.contents out.old.held) (W.contents out.new.held) memory_report }
+    ensures fault { IfErr result (λ fault. fault ≡ RunFault.Write) }
+    ensures failed { out.new.failed ≡ is_err result }
+{
+    match solve(alloc, instance) {
+        Ok(best) => report_best(out, format, instance, &best),
+        Err(_) => report_memory(out),
+    }
+}
+
+/// Reports what is held as the answer on the instance.
+fn report_best<W: Write>(
+    out: &mut Device<W>,
+    format: Format,
+    instance: &Instance,
+    best: &Best<'_>,
+) -> Result<Status, RunFault>
+    requires out { out.old.failed ≡ false }
+    requires least { HoldsLeast instance.now best.now.held }
+    ensures answers { IfOk result (Answers format instance.now (W.contents out.old.held) (W.contents out.new.held)) }
+    ensures fault { IfErr result (λ fault. fault ≡ RunFault.Write) }
+    ensures failed { out.new.failed ≡ is_err result }
+{
+    let (Some(cost), Some(values)) = (best.cost(), best.assignment()) else {
+        return report_infeasible(out);
+    };
+    if instance.has_objective() {
+        report_optimum(out, format, cost, values)
+    } else {
+        report_satisfiable(out, format, values)
+    }
+}
