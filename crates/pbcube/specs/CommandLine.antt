@@ -1,0 +1,51 @@
+-- The one command, and what a line takes from its matches.
+use Rattle.std.specs.Prelude.{◌≡◌, ℕ, List, [], ◌∷◌, Some, option_map, codes, true, Ok, IsSomeAnd}
+use Rattle.std.specs.Str.Parse.{ParsesUnsigned}
+use Rattle.std.specs.declared.num.ParseIntError.{ParseIntError}
+use Rattle.clap.specs.Words.{App, Row, Rule, Text, first_of, one_of, new_app, new_rule, with_rule}
+use Rattle.clap.specs.declared.builder.ValueParser.TheVariants as parser
+use Rattle.pb_solve.specs.declared.options.Format.{Format}
+use Rattle.pb_solve.specs.declared.options.Format.TheVariants.{Opb, Cnf, Icnf}
+use Rattle.pbcube.specs.declared.asked.Line.{Line}
+
+-- `--format`, by default `opb`
+abbrev pub format : Rule
+format = record (new_rule (codes "format")) { long = Some (codes "format"); defaults = codes "opb" ∷ [] }
+
+-- `--workers`, a number from 1 to 64, by default 1
+abbrev pub workers : Rule
+workers = record (new_rule (codes "workers")) { long = Some (codes "workers"); defaults = codes "1" ∷ []; parser = Some (parser.Unsigned 1 64) }
+
+-- `--split`, a number from 0 to 12, by default 0
+abbrev pub split : Rule
+split = record (new_rule (codes "split")) { long = Some (codes "split"); defaults = codes "0" ∷ []; parser = Some (parser.Unsigned 0 12) }
+
+-- `--cubes`
+abbrev pub cubes : Rule
+cubes = record (new_rule (codes "cubes")) { long = Some (codes "cubes") }
+
+-- the file, which has to be there
+abbrev pub file : Rule
+file = record (new_rule (codes "file")) { required = true }
+
+-- `pbcube [--format F] [--workers W] [--split K] [--cubes FILE] FILE`
+abbrev pub pbcube : App
+pbcube = with_rule (with_rule (with_rule (with_rule (with_rule (new_app (codes "pbcube")) format) workers) split) cubes) file
+
+-- the name of a format
+abbrev pub format_name : Format → Text
+format_name Opb = codes "opb"
+format_name Cnf = codes "cnf"
+format_name Icnf = codes "icnf"
+
+-- the text spells the number
+abbrev pub Spells : Text → ℕ → Type 0
+Spells text n = ParsesUnsigned {E = ParseIntError} 32 10 text (Ok n)
+
+-- the line has the values of the matches
+pub record IsLineOf (matches : List Row) (line : Line) : Type 0 where
+  pub file : first_of (codes "file") matches ≡ Some line.file.now
+  pub cubes : first_of (codes "cubes") matches ≡ option_map (λ name. name.now) line.cubes
+  pub format : first_of (codes "format") matches ≡ Some (format_name line.options.format)
+  pub workers : IsSomeAnd (one_of (codes "workers") matches) (λ text. Spells text line.options.workers)
+  pub split : IsSomeAnd (one_of (codes "split") matches) (λ text. Spells text line.options.split)

@@ -1,0 +1,72 @@
+//! `pbcube`: the least assignment of a pseudo-Boolean instance, from the command line.
+#![tactic(auto)]
+
+mod asked;
+mod command;
+mod files;
+mod running;
+mod statuses;
+mod words;
+
+use crate::files::Files;
+use crate::running::{out_of_memory, program};
+use std::alloc::{AllocError, Global};
+use std::env;
+use std::fs::{self, File};
+use std::io::{self, ErrorKind};
+use std::process::ExitCode;
+
+/// The files of the system.
+#[derive(Drop)]
+struct SystemFiles<'a> {
+    rt: &'a HostRuntime,
+}
+
+impl Files for SystemFiles<'_> {
+    type Input = File;
+
+    fn fetch(&mut self, name: &str) -> Option<File> {
+        fs::open(self.rt, name).ok()
+    }
+}
+
+/// Runs the program on the system's words, files and outputs. Words that are no text end with status 2.
+fn main(rt: HostRuntime) -> ExitCode {
+    let mut out = rt.stdout();
+    let mut err = rt.stderr();
+    let texts = match texts_of(&rt) {
+        Ok(texts) => texts,
+        Err(fault) => {
+            return if fault.kind() == ErrorKind::OutOfMemory {
+                ExitCode::from(out_of_memory(&mut out, &mut err))
+            } else {
+                ExitCode::from(2)
+            };
+        }
+    };
+    let mut files = SystemFiles { rt: &rt };
+    let status = match words_of(rt.alloc(), &texts) {
+        Ok(words) => program(rt.alloc(), &words, &mut files, &mut out, &mut err),
+        Err(_) => out_of_memory(&mut out, &mut err),
+    };
+    ExitCode::from(status)
+}
+
+fn texts_of(rt: &HostRuntime) -> io::Result<Vec<String>> {
+    let mut texts = Vec::new(rt.alloc());
+    for text in env::args(rt)? {
+        texts.push(text)?;
+    }
+    Ok(texts)
+}
+
+fn words_of<'a>(alloc: Global, texts: &'a [String]) -> Result<Vec<&'a str>, AllocError> {
+    let mut words = Vec::new(alloc);
+    for text in texts {
+        words.push(text.as_str())?;
+    }
+    Ok(words)
+}
+
+#[cfg(test)]
+mod tests;

@@ -1,0 +1,144 @@
+//! The program over any files and any outputs.
+ghost use Rattle.std.specs.Prelude.{◌≡◌, false};
+ghost use Rattle.pbcube.specs.Statuses.{IsExitStatus};
+
+use crate::asked::Line;
+use crate::files::Files;
+use crate::statuses::{ProgramFault, exit_status};
+use crate::words::line;
+use clap::Error;
+use clap::error::ErrorKind;
+use pb_solve::{Device, Options, RunFault, Status, report_memory, run};
+use std::alloc::Global;
+use std::io::{Empty, Read, Write};
+
+/// Runs the program on its words, its own name first, and answers its exit status.
+pub fn program<'a, F: Files, W: Write, E: Write>(
+    alloc: Global,
+    words: &'a [&'a str],
+    files: &mut F,
+    out: &mut W,
+    err: &mut E,
+) -> u8
+    ensures { IsExitStatus result }
+{
+    let mut out = Device::new(out);
+    let line = match line(alloc, words) {
+        Ok(line) => line,
+        Err(fault) => return end_at_line(&fault, &mut out, err),
+    };
+    match run_on_files(alloc, line, files, &mut out) {
+        Ok(status) => exit_status(status),
+        Err(fault) => end_at_fault(fault, err),
+    }
+}
+
+/// The program's end where its words found no memory.
+pub fn out_of_memory<W: Write, E: Write>(out: &mut W, err: &mut E) -> u8
+    ensures { IsExitStatus result }
+{
+    end_without_memory(&mut Device::new(out), err)
+}
+
+/// Fetches the files and runs on them, the input before the cube file.
+fn run_on_files<'a, F: Files, W: Write>(
+    alloc: Global,
+    line: Line<'a>,
+    files: &mut F,
+    out: &mut Device<W>,
+) -> Result<Status, ProgramFault<'a>>
+    requires { out.old.failed ≡ false }
+{
+    let Line {
+        file,
+        cubes,
+        options,
+    } = line;
+    let Some(input) = files.fetch(file) else {
+        return Err(ProgramFault::CannotRead(file));
+    };
+    let Some(name) = cubes else {
+        return match run_alone(alloc, input, options, out) {
+            Ok(status) => Ok(status),
+            Err(fault) => Err(fault_on(file, file, fault)),
+        };
+    };
+    let Some(cubes) = files.fetch(name) else {
+        return Err(ProgramFault::CannotRead(name));
+    };
+    match run_with_cubes(alloc, input, cubes, options, out) {
+        Ok(status) => Ok(status),
+        Err(fault) => Err(fault_on(file, name, fault)),
+    }
+}
+
+fn run_alone<I: Read + Drop, W: Write>(
+    alloc: Global,
+    input: I,
+    options: Options,
+    out: &mut Device<W>,
+) -> Result<Status, RunFault>
+    requires { out.old.failed ≡ false }
+{
+    let mut input = Device::new(input);
+    run(alloc, &mut input, None::<&mut Device<Empty>>, options, out)
+}
+
+fn run_with_cubes<I: Read + Drop, W: Write>(
+    alloc: Global,
+    input: I,
+    cubes: I,
+    options: Options,
+    out: &mut Device<W>,
+) -> Result<Status, RunFault>
+    requires { out.old.failed ≡ false }
+{
+    let mut input = Device::new(input);
+    let mut cubes = Device::new(cubes);
+    run(alloc, &mut input, Some(&mut cubes), options, out)
+}
+
+/// The fault of a run, with the name of the file that failed.
+fn fault_on<'a>(file: &'a str, cubes: &'a str, fault: RunFault) -> ProgramFault<'a> {
+    match fault {
+        RunFault::ReadInput => ProgramFault::CannotRead(file),
+        RunFault::ReadCubes => ProgramFault::CannotRead(cubes),
+        RunFault::Write => ProgramFault::CannotWrite,
+    }
+}
+
+/// The end where the words ask for no run: help, a refusal, or no memory.
+fn end_at_line<W: Write, E: Write>(fault: &Error, out: &mut Device<W>, err: &mut E) -> u8
+    requires { out.old.failed ≡ false }
+    ensures { IsExitStatus result }
+{
+    if fault.kind() == ErrorKind::OutOfMemory {
+        return end_without_memory(out, err);
+    }
+    if fault.use_stderr() {
+        let _ = write!(err, "{fault}");
+        return 2;
+    }
+    match write!(out, "{fault}") {
+        Ok(()) => 0,
+        Err(_) => end_at_fault(ProgramFault::CannotWrite, err),
+    }
+}
+
+fn end_without_memory<W: Write, E: Write>(out: &mut Device<W>, err: &mut E) -> u8
+    requires { out.old.failed ≡ false }
+    ensures { IsExitStatus result }
+{
+    match report_memory(out) {
+        Ok(status) => exit_status(status),
+        Err(_) => end_at_fault(ProgramFault::CannotWrite, err),
+    }
+}
+
+/// One line to the standard error, whose own faults are ignored.
+fn end_at_fault<E: Write>(fault: ProgramFault<'_>, err: &mut E) -> u8
+    ensures { IsExitStatus result }
+{
+    let _ = writeln!(err, "{fault}");
+    1
+}
