@@ -97,7 +97,7 @@ AreLevels-push rows trail levels l settled are quiet =
       ];
     }
 
-kept_front : (rows : List PositiveRow) (trail new : List Literal) (n : ℕ) → AddsForced rows trail new → n ≤ length trail → take n new ≡ take n trail
+pub kept_front : (rows : List PositiveRow) (trail new : List Literal) (n : ℕ) → AddsForced rows trail new → n ≤ length trail → take n new ≡ take n trail
 kept_front rows trail new n nothing h = refl
 kept_front rows trail new n (one_more longer l added free forced) h =
     take-append-le n longer (l ∷ []) (omega (arith, length-AddsForced rows trail longer added)) ∙ kept_front rows trail longer n added h

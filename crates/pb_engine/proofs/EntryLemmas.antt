@@ -63,7 +63,7 @@ same_place l m low high same =
     by_sign_too false true h = absurd (omega arith)
     by_sign_too false false h = refl
 
-same_place-same_literal : (l m : Literal) → 1 ≤ l.var → 1 ≤ m.var → eqb (literal_place m) (literal_place l) ≡ same_literal l m
+pub same_place-same_literal : (l m : Literal) → 1 ≤ l.var → 1 ≤ m.var → eqb (literal_place m) (literal_place l) ≡ same_literal l m
 same_place-same_literal l m low high = elim (cases_Bool (same_literal l m)) [
   | inl same ↦ (let is = same_literal-is l m same in eq-eqb (literal_place m) (literal_place l) (ap literal_place (sym is)) ∙ sym same)
   | inr other ↦ (ne_eqb (literal_place m) (literal_place l) (λ e. (let is = same_place m l high low e in let on : same_literal l m ≡ true = rw is (same_literal-itself l) in let none : ⊥ = cc in none)) ∙ sym other)
@@ -80,7 +80,7 @@ total_for-cons : (r : ℕ) (o : Occurrence) (os : List Occurrence) → total_for
 unfolding total_for
 total_for-cons r o os = sum_by-cons (λ (x : Occurrence). cond (eqb x.row r) x.coef 0) o os
 
-weight_of-cons : (l : Literal) (t : PositiveTerm) (terms : List PositiveTerm) → weight_of l (t ∷ terms) ≡ cond (same_literal l t.lit) t.coef 0 + weight_of l terms
+pub weight_of-cons : (l : Literal) (t : PositiveTerm) (terms : List PositiveTerm) → weight_of l (t ∷ terms) ≡ cond (same_literal l t.lit) t.coef 0 + weight_of l terms
 unfolding weight_of
 weight_of-cons l t terms = sum_by-cons (λ (u : PositiveTerm). cond (same_literal l u.lit) u.coef 0) t terms
 

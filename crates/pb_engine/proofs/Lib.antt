@@ -8,6 +8,18 @@ pub mod EngineLemmas
 pub mod BoundLemmas
 pub mod AssumptionLemmas
 pub mod ClauseLemmas
+mod CostLemmas
+mod OfferLemmas
+mod ExtrasLemmas
+mod BitLemmas
+mod RowSetLemmas
+mod BesideLemmas
+mod NeedLemmas
+mod CounterLemmas
+mod MarkLemmas
+pub mod DisjointLemmas
+pub mod DisjointBound
+pub mod SpareLemmas
 mod IndexLemmas
 mod EntryLemmas
 mod LiteralListLemmas

@@ -1,7 +1,7 @@
 -- Lists kept as spans: how the lists that contracts see follow the spans.
 use Rattle.std.proofs.Common.{◌≡◌, ℕ, ◌+◌, ◌-◌, ◌<◌, ◌≤◌, List, [], ◌∷◌, ◌++◌, length, get_or, map, take, drop, refl, sym, ◌∙◌, ap, subst, arith, All, slice_range, length-drop, length-append}
-use Rattle.std.proofs.lemmas.List.{length-map, get_or-map, take_all, drop_at, take-append-le, drop-append-le, map_push}
-use Rattle.std.proofs.lemmas.List.Elements.{All-head, All-tail, All-push, All-weaker}
+use Rattle.std.proofs.lemmas.List.{length-map, length-take, get_or-map, take_all, drop_at, take-append-le, drop-append-le, map_push}
+use Rattle.std.proofs.lemmas.List.Elements.{All-head, All-map, All-tail, All-push, All-weaker}
 use Rattle.pb_inst.specs.Literal.{Literal}
 use Rattle.pb_engine.specs.declared.literal_lists.LiteralSpan.{LiteralSpan}
 use Rattle.pb_engine.specs.LiteralLists.{lists_of_spans, AreLiteralSpans}
@@ -57,3 +57,10 @@ AreLiteralSpans-push lits more new_lits spans new_spans span are new_lits_are ne
     let len = length-append lits more in
     let kept : All (IsSpanOf (lits ++ more)) spans = All-weaker (IsSpanOf lits) (IsSpanOf (lits ++ more)) (λ s h. (h.0, omega (arith, h.1))) spans are in
     rw (new_lits_are, new_spans_are) (All-push (IsSpanOf (lits ++ more)) spans span kept (omega arith, omega arith))
+
+-- no list is longer than all literals together
+pub short_lists : (lits : List Literal) (spans : List LiteralSpan) (xs : List (List Literal)) → lists_of_spans lits spans ≡ xs → All (λ (ls : List Literal). length ls ≤ length lits) xs
+unfolding lists_of_spans
+short_lists lits spans xs view =
+    subst (λ (ls : List (List Literal)). All (λ (l : List Literal). length l ≤ length lits) ls) view
+    (All-map (λ (ls : List Literal). length ls ≤ length lits) (list_of lits) spans (λ k d h. omega (arith, length-take ((get_or spans k d).end - (get_or spans k d).start) (drop (get_or spans k d).start lits), length-drop (get_or spans k d).start lits)))

@@ -12,7 +12,7 @@ use Rattle.pb_normal.specs.declared.terms.PositiveTerm.{PositiveTerm}
 use Rattle.pb_normal.specs.NormalForm.{PositiveRow}
 use Rattle.pb_engine.specs.Trail.{negation}
 use Rattle.pb_engine.specs.Clauses.{IsContradictory, IsClauseOf, AreClausesOf, unit_term, clause_row}
-use Rattle.pb_engine.specs.Constraints.{AreRowsOver}
+use Rattle.pb_engine.specs.Constraints.{AreRowsOver, HaveRisingVariables}
 
 abbrev blank : Literal
 blank = record { var = 1; positive = true }
@@ -186,3 +186,7 @@ clauses_over vars cubes clauses within are from_one k d h =
     let row : get_or rows k d ≡ clause_row (get_or clauses k []) = get_or-map clause_row clauses k [] d (omega arith) in
     let low : All (λ (t : PositiveTerm). 1 ≤ t.lit.var) (get_or rows k d).terms = subst (λ (r : PositiveRow). All (λ (t : PositiveTerm). 1 ≤ t.lit.var) r.terms) (sym row) (All-map (λ (t : PositiveTerm). 1 ≤ t.lit.var) unit_term (get_or clauses k []) (from_one k (omega arith))) in
     λ i e exists. (low i e exists, All-contains (λ (l : Literal). l.var ≤ vars) there.1 (negation (get_or (get_or rows k d).terms i e).lit) cube (there.4.from_cube i e exists))
+
+-- the literals of a clause stand by rising variable
+pub clauses_rise : (cubes : List (List Literal)) (rows : List PositiveRow) → AreClausesOf cubes rows → HaveRisingVariables rows
+clauses_rise cubes rows are k d h = (are.only k d h).4.rising

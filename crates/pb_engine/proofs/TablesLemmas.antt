@@ -1,14 +1,14 @@
 -- Rows of a form and clauses after them, as one list.
-use Rattle.std.proofs.Common.{◌≡◌, ℕ, ◌+◌, ◌-◌, ◌<◌, ◌≤◌, List, [], ◌∷◌, length, map, refl, sym, ◌∙◌, ap, arith, sum_by, All, inl, inr}
+use Rattle.std.proofs.Common.{◌≡◌, ℕ, ◌+◌, ◌-◌, ◌<◌, ◌≤◌, List, [], ◌∷◌, length, get_or, map, refl, subst, sym, ◌∙◌, ap, arith, sum_by, All, inl, inr, ◌^◌}
 use Rattle.std.proofs.lemmas.Bool.{cases_lt}
-use Rattle.std.proofs.lemmas.List.{get_or_append_left, get_or-append_right, get_or_past}
+use Rattle.std.proofs.lemmas.List.{get_or_append_left, get_or-append_right, get_or_past, get_or-map, length-map}
 use Rattle.std.proofs.lemmas.List.Elements.{All-map}
 use Rattle.std.proofs.lemmas.List.Sums.{sum_by-cons}
 use Rattle.pb_inst.specs.Literal.{Literal}
 use Rattle.pb_normal.specs.declared.terms.PositiveTerm.{PositiveTerm}
-use Rattle.pb_normal.specs.NormalForm.{PositiveRow}
+use Rattle.pb_normal.specs.NormalForm.{PositiveRow, HasSmallSums}
 use Rattle.pb_engine.specs.Clauses.{unit_term, clause_row}
-use Rattle.pb_engine.specs.Constraints.{Constraints, row_at}
+use Rattle.pb_engine.specs.Constraints.{AreRowsOver, Constraints, row_at}
 use Rattle.pb_engine.specs.Index.{occurrences_of, total_for}
 use Rattle.pb_engine.specs.Table.{FormRows, ClauseRows}
 use Rattle.pb_engine.specs.Tables.{constraints_of}
@@ -60,3 +60,21 @@ weights_beside rows clauses c l view first form_weights clause_weights before r 
           let here = ap (λ (k : ℕ). total_for k (occurrences_of clauses.occurrences clauses.starts l)) place in
           omega (arith, form_weights r, clause_weights (r - clauses.first), weight_of-none l))
     ]
+
+-- the literals of a clause are of the variables that its row is over
+pub clause_variables : (vars : ℕ) (rows : List PositiveRow) (r : ℕ) (lits : List Literal) → AreRowsOver vars rows → r < length rows → row_at rows r ≡ clause_row lits → All (λ (l : Literal). (1 ≤ l.var) × (l.var ≤ vars)) lits
+clause_variables vars rows r lits over exists is k d h =
+    let all : All (λ (t : PositiveTerm). (1 ≤ t.lit.var) × (t.lit.var ≤ vars)) (clause_row lits).terms = subst (λ (p : PositiveRow). All (λ (t : PositiveTerm). (1 ≤ t.lit.var) × (t.lit.var ≤ vars)) p.terms) is (over r blank exists) in
+    let here : get_or (clause_row lits).terms k (unit_term d) ≡ unit_term (get_or lits k d) = get_or-map unit_term lits k d (unit_term d) h in
+    subst (λ (t : PositiveTerm). (1 ≤ t.lit.var) × (t.lit.var ≤ vars)) here (all k (unit_term d) (omega (arith, length-map lits unit_term)))
+
+-- a clause has a term for each literal
+pub clause_width : (row : PositiveRow) (lits : List Literal) → row ≡ clause_row lits → length row.terms ≡ length lits
+clause_width row lits is = ap (λ (p : PositiveRow). length p.terms) is ∙ length-map lits unit_term
+
+pub clause_term : (row : PositiveRow) (lits : List Literal) (i : ℕ) (l : Literal) → row ≡ clause_row lits → i < length lits → l ≡ get_or lits i l → unit_term l ≡ get_or row.terms i (unit_term l)
+clause_term row lits i l is h read = ap unit_term read ∙ (sym (get_or-map unit_term lits i l (unit_term l) h) ∙ ap (λ (p : PositiveRow). get_or p.terms i (unit_term l)) (sym is))
+
+-- the sums of clauses are within the bound
+pub small_clauses : (clauses : List (List Literal)) → All (λ (lits : List Literal). length lits < 2 ^ 63) clauses → All (λ (row : PositiveRow). HasSmallSums row) (map clause_row clauses)
+small_clauses clauses short = All-map (λ (row : PositiveRow). HasSmallSums row) clause_row clauses (λ k d h. (omega arith, omega (arith, short k d h, total_units (get_or clauses k d))))

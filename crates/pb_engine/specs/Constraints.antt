@@ -1,5 +1,5 @@
 -- The rows over which an engine works.
-use Rattle.std.specs.Prelude.{ℕ, ◌≤◌, List, [], All, slice_index_or}
+use Rattle.std.specs.Prelude.{ℕ, ◌<◌, ◌≤◌, List, [], All, AllPairs, slice_index_or}
 use Rattle.pb_engine.specs.declared.occurrences.Occurrence.{Occurrence}
 use Rattle.pb_normal.specs.NormalForm.{PositiveRow, NormalForm}
 
@@ -21,3 +21,7 @@ row_at rows r = slice_index_or rows r (record { terms = []; degree = 0 })
 -- the terms of the rows are of the variables 1 to `vars`
 abbrev pub AreRowsOver : ℕ → List PositiveRow → Type 0
 AreRowsOver vars rows = All (λ row. All (λ t. (1 ≤ t.lit.var) × (t.lit.var ≤ vars)) row.terms) rows
+
+-- in each row later terms are of greater variables, so none comes twice
+abbrev pub HaveRisingVariables : List PositiveRow → Type 0
+HaveRisingVariables rows = All (λ row. AllPairs (λ t u. t.lit.var < u.lit.var) row.terms) rows

@@ -1,7 +1,14 @@
 pub mod Trail
 pub mod Completion
 pub mod Index
+pub mod DisjointRows
 pub mod Constraints
+pub mod Costs
+pub mod Marks
+pub mod Needs
+pub mod Offers
+pub mod Bits
+pub mod RowSet
 pub mod Table
 pub mod Tracked
 pub mod Propagation

@@ -1,16 +1,22 @@
 -- The rows of a normal form, and the clauses of cubes, with the occurrences of each literal.
-use Rattle.std.specs.Prelude.{◌≡◌, ℕ, ◌<◌, ◌≤◌, List, length, All, slice_index_or}
+use Rattle.std.specs.Prelude.{◌≡◌, ℕ, ◌+◌, ◌<◌, ◌≤◌, List, length, All, slice_index_or}
 use Rattle.pb_engine.specs.Index.{IsIndexOf}
 use Rattle.pb_normal.specs.NormalForm.{PositiveRow, NormalForm}
 use Rattle.pb_engine.specs.declared.rows.Limits.{Limits}
 use Rattle.pb_engine.specs.declared.occurrences.Occurrence.{Occurrence}
-use Rattle.pb_engine.specs.Constraints.{AreRowsOver, row_at}
+use Rattle.pb_engine.specs.Costs.{AreCosts}
+use Rattle.pb_engine.specs.Constraints.{AreRowsOver, HaveRisingVariables, row_at}
 
--- the degree and a bound on the coefficients of each of the first n rows
+-- the degree of the row, and at least what it and any coefficient of the row add up to
+pub record AreLimits (row : PositiveRow) (limits : Limits) : Type 0 where
+  pub degree : limits.degree ≡ row.degree
+  pub least : row.degree ≤ limits.enough
+  pub each : All (λ t. row.degree + t.coef ≤ limits.enough) row.terms
+
+-- the limits of each of the first n rows
 pub record AreLimitsOf (rows : List PositiveRow) (n : ℕ) (limits : List Limits) : Type 0 where
   pub count : length limits ≡ n
-  pub degrees : (r : ℕ) (d : Limits) → r < n → (slice_index_or limits r d).degree ≡ (row_at rows r).degree
-  pub widest : (r : ℕ) (d : Limits) → r < n → All (λ t. t.coef ≤ (slice_index_or limits r d).widest) (row_at rows r).terms
+  pub each : (r : ℕ) (d : Limits) → r < n → AreLimits (row_at rows r) (slice_index_or limits r d)
 
 -- a normal form, and the occurrences of the literals in its rows with where each literal's begin
 pub record FormRows : Type 0 where
@@ -18,9 +24,10 @@ pub record FormRows : Type 0 where
   pub occurrences : List Occurrence
   pub starts : List ℕ
 
-pub record AreFormRows (form : NormalForm) (limits : List Limits) (occurrences : List Occurrence) (starts : List ℕ) : Type 0 where
+pub record AreFormRows (form : NormalForm) (limits : List Limits) (occurrences : List Occurrence) (starts costs : List ℕ) : Type 0 where
   pub limited : AreLimitsOf form.rows (length form.rows) limits
   pub index : IsIndexOf form.vars 0 form.rows occurrences starts
+  pub costs_are : AreCosts form.vars form.objective costs
 
 -- the clauses of cubes, numbered from `first` on, and the occurrences of their literals with where each literal's begin
 pub record ClauseRows : Type 0 where
@@ -32,4 +39,5 @@ pub record ClauseRows : Type 0 where
 
 pub record AreClauseRows (vars first : ℕ) (rows : List PositiveRow) (occurrences : List Occurrence) (starts : List ℕ) : Type 0 where
   pub over : AreRowsOver vars rows
+  pub rising : HaveRisingVariables rows
   pub index : IsIndexOf vars first rows occurrences starts

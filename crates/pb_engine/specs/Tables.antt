@@ -1,5 +1,9 @@
 -- Rows of a normal form and clauses of cubes as one list of rows.
-use Rattle.std.specs.Prelude.{◌≡◌, ◌++◌, length}
+use Rattle.std.specs.Prelude.{◌≡◌, ◌++◌, List, length, map}
+use Rattle.pb_normal.specs.declared.terms.PositiveTerm.{PositiveTerm}
+use Rattle.pb_engine.specs.Clauses.{unit_term}
+use Rattle.pb_engine.specs.declared.tables.RowTerms.{RowTerms}
+use Rattle.pb_engine.specs.declared.tables.RowTerms.TheVariants.{Weighted, Units}
 use Rattle.pb_engine.specs.declared.tables.Source.{Source}
 use Rattle.pb_engine.specs.declared.tables.Source.TheVariants.{Lent, Own}
 use Rattle.pb_engine.specs.Constraints.{Constraints}
@@ -29,3 +33,8 @@ constraints_of rows clauses = record {
 pub record AreBeside (rows : FormRows) (clauses : ClauseRows) : Type 0 where
   pub variables : clauses.vars ≡ rows.form.vars
   pub numbers : clauses.first ≡ length rows.form.rows
+
+-- the terms of a row, and those of a clause's literals
+abbrev pub terms_in : RowTerms → List PositiveTerm
+terms_in (Weighted terms) = terms.now
+terms_in (Units lits) = map unit_term lits.now

@@ -1,23 +1,27 @@
 //! A trail with assumptions, and what follows from them.
 
-ghost use Rattle.std.specs.Prelude.{◌≡◌, ℕ, ◌<◌, ◌≤◌, [], ◌∷◌, ◌++◌, false, true, length, take, None, Some, All, IfOk, ◌≤ℤ◌, pos, neg_ℤ, List};
+ghost use Rattle.std.specs.Prelude.{◌≡◌, ℕ, ◌+◌, ◌<◌, ◌≤◌, [], ◌∷◌, ◌++◌, false, true, length, take, None, Some, All, replicate, IfOk, ◌≤ℤ◌, pos, neg_ℤ, List};
 ghost use Rattle.pb_inst.specs.declared.TheConstants.{SUM_BOUND};
 ghost use Rattle.std.specs.Option.{ForSome};
-ghost use Rattle.pb_normal.specs.NormalForm.{PositiveRow};
+ghost use Rattle.pb_normal.specs.NormalForm.{PositiveRow, total_coefficient};
 ghost use Rattle.pb_engine.specs.Clauses.{AreClausesOf};
 ghost use Rattle.pb_engine.specs.Tables.{AreBeside};
-ghost use Rattle.pb_engine.specs.Trail.{value_on};
+ghost use Rattle.pb_engine.specs.Trail.{value_on, reached};
+ghost use Rattle.pb_engine.specs.DisjointRows.{extras, disjoint_bound};
 ghost use Rattle.pb_engine.specs.Completion.{HasNoCompletion, IsLowerBound, IsSettled};
 ghost use Rattle.pb_engine.specs.Propagation.{AddsForced};
 ghost use Rattle.pb_engine.specs.EngineState.{trail_before, is_conflict, HasNegativeSlack};
 ghost use Rattle.pb_engine.specs.Soundness.{IsFull, IsSolved, IsSoundTrail};
 
 use crate::clauses::Clauses;
+use crate::extras::extras;
+use crate::marks::Marks;
+use crate::needs::Needs;
 use crate::propagation::{Step, propagate_all};
 use crate::rows::Rows;
-use crate::slacks::{Slacks, cut, reached};
+use crate::slacks::{Slacks, cut};
 use crate::tables::Tables;
-use pb_inst::{Cube, Lit, Memory, Number};
+use pb_inst::{Cube, Lit, Magnitude, Memory, Number};
 use pb_normal::Normal;
 use std::alloc::Global;
 use std::marker::Model;
@@ -33,6 +37,8 @@ struct Level {
 #[derive(Debug, Drop)]
 pub struct Engine<'a> {
     slacks: Slacks<'a>,
+    needs: Needs,
+    marks: Marks,
     levels: Vec<Level>,
     settled_until: Option<usize>,
     conflict: bool,
@@ -45,10 +51,11 @@ impl<'a> Model for Engine<'a> {
     ghost Value = { EngineState };
 
     ghost use Rattle.pb_engine.specs.Levels.{starts_of, IsEngine};
+    ghost use Rattle.pb_engine.specs.Needs.{HasCounters};
 
     ghost view = { λ e. record { form = e.slacks.form; vars = e.slacks.vars; rows = e.slacks.rows; trail = e.slacks.trail; levels = starts_of e.levels.items; conflict = e.conflict } };
 
-    ghost invariant = { λ e. IsEngine e.slacks.vars e.slacks.rows e.slacks.trail e.levels.items e.settled_until e.conflict (vec_capacity e.levels) };
+    ghost invariant = { λ e. IsEngine e.slacks.vars e.slacks.rows e.slacks.trail e.levels.items e.settled_until e.conflict (vec_capacity e.levels) × HasCounters e.slacks e.needs e.marks };
 }
 
 impl<'a> Engine<'a> {
@@ -85,8 +92,12 @@ impl<'a> Engine<'a> {
         let vars = tables.vars() as usize;
         let levels = Vec::with_capacity(alloc, vars)?;
         let slacks = Slacks::new(alloc, tables)?;
+        let needs = Needs::new(alloc, &slacks)?;
+        let marks = Marks::new(alloc, slacks.vars())?;
         Ok(Engine {
             slacks,
+            needs,
+            marks,
             levels,
             settled_until: None,
             conflict: false,
@@ -164,24 +175,33 @@ impl<'a> Engine<'a> {
         step
     }
 
-    /// At most the cost of every completion of the trail, and at least the base with the objective's coefficients on the
-    /// trail; from `-SUM_BOUND` to `SUM_BOUND`. It leaves the trail and the conflict as they are, and takes no memory.
+    /// The base, what the trail pays, and the extras of rows that share no variable without a value: at most the cost of every
+    /// completion of the trail; from `-SUM_BOUND` to `SUM_BOUND`. It leaves the trail and the conflict as they are, and takes
+    /// no memory.
     pub fn bound(&mut self) -> Number
+        ensures value { result ≡ disjoint_bound self.old.form self.old.rows self.old.trail }
         ensures bound { IsLowerBound self.old.form self.old.rows self.old.trail result }
         ensures range { (neg_ℤ (pos SUM_BOUND) ≤ℤ result) × (result ≤ℤ pos SUM_BOUND) }
         ensures unchanged { self.new ≡ self.old }
     {
-        self.paid()
+        let payment = self.payment();
+        let _vars = self.slacks.tables().vars();
+        self.slacks.form().base() + payment as Number
     }
 
-    /// The base and the objective's coefficients on the trail: no completion of the trail costs less.
-    fn paid(&self) -> Number
-        ensures bound { IsLowerBound self.now.form self.now.rows self.now.trail result }
-        ensures range { (neg_ℤ (pos SUM_BOUND) ≤ℤ result) × (result ≤ℤ pos SUM_BOUND) }
+    /// What the trail pays and the extras of the picked rows.
+    fn payment(&mut self) -> Magnitude
+        ensures payment { result ≡ reached self.old.trail self.old.form.objective + extras self.old.form.objective self.old.trail (replicate self.old.form.vars false) self.old.rows }
+        ensures small { result ≤ total_coefficient self.old.form.objective }
+        ensures unchanged { self.new ≡ self.old }
     {
-        let _vars = self.slacks.vars();
-        let form = self.slacks.form();
-        form.base() + reached(&self.slacks, form.objective()) as Number
+        let _vars = self.slacks.tables().vars();
+        if self.slacks.form().objective().is_empty() {
+            return 0;
+        }
+        self.needs.count(&self.slacks);
+        let extras = extras(&self.needs, &mut self.marks, &self.slacks);
+        self.needs.paid() + extras
     }
 
     /// Takes back every assumption above the level, and what was added since.
@@ -197,6 +217,7 @@ impl<'a> Engine<'a> {
             return;
         }
         let Level { start, settled } = self.levels[level];
+        self.needs.take_back(&self.slacks, start);
         cut(&mut self.slacks, start);
         self.levels.truncate(level);
         self.settled_until = known_if(settled, Some(start));
@@ -221,5 +242,7 @@ fn known_if(known: bool, settled_until: Option<usize>) -> Option<usize>
     if known { settled_until } else { None }
 }
 
+#[cfg(test)]
+mod propagation_tests;
 #[cfg(test)]
 mod tests;

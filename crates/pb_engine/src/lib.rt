@@ -1,13 +1,19 @@
 //! Propagation over the rows of a normal form.
 #![tactic(auto)]
 
+mod bits;
 mod clauses;
+mod costs;
 mod engine;
+mod extras;
 mod index;
 mod literal_lists;
+mod marks;
+mod needs;
 mod negated;
 mod occurrences;
 mod propagation;
+mod row_set;
 mod rows;
 mod slacks;
 mod tables;

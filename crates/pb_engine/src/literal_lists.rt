@@ -1,6 +1,6 @@
 //! Lists of literals kept flat: one list of literals, and where each list lies in it.
 
-ghost use Rattle.std.specs.Prelude.{◌≡◌, ◌+◌, ◌^◌, ◌<◌, ◌≤◌, [], ◌∷◌, ◌++◌, length, slice_index_or, slice_range, OnOk, OnErr};
+ghost use Rattle.std.specs.Prelude.{◌≡◌, ◌+◌, ◌^◌, ◌<◌, ◌≤◌, [], ◌∷◌, ◌++◌, length, slice_index_or, slice_range, All, OnOk, OnErr};
 
 use pb_inst::{Lit, Memory};
 use std::alloc::Global;
@@ -46,6 +46,7 @@ impl LiteralLists {
     pub fn len(&self) -> usize
         ensures value { result ≡ length self.now }
         ensures small { result < 2 ^ 63 }
+        ensures short { All (λ lits. length lits < 2 ^ 63) self.now }
     {
         self.spans.len()
     }

@@ -44,6 +44,13 @@ impl UnitOccurrence {
     }
 }
 
+/// A part of a list of occurrences. Unlike a slice it does not keep the list from being lent.
+#[derive(Clone, Copy, Debug)]
+pub struct Part {
+    pub start: usize,
+    pub len: usize,
+}
+
 /// An occurrence, and the place of its literal.
 #[derive(Clone, Copy, Debug)]
 pub struct Entry {

@@ -1,6 +1,6 @@
 //! Looking at rows for literals that they force.
 
-ghost use Rattle.std.specs.Prelude.{◌≡◌, ℕ, ◌+◌, ◌<◌, ◌≤◌, length};
+ghost use Rattle.std.specs.Prelude.{◌≡◌, ℕ, ◌+◌, ◌<◌, ◌≤◌, length, All};
 ghost use Rattle.pb_engine.specs.Constraints.{row_at};
 ghost use Rattle.pb_engine.specs.Index.{occurrences_of, total_for};
 ghost use Rattle.pb_engine.specs.Trail.{reachable, weight_of};
@@ -11,6 +11,7 @@ ghost use Rattle.pb_engine.specs.Levels.{AllSettled, AllSettledFrom};
 
 use crate::slacks::Slacks;
 use pb_inst::{Lit, Magnitude};
+use pb_normal::PositiveTerm;
 
 /// What a step of the engine found.
 #[derive(Clone, Copy, Debug, PartialEq, Eq)]
@@ -27,13 +28,48 @@ pub fn look_at(slacks: &mut Slacks<'_>, row: usize) -> Step
     ensures settled { result ≡ Step.Fixed → (head : ℕ) → head ≤ length slacks.old.trail → IsSettledFrom head slacks.new.trail (row_at slacks.old.rows row) }
     ensures broken { result ≡ Step.Conflict → reachable slacks.new.trail (row_at slacks.old.rows row).terms < (row_at slacks.old.rows row).degree }
 {
-    let (reachable, degree) = (slacks.reachable(row), slacks.degree(row));
-    if reachable < degree {
+    if row < slacks.form_rows() {
+        look_at_row(slacks, row)
+    } else {
+        look_at_clause(slacks, row)
+    }
+}
+
+/// Looks at a row of the form.
+fn look_at_row(slacks: &mut Slacks<'_>, row: usize) -> Step
+    requires { row < length slacks.old.form.rows }
+    ensures same_rows { slacks.new ≡ record slacks.old { trail = slacks.new.trail } }
+    ensures forced { AddsForced slacks.old.rows slacks.old.trail slacks.new.trail }
+    ensures settled { result ≡ Step.Fixed → (head : ℕ) → head ≤ length slacks.old.trail → IsSettledFrom head slacks.new.trail (row_at slacks.old.rows row) }
+    ensures broken { result ≡ Step.Conflict → reachable slacks.new.trail (row_at slacks.old.rows row).terms < (row_at slacks.old.rows row).degree }
+{
+    let limits = slacks.limits(row);
+    let reachable = slacks.reachable(row);
+    if reachable >= limits.enough {
+        return Step::Fixed;
+    }
+    if reachable < limits.degree {
         return Step::Conflict;
     }
-    let slack = reachable - degree;
-    if slack < slacks.widest(row) {
-        add_forced(slacks, row, slack);
+    let terms = slacks.terms(row);
+    add_forced(slacks, row, terms, reachable - limits.degree);
+    Step::Fixed
+}
+
+/// Looks at a clause.
+fn look_at_clause(slacks: &mut Slacks<'_>, row: usize) -> Step
+    requires form { length slacks.old.form.rows ≤ row }
+    requires exists { row < length slacks.old.rows }
+    ensures same_rows { slacks.new ≡ record slacks.old { trail = slacks.new.trail } }
+    ensures forced { AddsForced slacks.old.rows slacks.old.trail slacks.new.trail }
+    ensures settled { result ≡ Step.Fixed → (head : ℕ) → head ≤ length slacks.old.trail → IsSettledFrom head slacks.new.trail (row_at slacks.old.rows row) }
+    ensures broken { result ≡ Step.Conflict → reachable slacks.new.trail (row_at slacks.old.rows row).terms < (row_at slacks.old.rows row).degree }
+{
+    let _clause = slacks.clause(row);
+    match slacks.reachable(row) {
+        0 => return Step::Conflict,
+        1 => add_last(slacks, row),
+        _ => {}
     }
     Step::Fixed
 }
@@ -96,9 +132,10 @@ fn look_at_form(slacks: &mut Slacks<'_>, lit: Lit) -> Step
     ensures broken { result ≡ Step.Conflict → IsBroken slacks.old.rows slacks.new.trail }
     ensures weights { (r : ℕ) → r < length slacks.old.rows → total_for r (occurrences_of slacks.old.occurrences slacks.old.starts lit) + total_for r (occurrences_of slacks.old.units slacks.old.unit_starts lit) ≡ weight_of lit (row_at slacks.old.rows r).terms }
 {
-    for i in 0..slacks.occurrences(lit).len() {
-        let row = slacks.occurrences(lit)[i].row;
-        if let Step::Conflict = look_at(slacks, row) {
+    let part = slacks.part(lit);
+    for i in 0..part.len {
+        let row = slacks.row_of(part.start + i);
+        if let Step::Conflict = look_at_row(slacks, row) {
             return Step::Conflict;
         }
     }
@@ -113,8 +150,9 @@ fn look_at_clauses(slacks: &mut Slacks<'_>, lit: Lit) -> Step
     ensures settled { result ≡ Step.Fixed → (r head : ℕ) → r < length slacks.old.rows → 0 < total_for r (occurrences_of slacks.old.units slacks.old.unit_starts lit) → head ≤ length slacks.old.trail → IsSettledFrom head slacks.new.trail (row_at slacks.old.rows r) }
     ensures broken { result ≡ Step.Conflict → IsBroken slacks.old.rows slacks.new.trail }
 {
-    for i in 0..slacks.units(lit).len() {
-        let row = slacks.units(lit)[i].row();
+    let part = slacks.unit_part(lit);
+    for i in 0..part.len {
+        let row = slacks.row_of_unit(part.start + i);
         if let Step::Conflict = look_at(slacks, row) {
             return Step::Conflict;
         }
@@ -142,18 +180,36 @@ pub fn propagate_from(slacks: &mut Slacks<'_>, start: usize) -> Step
     Step::Fixed
 }
 
-/// Puts the row's literals that have no value and a coefficient greater than the slack on the trail.
-fn add_forced(slacks: &mut Slacks<'_>, row: usize, slack: Magnitude)
+/// Puts the literals of a row of the form that have no value and a coefficient greater than the slack on the trail.
+fn add_forced(slacks: &mut Slacks<'_>, row: usize, terms: &[PositiveTerm], slack: Magnitude)
     requires exists { row < length slacks.old.rows }
+    requires terms { terms.now ≡ (row_at slacks.old.rows row).terms }
+    requires variables { All (λ t. (1 ≤ t.lit.var) × (t.lit.var ≤ slacks.old.vars)) terms.now }
     requires slack { (row_at slacks.old.rows row).degree + slack ≡ reachable slacks.old.trail (row_at slacks.old.rows row).terms }
     ensures same_rows { slacks.new ≡ record slacks.old { trail = slacks.new.trail } }
     ensures forced { AddsForced slacks.old.rows slacks.old.trail slacks.new.trail }
     ensures settled { (head : ℕ) → head ≤ length slacks.old.trail → IsSettledFrom head slacks.new.trail (row_at slacks.old.rows row) }
 {
-    for i in 0..slacks.width(row) {
-        let term = slacks.term(row, i);
+    for term in terms {
         if term.coef > slack && slacks.value(term.lit.var()).is_none() {
             slacks.push(term.lit);
+        }
+    }
+}
+
+/// Puts the literal of a clause that is not false yet on the trail, if it has no value.
+fn add_last(slacks: &mut Slacks<'_>, row: usize)
+    requires form { length slacks.old.form.rows ≤ row }
+    requires exists { row < length slacks.old.rows }
+    requires slack { reachable slacks.old.trail (row_at slacks.old.rows row).terms ≡ 1 }
+    ensures same_rows { slacks.new ≡ record slacks.old { trail = slacks.new.trail } }
+    ensures forced { AddsForced slacks.old.rows slacks.old.trail slacks.new.trail }
+    ensures settled { (head : ℕ) → head ≤ length slacks.old.trail → IsSettledFrom head slacks.new.trail (row_at slacks.old.rows row) }
+{
+    for i in 0..slacks.clause(row).len() {
+        let lit = slacks.clause(row)[i];
+        if slacks.value(lit.var()).is_none() {
+            slacks.push(lit);
         }
     }
 }

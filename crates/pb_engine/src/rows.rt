@@ -1,32 +1,36 @@
 //! The rows of a normal form, with the rows in which each literal occurs.
 
-ghost use Rattle.std.specs.Prelude.{◌≡◌, ℕ, ◌+◌, ◌*◌, ◌^◌, ◌<◌, ◌≤◌, ◌++◌, length, All, IfOk, OnOk, sum_by, slice_range, slice_index};
+ghost use Rattle.std.specs.Prelude.{◌≡◌, ℕ, ◌+◌, ◌*◌, ◌^◌, ◌<◌, ◌≤◌, ◌++◌, length, All, IfOk, OnOk, sum_by, slice_range, slice_index, slice_index_or};
 ghost use Rattle.pb_normal.specs.NormalForm.{IsNormal};
 ghost use Rattle.pb_engine.specs.Constraints.{AreRowsOver, row_at};
-ghost use Rattle.pb_engine.specs.Index.{occurrences_of, total_for, entries_of_row, entries_from};
-ghost use Rattle.pb_engine.specs.Table.{AreLimitsOf};
+ghost use Rattle.pb_engine.specs.Index.{IsPartOf, occurrences_of, total_for, entries_of_row, entries_from};
+ghost use Rattle.pb_engine.specs.declared.occurrences.Occurrence.{Occurrence as Weighted};
+ghost use Rattle.pb_engine.specs.Table.{AreLimits, AreLimitsOf};
 ghost use Rattle.pb_engine.specs.Trail.{weight_of};
 
+use crate::costs::costs_of;
 use crate::index::{Index, part};
-use crate::occurrences::{Entry, Occurrence, place_of};
+use crate::occurrences::{Entry, Occurrence, Part, place_of};
 use pb_inst::{Lit, Magnitude, Memory};
 use pb_normal::{Normal, PositiveTerm};
 use std::alloc::Global;
 use std::marker::Model;
 
-/// The degree of a row and its greatest coefficient, side by side for the test of its counter.
+/// The degree of a row, and what it must be able to reach so that it forces no literal, side by side for the test of its sum.
 #[derive(Clone, Copy, Debug)]
 pub struct Limits {
     pub degree: Magnitude,
-    pub widest: Magnitude,
+    pub enough: Magnitude,
 }
 
-/// The rows of a normal form, with the rows in which each literal occurs. They are built once and lent to engines.
+/// The rows of a normal form, with the rows in which each literal occurs and what the objective says of it. They are built
+/// once and lent to engines.
 #[derive(Debug, Drop)]
 pub struct Rows<'a> {
     form: &'a Normal,
     limits: Vec<Limits>,
     index: Index,
+    costs: Vec<Magnitude>,
 }
 
 impl<'a> Model for Rows<'a> {
@@ -36,7 +40,7 @@ impl<'a> Model for Rows<'a> {
 
     ghost view = { λ r. record { form = r.form.now; occurrences = r.index.occurrences.items; starts = r.index.starts.items } };
 
-    ghost invariant = { λ r. AreFormRows r.form.now r.limits.items r.index.occurrences.items r.index.starts.items };
+    ghost invariant = { λ r. AreFormRows r.form.now r.limits.items r.index.occurrences.items r.index.starts.items r.costs.items };
 }
 
 impl<'a> Rows<'a> {
@@ -46,15 +50,18 @@ impl<'a> Rows<'a> {
     {
         let entries = entries_of(alloc, form)?;
         let index = Index::new(alloc, &entries, 2 * form.vars() as usize)?;
+        drop(entries);
         let limits = limits_of(alloc, form)?;
+        let costs = costs_of(alloc, form.objective(), form.vars())?;
         Ok(Rows {
             form,
             limits,
             index,
+            costs,
         })
     }
 
-    pub fn form(&self) -> &Normal
+    pub fn form(&self) -> &'a Normal
         ensures { result.now ≡ self.now.form }
     {
         self.form
@@ -83,15 +90,16 @@ impl<'a> Rows<'a> {
         self.limits[row].degree
     }
 
-    /// No coefficient of the row is greater.
-    pub fn widest(&self, row: usize) -> Magnitude
+    /// The degree of the row, and at least what it and any coefficient of the row add up to.
+    pub fn limits(&self, row: usize) -> Limits
         requires { row < length self.now.form.rows }
-        ensures { All (λ t. t.coef ≤ result) (row_at self.now.form.rows row).terms }
+        ensures { AreLimits (row_at self.now.form.rows row) result }
     {
-        self.limits[row].widest
+        self.limits[row]
     }
 
-    pub fn terms(&self, row: usize) -> &[PositiveTerm]
+    /// The terms of the row.
+    pub fn terms(&self, row: usize) -> &'a [PositiveTerm]
         requires { row < length self.now.form.rows }
         ensures { result.now ≡ (row_at self.now.form.rows row).terms }
     {
@@ -109,17 +117,55 @@ impl<'a> Rows<'a> {
         let (start, end) = (self.index.starts[place], self.index.starts[place + 1]);
         part(&self.index.occurrences, start, end)
     }
+
+    /// Which part of all occurrences the literal's are.
+    pub fn part(&self, lit: Lit) -> Part
+        requires { lit.var ≤ self.now.form.vars }
+        ensures part { IsPartOf self.now.occurrences self.now.starts lit result }
+        ensures fits { result.start + result.len < 2 ^ 64 }
+        ensures rows_exist { All (λ o. o.row < length self.now.form.rows) (occurrences_of self.now.occurrences self.now.starts lit) }
+    {
+        let place = place_of(lit);
+        let (start, end) = (self.index.starts[place], self.index.starts[place + 1]);
+        let len = end - start;
+        Part { start, len }
+    }
+
+    /// The row of an occurrence.
+    pub fn row_of(&self, occurrence: usize) -> usize
+        requires { occurrence < length self.now.occurrences }
+        ensures { (d : Weighted) → result ≡ (slice_index_or self.now.occurrences occurrence d).row }
+    {
+        self.index.occurrences[occurrence].row
+    }
+
+    /// The objective's coefficient of the literal, 0 where it has none.
+    pub fn cost(&self, lit: Lit) -> Magnitude
+        requires { lit.var ≤ self.now.form.vars }
+        ensures { result ≡ weight_of lit self.now.form.objective }
+    {
+        self.costs[place_of(lit)]
+    }
 }
 
 /// Where each literal of the rows occurs, row by row.
 fn entries_of(alloc: Global, form: &Normal) -> Result<Vec<Entry>, Memory>
     ensures { IfOk result (λ entries. entries.items ≡ entries_from 0 form.now.rows (length form.now.rows)) }
 {
-    let mut entries = Vec::new(alloc);
+    let mut entries = Vec::with_capacity(alloc, room(form))?;
     for row in 0..form.len() {
         push_row(&mut entries, row, form.terms(row))?;
     }
     Ok(entries)
+}
+
+/// How many entries the rows need: with that room the list never grows.
+fn room(form: &Normal) -> usize {
+    let mut room = 0_usize;
+    for row in 0..form.len() {
+        room = room.saturating_add(form.terms(row).len());
+    }
+    room
 }
 
 /// Adds where the literals of the terms occur.
@@ -137,26 +183,29 @@ fn push_row(entries: &mut Vec<Entry>, row: usize, terms: &[PositiveTerm]) -> Res
     Ok(())
 }
 
-/// The degree and the greatest coefficient of each row.
+/// The limits of each row.
 fn limits_of(alloc: Global, form: &Normal) -> Result<Vec<Limits>, Memory>
     ensures { IfOk result (λ limits. AreLimitsOf form.now.rows (length form.now.rows) limits.items) }
 {
     let mut limits = Vec::with_capacity(alloc, form.len())?;
     for row in 0..form.len() {
         let degree = form.degree(row);
-        let widest = widest(form.terms(row));
-        limits.push(Limits { degree, widest })?;
+        let enough = enough(degree, form.terms(row));
+        limits.push(Limits { degree, enough })?;
     }
     Ok(limits)
 }
 
-/// The greatest coefficient, or 0 where there are no terms.
-fn widest(terms: &[PositiveTerm]) -> Magnitude
-    ensures { All (λ t. t.coef ≤ result) terms.now }
+/// The degree and the greatest coefficient together.
+fn enough(degree: Magnitude, terms: &[PositiveTerm]) -> Magnitude
+    requires small { degree < 2 ^ 63 }
+    requires clipped { All (λ t. t.coef ≤ degree) terms.now }
+    ensures degree { degree ≤ result }
+    ensures each { All (λ t. degree + t.coef ≤ result) terms.now }
 {
-    let mut widest = 0;
+    let mut enough = degree;
     for term in terms {
-        widest = term.coef.max(widest);
+        enough = enough.max(degree + term.coef);
     }
-    widest
+    enough
 }

@@ -1,13 +1,17 @@
 //! A trail, with what it leaves each row to reach.
 
 ghost use Rattle.std.specs.Prelude.{◌≡◌, ℕ, ◌+◌, ◌-◌, ◌^◌, ◌<◌, ◌≤◌, [], ◌∷◌, ◌++◌, length, take, All, None, slice_index, slice_index_or, IfOk, sum_by, sum, map};
+ghost use Rattle.pb_engine.specs.Clauses.{clause_row};
+ghost use Rattle.pb_engine.specs.declared.occurrences.Occurrence.{Occurrence as Weighted};
 ghost use Rattle.pb_engine.specs.Constraints.{AreRowsOver, row_at};
+ghost use Rattle.pb_engine.specs.Table.{AreLimits};
 ghost use Rattle.pb_engine.specs.Tracked.{tracked_of};
-ghost use Rattle.pb_engine.specs.Index.{occurrences_of, total_for};
-ghost use Rattle.pb_engine.specs.Trail.{is_true, value_on, reachable, reached, weight_of};
+ghost use Rattle.pb_engine.specs.Index.{IsPartOf, occurrences_of, total_for};
+ghost use Rattle.pb_engine.specs.Trail.{value_on, reachable, weight_of};
 ghost use Rattle.pb_engine.specs.Soundness.{IsProperTrail};
 
-use crate::occurrences::{Occurrence, UnitOccurrence};
+use crate::occurrences::{Occurrence, Part, UnitOccurrence};
+use crate::rows::Limits;
 use crate::tables::Tables;
 use pb_inst::{Lit, Magnitude, Memory};
 use pb_normal::{Normal, PositiveTerm};
@@ -107,67 +111,94 @@ impl<'a> Slacks<'a> {
         self.tables.degree(row)
     }
 
-    /// No coefficient of the row is greater.
-    pub fn widest(&self, row: usize) -> Magnitude
-        requires { row < length self.now.rows }
-        ensures { All (λ t. t.coef ≤ result) (row_at self.now.rows row).terms }
+    /// The number of rows of the form; the clauses come after them.
+    pub fn form_rows(&self) -> usize
+        ensures value { result ≡ length self.now.form.rows }
+        ensures within { result ≤ length self.now.rows }
     {
-        self.tables.widest(row)
+        self.tables.form_len()
     }
 
-    /// The number of the row's terms.
-    pub fn width(&self, row: usize) -> usize
-        requires { row < length self.now.rows }
-        ensures { result ≡ length (row_at self.now.rows row).terms }
+    /// The degree of a row of the form, and at least what it and any coefficient of the row add up to.
+    pub fn limits(&self, row: usize) -> Limits
+        requires { row < length self.now.form.rows }
+        ensures limits { AreLimits (row_at self.now.rows row) result }
+        ensures exists { row < length self.now.rows }
     {
-        self.tables.width(row)
+        self.tables.limits(row)
     }
 
-    /// Term i of the row, from 0.
-    pub fn term(&self, row: usize, i: usize) -> PositiveTerm
-        requires row { row < length self.now.rows }
-        requires term { i < length (row_at self.now.rows row).terms }
-        ensures value { result ≡ slice_index_or (row_at self.now.rows row).terms i result }
-        ensures variable { (1 ≤ result.lit.var) × (result.lit.var ≤ self.now.vars) }
+    /// The terms of a row of the form.
+    pub fn terms(&self, row: usize) -> &'a [PositiveTerm]
+        requires { row < length self.now.form.rows }
+        ensures value { result.now ≡ (row_at self.now.rows row).terms }
+        ensures variables { All (λ t. (1 ≤ t.lit.var) × (t.lit.var ≤ self.now.vars)) result.now }
+    {
+        let _limits = self.tables.limits(row);
+        let _vars = self.tables.vars();
+        self.tables.form_terms(row)
+    }
+
+    /// The literals of a clause.
+    pub fn clause(&self, row: usize) -> &[Lit]
+        requires form { length self.now.form.rows ≤ row }
+        requires exists { row < length self.now.rows }
+        ensures value { row_at self.now.rows row ≡ clause_row result.now }
+        ensures variables { All (λ l. (1 ≤ l.var) × (l.var ≤ self.now.vars)) result.now }
     {
         let _vars = self.tables.vars();
-        self.tables.term(row, i)
+        self.tables.clause(row)
     }
 
-    pub fn form(&self) -> &Normal
+    pub fn form(&self) -> &'a Normal
         ensures { result.now ≡ self.now.form }
     {
         self.tables.form()
     }
 
-    /// The rows of the form in which the literal occurs.
-    pub fn occurrences(&self, lit: Lit) -> &[Occurrence]
+    /// The rows, with the occurrences of their literals.
+    pub fn tables(&self) -> &Tables<'a>
+        ensures { tracked_of result.now self.now.trail ≡ self.now }
+    {
+        &self.tables
+    }
+
+    /// Which part of the occurrences in rows of the form the literal's are.
+    pub fn part(&self, lit: Lit) -> Part
         requires { lit.var ≤ self.now.vars }
-        ensures value { result.now ≡ occurrences_of self.now.occurrences self.now.starts lit }
-        ensures rows_exist { All (λ o. o.row < length self.now.rows) result.now }
+        ensures part { IsPartOf self.now.occurrences self.now.starts lit result }
+        ensures fits { result.start + result.len < 2 ^ 64 }
+        ensures rows_exist { All (λ o. o.row < length self.now.form.rows) (occurrences_of self.now.occurrences self.now.starts lit) }
         ensures weights { (r : ℕ) → r < length self.now.rows → total_for r (occurrences_of self.now.occurrences self.now.starts lit) + total_for r (occurrences_of self.now.units self.now.unit_starts lit) ≡ weight_of lit (row_at self.now.rows r).terms }
     {
-        self.tables.occurrences(lit)
+        let _occurrences = self.tables.occurrences(lit);
+        self.tables.part(lit)
     }
 
-    /// The clauses in which the literal occurs.
-    pub fn units(&self, lit: Lit) -> &[UnitOccurrence]
-        requires { lit.var ≤ self.now.vars }
-        ensures value { result.now ≡ occurrences_of self.now.units self.now.unit_starts lit }
-        ensures rows_exist { All (λ o. o.row < length self.now.rows) result.now }
+    /// The row of an occurrence.
+    pub fn row_of(&self, occurrence: usize) -> usize
+        requires { occurrence < length self.now.occurrences }
+        ensures { (d : Weighted) → result ≡ (slice_index_or self.now.occurrences occurrence d).row }
     {
-        self.tables.units(lit)
+        self.tables.row_of(occurrence)
     }
 
-    /// Whether the literal is on the trail.
-    pub fn is_true(&self, lit: Lit) -> bool
+    /// Which part of the occurrences in clauses the literal's are.
+    pub fn unit_part(&self, lit: Lit) -> Part
         requires { lit.var ≤ self.now.vars }
-        ensures { result ≡ is_true self.now.trail lit }
+        ensures part { IsPartOf self.now.units self.now.unit_starts lit result }
+        ensures fits { result.start + result.len < 2 ^ 64 }
+        ensures rows_exist { All (λ o. o.row < length self.now.rows) (occurrences_of self.now.units self.now.unit_starts lit) }
     {
-        match self.values[lit.var() as usize - 1] {
-            Some(positive) => positive == lit.positive(),
-            None => false,
-        }
+        self.tables.unit_part(lit)
+    }
+
+    /// The clause of an occurrence.
+    pub fn row_of_unit(&self, occurrence: usize) -> usize
+        requires { occurrence < length self.now.units }
+        ensures { (d : Weighted) → result ≡ (slice_index_or self.now.units occurrence d).row }
+    {
+        self.tables.row_of_unit(occurrence)
     }
 
     /// Puts a literal without a value on the trail.
@@ -260,19 +291,4 @@ fn raise_units(sums: &mut [Magnitude], occurrences: &[UnitOccurrence])
     for occurrence in occurrences {
         sums[occurrence.row()] += 1;
     }
-}
-
-/// The sum of the coefficients of the literals on the trail.
-pub fn reached(slacks: &Slacks<'_>, terms: &[PositiveTerm]) -> Magnitude
-    requires variables { All (λ t. t.lit.var ≤ slacks.now.vars) terms.now }
-    requires fits { sum_by (λ t. t.coef) terms.now < 2 ^ 64 }
-    ensures { result ≡ reached slacks.now.trail terms.now }
-{
-    let mut sum = 0;
-    for term in terms {
-        if slacks.is_true(term.lit) {
-            sum += term.coef;
-        }
-    }
-    sum
 }

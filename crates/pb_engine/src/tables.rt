@@ -1,20 +1,29 @@
 //! The rows of a normal form and the clauses of cubes as one list of rows.
 
 ghost use Rattle.std.specs.Prelude.{◌≡◌, ℕ, List, ◌+◌, ◌^◌, ◌<◌, ◌≤◌, [], ◌++◌, length, All, IfOk, slice_index_or, sum_by, sum, map};
-ghost use Rattle.pb_normal.specs.NormalForm.{PositiveRow, IsNormal};
-ghost use Rattle.pb_engine.specs.Constraints.{AreRowsOver, row_at};
-ghost use Rattle.pb_engine.specs.Clauses.{AreClausesOf};
-ghost use Rattle.pb_engine.specs.Index.{occurrences_of, total_for};
-ghost use Rattle.pb_engine.specs.Tables.{rows_of, clauses_of, constraints_of, AreBeside};
+ghost use Rattle.pb_normal.specs.NormalForm.{PositiveRow, IsNormal, HasSmallSums};
+ghost use Rattle.pb_engine.specs.declared.occurrences.Occurrence.{Occurrence as Weighted};
+ghost use Rattle.pb_engine.specs.Constraints.{AreRowsOver, row_at, HaveRisingVariables};
+ghost use Rattle.pb_engine.specs.Clauses.{AreClausesOf, clause_row};
+ghost use Rattle.pb_engine.specs.Index.{IsPartOf, occurrences_of, total_for};
+ghost use Rattle.pb_engine.specs.Table.{AreLimits};
+ghost use Rattle.pb_engine.specs.Tables.{rows_of, clauses_of, constraints_of, AreBeside, terms_in};
 ghost use Rattle.pb_engine.specs.Trail.{reachable, weight_of};
 
 use crate::clauses::Clauses;
-use crate::occurrences::{Occurrence, UnitOccurrence};
-use crate::rows::Rows;
+use crate::occurrences::{Occurrence, Part, UnitOccurrence};
+use crate::rows::{Limits, Rows};
 use pb_inst::{Cube, Lit, Magnitude, Memory};
 use pb_normal::{Normal, PositiveTerm};
 use std::alloc::Global;
 use std::marker::Model;
+
+/// The terms of a row of the form, or the literals of a clause, whose coefficients are 1.
+#[derive(Clone, Copy, Debug)]
+pub enum RowTerms<'a> {
+    Weighted(&'a [PositiveTerm]),
+    Units(&'a [Lit]),
+}
 
 /// Rows and clauses that are lent, or that one engine has for itself.
 #[derive(Debug, Drop)]
@@ -85,7 +94,7 @@ impl<'a> Tables<'a> {
         })
     }
 
-    pub fn form(&self) -> &Normal
+    pub fn form(&self) -> &'a Normal
         ensures { result.now ≡ self.now.form }
     {
         self.source.rows().form()
@@ -96,6 +105,8 @@ impl<'a> Tables<'a> {
         ensures value { result ≡ self.now.vars }
         ensures form { self.now.vars ≡ self.now.form.vars }
         ensures rows { AreRowsOver self.now.vars self.now.rows }
+        ensures rising { HaveRisingVariables self.now.rows }
+        ensures limits { All (λ row. HasSmallSums row) self.now.rows }
         ensures normal { IsNormal self.now.form }
     {
         let _clauses = self.source.clauses().len();
@@ -122,45 +133,51 @@ impl<'a> Tables<'a> {
         }
     }
 
-    /// No coefficient of the row is greater.
-    pub fn widest(&self, row: usize) -> Magnitude
-        requires { row < length self.now.rows }
-        ensures { All (λ t. t.coef ≤ result) (row_at self.now.rows row).terms }
+    /// The number of rows of the form; the clauses come after them.
+    pub fn form_len(&self) -> usize
+        ensures value { result ≡ length self.now.form.rows }
+        ensures within { result ≤ length self.now.rows }
     {
-        let rows = self.source.rows();
-        if row < rows.len() {
-            rows.widest(row)
-        } else {
-            let _lits = self.source.clauses().lits(row - rows.len());
-            1
-        }
+        self.source.rows().len()
     }
 
-    /// The number of the row's terms.
-    pub fn width(&self, row: usize) -> usize
-        requires { row < length self.now.rows }
-        ensures { result ≡ length (row_at self.now.rows row).terms }
+    /// The degree of a row of the form, and at least what it and any coefficient of the row add up to.
+    pub fn limits(&self, row: usize) -> Limits
+        requires { row < length self.now.form.rows }
+        ensures limits { AreLimits (row_at self.now.rows row) result }
+        ensures exists { row < length self.now.rows }
     {
-        let rows = self.source.rows();
-        if row < rows.len() {
-            rows.terms(row).len()
-        } else {
-            self.source.clauses().lits(row - rows.len()).len()
-        }
+        self.source.rows().limits(row)
     }
 
-    /// Term i of the row, from 0.
-    pub fn term(&self, row: usize, i: usize) -> PositiveTerm
-        requires row { row < length self.now.rows }
-        requires term { i < length (row_at self.now.rows row).terms }
-        ensures { result ≡ slice_index_or (row_at self.now.rows row).terms i result }
+    /// The terms of a row of the form.
+    pub fn form_terms(&self, row: usize) -> &'a [PositiveTerm]
+        requires { row < length self.now.form.rows }
+        ensures { result.now ≡ (row_at self.now.rows row).terms }
+    {
+        self.source.rows().terms(row)
+    }
+
+    /// The literals of a clause.
+    pub fn clause(&self, row: usize) -> &[Lit]
+        requires form { length self.now.form.rows ≤ row }
+        requires exists { row < length self.now.rows }
+        ensures { row_at self.now.rows row ≡ clause_row result.now }
+    {
+        let form_len = self.source.rows().len();
+        self.source.clauses().lits(row - form_len)
+    }
+
+    /// The terms of the row.
+    pub fn terms(&self, row: usize) -> RowTerms<'_>
+        requires { row < length self.now.rows }
+        ensures { terms_in result ≡ (row_at self.now.rows row).terms }
     {
         let rows = self.source.rows();
         if row < rows.len() {
-            rows.terms(row)[i]
+            RowTerms::Weighted(rows.terms(row))
         } else {
-            let lit = self.source.clauses().lits(row - rows.len())[i];
-            PositiveTerm { coef: 1, lit }
+            RowTerms::Units(self.source.clauses().lits(row - rows.len()))
         }
     }
 
@@ -190,6 +207,14 @@ impl<'a> Tables<'a> {
         self.source.rows().occurrences(lit)
     }
 
+    /// The objective's coefficient of the literal, 0 where it has none.
+    pub fn cost(&self, lit: Lit) -> Magnitude
+        requires { lit.var ≤ self.now.vars }
+        ensures { result ≡ weight_of lit self.now.form.objective }
+    {
+        self.source.rows().cost(lit)
+    }
+
     /// The clauses in which the literal occurs.
     pub fn units(&self, lit: Lit) -> &[UnitOccurrence]
         requires { lit.var ≤ self.now.vars }
@@ -197,6 +222,42 @@ impl<'a> Tables<'a> {
         ensures rows_exist { All (λ o. o.row < length self.now.rows) result.now }
     {
         self.source.clauses().occurrences(lit)
+    }
+
+    /// Which part of the occurrences in rows of the form the literal's are.
+    pub fn part(&self, lit: Lit) -> Part
+        requires { lit.var ≤ self.now.vars }
+        ensures part { IsPartOf self.now.occurrences self.now.starts lit result }
+        ensures fits { result.start + result.len < 2 ^ 64 }
+        ensures rows_exist { All (λ o. o.row < length self.now.form.rows) (occurrences_of self.now.occurrences self.now.starts lit) }
+    {
+        self.source.rows().part(lit)
+    }
+
+    /// The row of an occurrence.
+    pub fn row_of(&self, occurrence: usize) -> usize
+        requires { occurrence < length self.now.occurrences }
+        ensures { (d : Weighted) → result ≡ (slice_index_or self.now.occurrences occurrence d).row }
+    {
+        self.source.rows().row_of(occurrence)
+    }
+
+    /// Which part of the occurrences in clauses the literal's are.
+    pub fn unit_part(&self, lit: Lit) -> Part
+        requires { lit.var ≤ self.now.vars }
+        ensures part { IsPartOf self.now.units self.now.unit_starts lit result }
+        ensures fits { result.start + result.len < 2 ^ 64 }
+        ensures rows_exist { All (λ o. o.row < length self.now.rows) (occurrences_of self.now.units self.now.unit_starts lit) }
+    {
+        self.source.clauses().part(lit)
+    }
+
+    /// The clause of an occurrence.
+    pub fn row_of_unit(&self, occurrence: usize) -> usize
+        requires { occurrence < length self.now.units }
+        ensures { (d : Weighted) → result ≡ (slice_index_or self.now.units occurrence d).row }
+    {
+        self.source.clauses().row_of(occurrence)
     }
 }
 

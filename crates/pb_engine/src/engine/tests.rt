@@ -6,7 +6,7 @@ use pb_normal::{Normal, normalise};
 use std::alloc::Global;
 use std::process::Abort;
 
-fn lit(rt: &impl Abort, number: i32) -> Lit {
+pub fn lit(rt: &impl Abort, number: i32) -> Lit {
     Lit::new(number.unsigned_abs(), number > 0).expect(rt, "a variable")
 }
 
@@ -18,7 +18,7 @@ fn term(rt: &impl Abort, coef: Number, number: i32) -> Term {
 }
 
 /// The normal form of an objective and constraints of `>=`, each a list of coefficients and literals and a bound.
-fn form(
+pub fn form(
     rt: &impl Abort,
     alloc: Global,
     vars: u32,
@@ -45,7 +45,7 @@ fn form(
 }
 
 /// The slack of a row by its counter, or none where it is negative.
-fn slack(rt: &impl Abort, engine: &Engine<'_>, row: usize) -> Option<Magnitude> {
+pub fn slack(rt: &impl Abort, engine: &Engine<'_>, row: usize) -> Option<Magnitude> {
     assert!(rt; row < engine.slacks.rows());
     engine
         .slacks
@@ -53,7 +53,7 @@ fn slack(rt: &impl Abort, engine: &Engine<'_>, row: usize) -> Option<Magnitude> 
         .checked_sub(engine.slacks.degree(row))
 }
 
-fn assume(rt: &impl Abort, engine: &mut Engine<'_>, number: i32) -> Step {
+pub fn assume(rt: &impl Abort, engine: &mut Engine<'_>, number: i32) -> Step {
     let lit = lit(rt, number);
     assert!(rt; lit.var() <= engine.vars());
     assert!(rt; engine.value(lit.var()).is_none());
@@ -61,12 +61,12 @@ fn assume(rt: &impl Abort, engine: &mut Engine<'_>, number: i32) -> Step {
     engine.assume(lit)
 }
 
-fn propagate(rt: &impl Abort, engine: &mut Engine<'_>) -> Step {
+pub fn propagate(rt: &impl Abort, engine: &mut Engine<'_>) -> Step {
     assert!(rt; !engine.conflict());
     engine.propagate()
 }
 
-fn undo_to(rt: &impl Abort, engine: &mut Engine<'_>, level: u32) {
+pub fn undo_to(rt: &impl Abort, engine: &mut Engine<'_>, level: u32) {
     assert!(rt; level <= engine.level());
     engine.undo_to(level);
 }
@@ -151,4 +151,53 @@ fn bounds_by_what_is_paid(rt: HostRuntime) {
     assert!(rt; assume(&rt, &mut engine, -1) == Step::Fixed);
     assert!(rt; propagate(&rt, &mut engine) == Step::Fixed);
     assert_eq!(rt; engine.bound(), 3);
+}
+
+/// `min: 2 x1 3 x2 1 x3`, `1 x1 1 x2 >= 1`, `1 x2 1 x3 >= 1`
+fn two_rows_that_share(rt: &impl Abort, alloc: Global) -> Normal {
+    let rows: &[(&[(Number, i32)], Number)] = &[(&[(1, 1), (1, 2)], 1), (&[(1, 2), (1, 3)], 1)];
+    form(rt, alloc, 3, &[(2, 1), (3, 2), (1, 3)], rows)
+}
+
+#[test]
+fn counts_only_one_of_two_rows_that_share_a_variable(rt: HostRuntime) {
+    let form = two_rows_that_share(&rt, rt.alloc());
+    let mut engine = Engine::new(rt.alloc(), &form, &[]).expect(&rt, "memory");
+    assert_eq!(rt; engine.bound(), 2);
+    assert!(rt; assume(&rt, &mut engine, 1) == Step::Fixed);
+    assert_eq!(rt; engine.bound(), 3);
+    undo_to(&rt, &mut engine, 0);
+    assert_eq!(rt; engine.bound(), 2);
+    assert!(rt; assume(&rt, &mut engine, -2) == Step::Fixed);
+    assert!(rt; propagate(&rt, &mut engine) == Step::Fixed);
+    assert_eq!(rt; engine.bound(), 3);
+    undo_to(&rt, &mut engine, 0);
+    assert_eq!(rt; engine.bound(), 2);
+}
+
+#[test]
+fn adds_up_rows_that_share_no_variable(rt: HostRuntime) {
+    let rows: &[(&[(Number, i32)], Number)] = &[(&[(1, 1), (1, 2)], 1), (&[(1, 3), (1, 4)], 1)];
+    let costs: &[(Number, i32)] = &[(2, 1), (3, 2), (4, 3), (5, 4)];
+    let form = form(&rt, rt.alloc(), 4, costs, rows);
+    let mut engine = Engine::new(rt.alloc(), &form, &[]).expect(&rt, "memory");
+    assert_eq!(rt; engine.bound(), 6);
+    assert_eq!(rt; engine.bound(), 6);
+}
+
+#[test]
+fn counts_as_many_literals_as_the_need_takes(rt: HostRuntime) {
+    let rows: &[(&[(Number, i32)], Number)] = &[(&[(1, 1), (1, 2), (1, 3)], 2)];
+    let form = form(&rt, rt.alloc(), 3, &[(1, 1), (2, 2), (4, 3)], rows);
+    let mut engine = Engine::new(rt.alloc(), &form, &[]).expect(&rt, "memory");
+    assert_eq!(rt; engine.bound(), 2);
+}
+
+#[test]
+fn bounds_by_great_costs(rt: HostRuntime) {
+    let rows: &[(&[(Number, i32)], Number)] = &[(&[(1, 1), (1, 2)], 2)];
+    let costs: &[(Number, i32)] = &[(4611686018427387903, 1), (4611686018427387904, 2)];
+    let form = form(&rt, rt.alloc(), 2, costs, rows);
+    let mut engine = Engine::new(rt.alloc(), &form, &[]).expect(&rt, "memory");
+    assert_eq!(rt; engine.bound(), 9223372036854775806);
 }

@@ -3,7 +3,8 @@ use Rattle.std.proofs.lemmas.Bool.{cases_eq}
 use Rattle.std.proofs.lemmas.List.{take_all}
 use Rattle.pb_inst.specs.Literal.{Literal}
 use Rattle.pb_engine.specs.declared.occurrences.Occurrence.{Occurrence}
-use Rattle.pb_engine.specs.Index.{occurrences_of, total_for}
+use Rattle.pb_engine.specs.declared.occurrences.Part.{Part}
+use Rattle.pb_engine.specs.Index.{IsPartOf, occurrences_of, total_for}
 use Rattle.pb_engine.specs.Tracked.{Tracked}
 use Rattle.pb_engine.proofs.TableLemmas.{total_for-nil, total_for-other, none}
 use Rattle.pb_engine.proofs.Looking.{looked_through_none, looked_through_forced, looked_through_next}
@@ -12,11 +13,25 @@ use Rattle.pb_engine.proofs.propagation.look_at_form.Goals as goal
 pub loop-i-init : goal.loop-i-init
 loop-i-init c = looked_through_none c.args.slacks.now (λ r. 0 < total_for r []) (λ r h. omega (arith, total_for-nil r))
 
+-- the row that is read is that of the literal's occurrence i
+read_row : (before now : Tracked) (l : Literal) (part : Part) (i row : ℕ) → now ≡ record before { trail = now.trail } → IsPartOf before.occurrences before.starts l part → i < part.len → ((d : Occurrence) → row ≡ (get_or now.occurrences (part.start + i) d).row) → row ≡ (get_or (occurrences_of before.occurrences before.starts l) i none).row
+read_row before now l part i row stays is h read =
+    read none ∙ (ap (λ (k : Tracked). (get_or k.occurrences (part.start + i) none).row) stays ∙ ap (λ (o : Occurrence). o.row) (is.each i none h))
+
+pub look_at_row-requires : goal.look_at_row-requires
+look_at_row-requires c =
+    let before = c.args.slacks.now in
+    let part = c.part-part in
+    let read = read_row before c.loop-i.slacks c.args.lit part.result c.loop-i.i c.row_of-row.result c.loop-i.invariant.same_rows part.ensures.part (omega arith) c.row_of-row.ensures in
+    let exists = part.ensures.rows_exist c.loop-i.i none (omega (arith, part.ensures.part.count)) in
+    let count = ap (λ (k : Tracked). length k.form.rows) c.loop-i.invariant.same_rows in
+    omega arith
+
 abbrev Done : (before : Tracked) (l : Literal) → ℕ → ℕ → Type 0
 Done before l i r = 0 < total_for r (take i (occurrences_of before.occurrences before.starts l))
 
 pub returns-in-Conflict-clause-forced : goal.returns-in-Conflict-clause-forced
-returns-in-Conflict-clause-forced c = (looked_through_forced c.args.slacks.now c.loop-i.slacks c.look_at.new.slacks (Done c.args.slacks.now c.args.lit c.loop-i.i) c.loop-i.invariant c.in-Conflict.ensures.same_rows c.in-Conflict.ensures.forced).forced
+returns-in-Conflict-clause-forced c = (looked_through_forced c.args.slacks.now c.loop-i.slacks c.look_at_row.new.slacks (Done c.args.slacks.now c.args.lit c.loop-i.i) c.loop-i.invariant c.in-Conflict.ensures.same_rows c.in-Conflict.ensures.forced).forced
 
 pub loop-i-preserved : goal.loop-i-preserved
 loop-i-preserved c =
@@ -24,20 +39,21 @@ loop-i-preserved c =
     let now = c.loop-i.slacks in
     let i = c.loop-i.i in
     let os = occurrences_of before.occurrences before.starts c.args.lit in
-    let same : c.occurrences.result.now ≡ os = c.occurrences.ensures.value ∙ ap (λ (k : Tracked). occurrences_of k.occurrences k.starts c.args.lit) c.loop-i.invariant.same_rows in
-    let within : i < length os = omega (arith, ap (λ (xs : List Occurrence). length xs) c.occurrences-i-end.ensures.value) in
-    let row = (get_or c.occurrences.result.now i none).row in
-    looked_through_next before now c.look_at.new.slacks (Done before c.args.lit i) (Done before c.args.lit (i + 1)) row c.loop-i.invariant c.in_default.ensures.same_rows c.in_default.ensures.forced (c.in_default.ensures.settled refl)
+    let part = c.part-part.ensures.part in
+    let within : i < length os = omega (arith, part.count) in
+    let row = c.row_of-row.result in
+    let read = read_row before now c.args.lit c.part-part.result i row c.loop-i.invariant.same_rows part (omega arith) c.row_of-row.ensures in
+    looked_through_next before now c.look_at_row.new.slacks (Done before c.args.lit i) (Done before c.args.lit (i + 1)) row c.loop-i.invariant c.in_default.ensures.same_rows c.in_default.ensures.forced (c.in_default.ensures.settled refl)
     (λ r h. elim (cases_eq row r) [
       | inl at ↦ inr at
-      | inr other ↦ inl (omega (arith, total_for-other os i none r within (λ e. other (ap (λ (xs : List Occurrence). (get_or xs i none).row) same ∙ e))))
+      | inr other ↦ inl (omega (arith, total_for-other os i none r within (λ e. other (read ∙ e))))
     ])
 
 pub returns-clause-settled : goal.returns-clause-settled
 returns-clause-settled c = λ fixed r head exists occurs low.
     let before = c.args.slacks.now in
     let os = occurrences_of before.occurrences before.starts c.args.lit in
-    let long : length os ≤ c.loop-i.i = omega (arith, ap (λ (xs : List Occurrence). length xs) c.occurrences-i-end.ensures.value) in
+    let long : length os ≤ c.loop-i.i = omega (arith, c.part-part.ensures.part.count) in
     let all : take c.loop-i.i os ≡ os = take_all c.loop-i.i os long in
     let some = ap (λ (xs : List Occurrence). total_for r xs) all in
     c.loop-i.invariant.settled r head (omega arith) low

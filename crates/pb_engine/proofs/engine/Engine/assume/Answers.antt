@@ -8,13 +8,14 @@ use Rattle.pb_engine.specs.EngineState.{EngineState}
 use Rattle.pb_engine.specs.Levels.{starts_of, IsEngine}
 use Rattle.pb_engine.proofs.EngineLemmas.{starts_of-push, levels_short, IsEngine-assume, sound-IsEngine}
 use Rattle.pb_engine.specs.Soundness.{IsSoundTrail}
+use Rattle.pb_engine.proofs.BesideLemmas.{HasCounters-assume}
 use Rattle.pb_engine.proofs.engine.Engine.assume.Goals as goal
 
 pub push_reserved-requires : goal.push_reserved-requires
 push_reserved-requires c =
     let inside = c.self.inside in
-    let short = levels_short inside.slacks.rows inside.slacks.trail inside.levels.items c.self.invariant.levels_in_order in
-    omega (arith, inside.levels.ok.0, c.self.invariant.room, c.push.ensures.within)
+    let short = levels_short inside.slacks.rows inside.slacks.trail inside.levels.items c.self.invariant.0.levels_in_order in
+    omega (arith, inside.levels.ok.0, c.self.invariant.0.room, c.push.ensures.within)
 
 pub invariant_of-self : goal.invariant_of-self
 invariant_of-self c =
@@ -24,12 +25,12 @@ invariant_of-self c =
     let begins : c.len-start.result ≡ start = c.len-start.ensures.length in
     let free : value_on inside.slacks.trail c.args.lit.var ≡ None = subst (λ (t : List Literal). value_on t c.args.lit.var ≡ None) (sym (ap (λ (e : EngineState). e.trail) c.self.view_is)) c.requires.no_value in
     let calm : inside.conflict ≡ false = ap (λ (e : EngineState). e.conflict) c.self.view_is ∙ c.requires.no_conflict in
-    let stays = IsEngine-assume inside.slacks.vars inside.slacks.rows inside.slacks.trail inside.levels.items inside.settled_until inside.conflict c.is_at-settled.result (vec_capacity inside.levels) c.args.lit c.self.invariant calm c.push.ensures.within free (λ yes'. c.is_at-settled.ensures yes' ∙ ap (λ (n : ℕ). Some n) begins) c.push.ensures.from_one (omega (arith, c.requires.variable, ap (λ (e : EngineState). e.vars) c.self.view_is)) in
+    let stays = IsEngine-assume inside.slacks.vars inside.slacks.rows inside.slacks.trail inside.levels.items inside.settled_until inside.conflict c.is_at-settled.result (vec_capacity inside.levels) c.args.lit c.self.invariant.0 calm c.push.ensures.within free (λ yes'. c.is_at-settled.ensures yes' ∙ ap (λ (n : ℕ). Some n) begins) c.push.ensures.from_one (omega (arith, c.requires.variable, ap (λ (e : EngineState). e.vars) c.self.view_is)) in
     let levels : c.push_reserved.new.self.items ≡ inside.levels.items ++ record { start = start; settled = c.is_at-settled.result } ∷ [] = c.push_reserved.ensures.items ∙ ap (λ (n : ℕ). inside.levels.items ++ record { start = n; settled = c.is_at-settled.result } ∷ []) begins in
     let P : Tracked → Type 0 = λ k. IsEngine k.vars k.rows k.trail c.push_reserved.new.self.items inside.settled_until inside.conflict (vec_capacity c.push_reserved.new.self) in
     let Q : List Level → Type 0 = λ ls. IsEngine inside.slacks.vars inside.slacks.rows (inside.slacks.trail ++ c.args.lit ∷ []) ls inside.settled_until inside.conflict (vec_capacity inside.levels) in
     let R : ℕ → Type 0 = λ n. IsEngine inside.slacks.vars inside.slacks.rows (inside.slacks.trail ++ c.args.lit ∷ []) c.push_reserved.new.self.items inside.settled_until inside.conflict n in
-    subst P (sym c.push.ensures.pushed) (subst R (sym c.push_reserved.ensures.capacity) (subst Q (sym levels) stays))
+    (subst P (sym c.push.ensures.pushed) (subst R (sym c.push_reserved.ensures.capacity) (subst Q (sym levels) stays)), HasCounters-assume inside.slacks c.push.new.self inside.needs inside.marks c.args.lit c.self.invariant.1 c.push.ensures.pushed)
 
 pub returns-clause-assumed : goal.returns-clause-assumed
 returns-clause-assumed c =
@@ -50,7 +51,7 @@ returns-clause-sound c =
     let begins : c.len-start.result ≡ start = c.len-start.ensures.length in
     let free : value_on inside.slacks.trail c.args.lit.var ≡ None = subst (λ (t : List Literal). value_on t c.args.lit.var ≡ None) (sym (ap (λ (e : EngineState). e.trail) c.self.view_is)) c.requires.no_value in
     let calm : inside.conflict ≡ false = ap (λ (e : EngineState). e.conflict) c.self.view_is ∙ c.requires.no_conflict in
-    let stays = IsEngine-assume inside.slacks.vars inside.slacks.rows inside.slacks.trail inside.levels.items inside.settled_until inside.conflict c.is_at-settled.result (vec_capacity inside.levels) c.args.lit c.self.invariant calm c.push.ensures.within free (λ yes'. c.is_at-settled.ensures yes' ∙ ap (λ (n : ℕ). Some n) begins) c.push.ensures.from_one (omega (arith, c.requires.variable, ap (λ (e : EngineState). e.vars) c.self.view_is)) in
+    let stays = IsEngine-assume inside.slacks.vars inside.slacks.rows inside.slacks.trail inside.levels.items inside.settled_until inside.conflict c.is_at-settled.result (vec_capacity inside.levels) c.args.lit c.self.invariant.0 calm c.push.ensures.within free (λ yes'. c.is_at-settled.ensures yes' ∙ ap (λ (n : ℕ). Some n) begins) c.push.ensures.from_one (omega (arith, c.requires.variable, ap (λ (e : EngineState). e.vars) c.self.view_is)) in
     let levels : c.push_reserved.new.self.items ≡ inside.levels.items ++ record { start = start; settled = c.is_at-settled.result } ∷ [] = c.push_reserved.ensures.items ∙ ap (λ (n : ℕ). inside.levels.items ++ record { start = n; settled = c.is_at-settled.result } ∷ []) begins in
     let sound = sound-IsEngine inside.slacks.form inside.slacks.vars inside.slacks.rows (inside.slacks.trail ++ c.args.lit ∷ []) (inside.levels.items ++ record { start = start; settled = c.is_at-settled.result } ∷ []) inside.settled_until inside.conflict inside.conflict (vec_capacity inside.levels) stays in
     let P : Tracked → Type 0 = λ k. IsSoundTrail (record { form = k.form; vars = k.vars; rows = k.rows; trail = k.trail; levels = starts_of c.push_reserved.new.self.items; conflict = inside.conflict }) in

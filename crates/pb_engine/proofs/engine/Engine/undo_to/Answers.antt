@@ -10,6 +10,7 @@ use Rattle.pb_engine.specs.Levels.{starts_of, IsEngine}
 use Rattle.pb_engine.proofs.EngineLemmas.{length-starts_of, starts_of-take, start_at, IsEngine-undo, sound-IsEngine}
 use Rattle.pb_engine.specs.Soundness.{IsSoundTrail}
 use Rattle.std.proofs.Math.ListN.{get_or-eq_default}
+use Rattle.pb_engine.proofs.BesideLemmas.{HasCounters-undo}
 use Rattle.pb_engine.proofs.engine.Engine.undo_to.Goals as goal
 
 abbrev state : NormalForm → ℕ → List PositiveRow → List Literal → List ℕ → EngineState
@@ -45,12 +46,12 @@ invariant_of-self-2 c =
     let count = length-starts_of inside.levels.items in
     let view = ap (λ (e : EngineState). length e.levels) c.self.view_is in
     let below : c.args.level < length inside.levels.items = omega (arith, inside.levels.ok.0, c.requires) in
-    let stays = IsEngine-undo inside.slacks.vars inside.slacks.rows inside.slacks.trail inside.levels.items inside.settled_until inside.conflict (vec_capacity inside.levels) c.args.level c.index.result.now c.self.invariant below c.index.ensures c.known_if-self-inside-2.result
+    let stays = IsEngine-undo inside.slacks.vars inside.slacks.rows inside.slacks.trail inside.levels.items inside.settled_until inside.conflict (vec_capacity inside.levels) c.args.level c.index.result.now c.self.invariant.0 below c.index.ensures c.known_if-self-inside-2.result
     (λ from is. (let h = c.known_if-self-inside-2.ensures from is in (some_is c.index.result.now.start from h.1, h.0))) in
     let P : Tracked → Type 0 = λ k. IsEngine k.vars k.rows k.trail c.truncate.new.self.items c.known_if-self-inside-2.result false (vec_capacity c.truncate.new.self) in
     let Q : List Level → Type 0 = λ ls. IsEngine inside.slacks.vars inside.slacks.rows (take c.index.result.now.start inside.slacks.trail) ls c.known_if-self-inside-2.result false (vec_capacity inside.levels) in
     let R : ℕ → Type 0 = λ n. IsEngine inside.slacks.vars inside.slacks.rows (take c.index.result.now.start inside.slacks.trail) c.truncate.new.self.items c.known_if-self-inside-2.result false n in
-    subst P (sym c.cut.ensures) (subst R (sym c.truncate.ensures.capacity) (subst Q (sym c.truncate.ensures.items) stays))
+    (subst P (sym c.cut.ensures) (subst R (sym c.truncate.ensures.capacity) (subst Q (sym c.truncate.ensures.items) stays)), HasCounters-undo inside.slacks c.cut.new.slacks c.take_back.new.self inside.marks c.index.result.now.start c.take_back.ensures.needs c.self.invariant.1.room c.take_back.ensures.before c.cut.ensures)
 
 pub returns-clause-undone : goal.returns-clause-undone
 returns-clause-undone c =
@@ -70,7 +71,7 @@ returns-clause-undone c =
 pub returns-then-level-len-clause-sound : goal.returns-then-level-len-clause-sound
 returns-then-level-len-clause-sound c =
     let inside = c.self.inside in
-    sound-IsEngine inside.slacks.form inside.slacks.vars inside.slacks.rows inside.slacks.trail inside.levels.items inside.settled_until inside.conflict false (vec_capacity inside.levels) c.self.invariant
+    sound-IsEngine inside.slacks.form inside.slacks.vars inside.slacks.rows inside.slacks.trail inside.levels.items inside.settled_until inside.conflict false (vec_capacity inside.levels) c.self.invariant.0
 
 pub returns-clause-sound : goal.returns-clause-sound
 returns-clause-sound c =
@@ -78,7 +79,7 @@ returns-clause-sound c =
     let count = length-starts_of inside.levels.items in
     let view = ap (λ (e : EngineState). length e.levels) c.self.view_is in
     let below : c.args.level < length inside.levels.items = omega (arith, inside.levels.ok.0, c.requires) in
-    let stays = IsEngine-undo inside.slacks.vars inside.slacks.rows inside.slacks.trail inside.levels.items inside.settled_until inside.conflict (vec_capacity inside.levels) c.args.level c.index.result.now c.self.invariant below c.index.ensures c.known_if-self-inside-2.result
+    let stays = IsEngine-undo inside.slacks.vars inside.slacks.rows inside.slacks.trail inside.levels.items inside.settled_until inside.conflict (vec_capacity inside.levels) c.args.level c.index.result.now c.self.invariant.0 below c.index.ensures c.known_if-self-inside-2.result
     (λ from is. (let h = c.known_if-self-inside-2.ensures from is in (some_is c.index.result.now.start from h.1, h.0))) in
     let P : Tracked → Type 0 = λ k. IsSoundTrail (record { form = k.form; vars = k.vars; rows = k.rows; trail = k.trail; levels = starts_of c.truncate.new.self.items; conflict = false }) in
     let Q : List Level → Type 0 = λ ls. IsSoundTrail (record { form = inside.slacks.form; vars = inside.slacks.vars; rows = inside.slacks.rows; trail = take c.index.result.now.start inside.slacks.trail; levels = starts_of ls; conflict = false }) in

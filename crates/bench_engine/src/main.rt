@@ -1,0 +1,88 @@
+//! Builds an engine over an instance and runs rounds of assumptions, propagation, bound and undo on it. Counts go to standard
+//! output, seconds to standard error. The words are a case (`random`, `chain` or `wide`, or `opb` for a text from standard
+//! input), the number of variables of a case that is made here, and the number of rounds (none: building the normal form alone).
+#![tactic(auto)]
+
+mod instances;
+mod rounds;
+
+use crate::rounds::{Course, run};
+use anyhow::Context;
+use pb_engine::Engine;
+use pb_inst::Instance;
+use pb_normal::{Normal, normalise};
+use std::alloc::Global;
+use std::env;
+use std::io::Read;
+use std::time::Instant;
+
+/// The instance of a case, and how its rounds go.
+fn prepare(
+    alloc: Global,
+    case: &str,
+    vars: u32,
+    text: &[u8],
+) -> anyhow::Result<(Instance, Course)> {
+    Ok(match case {
+        "opb" => (pb_read::read_opb(alloc, text)?, Course::Shuffled),
+        "chain" => (instances::chain(alloc, vars)?, Course::OneAssumption),
+        "wide" => (instances::wide(alloc, vars)?, Course::InOrder),
+        _ => (instances::random(alloc, vars)?, Course::Shuffled),
+    })
+}
+
+/// The number of terms of all rows.
+fn terms(form: &Normal) -> u64 {
+    let mut terms = 0_u64;
+    for row in 0..form.len() {
+        terms = terms.saturating_add(form.terms(row).len() as u64);
+    }
+    terms
+}
+
+/// The next word, as a number.
+fn number(words: &mut env::Args) -> anyhow::Result<u32> {
+    let word = words.next().context("a number")?;
+    Ok(word.parse()?)
+}
+
+/// Builds an engine over the normal form, runs the rounds and says what they did and how long that took.
+fn measure(rt: &HostRuntime, form: &Normal, course: Course, rounds: u32) -> anyhow::Result<()> {
+    let start = Instant::now(rt)?;
+    let mut engine = Engine::new(rt.alloc(), form, &[])?;
+    let built = start.elapsed(rt)?.as_secs_f64();
+    let counts = run(&mut engine, course, rounds);
+    let seconds = start.elapsed(rt)?.as_secs_f64() - built;
+    println!(rt; "{counts:?}")?;
+    eprintln!(rt; "engine {built:.3} s, rounds {seconds:.3} s")?;
+    Ok(())
+}
+
+/// Makes the instance of the case and its normal form, and measures an engine over it.
+fn measure_case(
+    rt: &HostRuntime,
+    case: &str,
+    vars: u32,
+    rounds: u32,
+    text: &[u8],
+) -> anyhow::Result<()> {
+    let (instance, course) = prepare(rt.alloc(), case, vars, text)?;
+    let form = normalise(rt.alloc(), &instance)?;
+    drop(instance);
+    println!(rt; "{} rows, {} terms", form.len(), terms(&form))?;
+    if rounds > 0 {
+        measure(rt, &form, course, rounds)?;
+    }
+    Ok(())
+}
+
+fn main(rt: HostRuntime) -> anyhow::Result<()> {
+    let mut words = env::args(&rt)?;
+    words.next();
+    let case = words.next().context("a case")?;
+    let vars = number(&mut words)?;
+    let rounds = number(&mut words)?;
+    let mut text = Vec::new(rt.alloc());
+    rt.stdin().read_to_end(&mut text)?;
+    measure_case(&rt, &case, vars, rounds, &text)
+}

@@ -1,0 +1,71 @@
+-- The counters stay right when a literal is counted or taken back.
+use Rattle.std.proofs.Common.{◌≡◌, ℕ, ◌+◌, ◌<◌, ◌≤◌, ◌^◌, List, [], ◌∷◌, ◌++◌, length, get_or, take, refl, sym, ◌∙◌, ap, arith, Bool, cond, sum_by, All, None}
+use Rattle.std.proofs.lemmas.List.{take_more}
+use Rattle.std.proofs.lemmas.List.Sums.{sum_by-cons}
+use Rattle.pb_inst.specs.Literal.{Literal}
+use Rattle.pb_normal.specs.declared.terms.PositiveTerm.{PositiveTerm}
+use Rattle.pb_normal.specs.NormalForm.{PositiveRow, NormalForm, HasSmallSums}
+use Rattle.pb_engine.specs.Constraints.{row_at}
+use Rattle.pb_engine.specs.DisjointRows.{gain, loss}
+use Rattle.pb_engine.specs.Needs.{wants, IsLackOf, AreCounters}
+use Rattle.pb_engine.specs.Soundness.{IsProperTrail}
+use Rattle.pb_engine.specs.Trail.{negation, is_true, value_on, weight_of, reached}
+use Rattle.pb_engine.proofs.BoundLemmas.{reached-le-total}
+use Rattle.pb_engine.proofs.NeedLemmas.{lack-joined, lack-pushed, lack-left, lack-popped}
+use Rattle.pb_engine.proofs.SpareLemmas.{reached-push}
+use Rattle.pb_engine.proofs.TrailLemmas.{is_true-nil}
+
+pub counters-push : (form : NormalForm) (rows : List PositiveRow) (trail : List Literal) (paid new_paid : ℕ) (lacks new_lacks : List ℕ) (wanting new_wanting : List Bool) (l : Literal) → AreCounters form rows trail paid lacks wanting → value_on trail l.var ≡ None → new_paid ≡ paid + weight_of l form.objective → length new_lacks ≡ length lacks → ((r : ℕ) → r < length lacks → get_or new_lacks r 0 + gain form.objective l (row_at rows r).terms ≡ get_or lacks r 0 + loss form.objective (negation l) (row_at rows r).terms) → new_wanting ≡ wants new_lacks → AreCounters form rows (trail ++ l ∷ []) new_paid new_lacks new_wanting
+counters-push form rows trail paid new_paid lacks new_lacks wanting new_wanting l are free pays count changed wanting_is = record {
+  paid_is = omega (arith, are.paid_is, reached-push trail l form.objective free);
+  count = count ∙ are.count;
+  each = λ r h. lack-pushed form.objective trail l (row_at rows r) (get_or lacks r 0) (get_or new_lacks r 0) free (are.each r h) (changed r (omega (arith, are.count)));
+  wanting_are = wanting_is;
+}
+
+pub counters-pop : (form : NormalForm) (rows : List PositiveRow) (trail : List Literal) (paid new_paid : ℕ) (lacks new_lacks : List ℕ) (wanting new_wanting : List Bool) (l : Literal) → AreCounters form rows (trail ++ l ∷ []) paid lacks wanting → value_on trail l.var ≡ None → new_paid + weight_of l form.objective ≡ paid → length new_lacks ≡ length lacks → ((r : ℕ) → r < length lacks → get_or new_lacks r 0 + loss form.objective (negation l) (row_at rows r).terms ≡ get_or lacks r 0 + gain form.objective l (row_at rows r).terms) → new_wanting ≡ wants new_lacks → AreCounters form rows trail new_paid new_lacks new_wanting
+counters-pop form rows trail paid new_paid lacks new_lacks wanting new_wanting l are free pays count changed wanting_is = record {
+  paid_is = omega (arith, are.paid_is, reached-push trail l form.objective free);
+  count = count ∙ are.count;
+  each = λ r h. lack-popped form.objective trail l (row_at rows r) (get_or lacks r 0) (get_or new_lacks r 0) free (are.each r h) (changed r (omega (arith, are.count)));
+  wanting_are = wanting_is;
+}
+
+reached_nothing : (terms : List PositiveTerm) → reached [] terms ≡ 0
+unfolding reached
+reached_nothing [] = refl
+reached_nothing (t ∷ terms) =
+    let here : ◌≡◌ {A = ℕ} (cond (is_true [] t.lit) t.coef 0) 0 = rw (is_true-nil t.lit) refl in
+    omega (arith, reached_nothing terms, sum_by-cons (λ (u : PositiveTerm). cond (is_true [] u.lit) u.coef 0) t terms)
+
+-- before any literal is counted
+pub counters-nil : (form : NormalForm) (rows : List PositiveRow) (lacks : List ℕ) (wanting : List Bool) → length lacks ≡ length rows → ((r : ℕ) → r < length rows → IsLackOf form.objective [] (row_at rows r) (get_or lacks r 0)) → wanting ≡ wants lacks → AreCounters form rows [] 0 lacks wanting
+counters-nil form rows lacks wanting count each is = record {
+  paid_is = sym (reached_nothing form.objective);
+  count = count;
+  each = each;
+  wanting_are = is;
+}
+
+-- the next literal can be counted
+pub can_join : (form : NormalForm) (rows : List PositiveRow) (trail : List Literal) (paid : ℕ) (lacks given : List ℕ) (wanting : List Bool) (l : Literal) → AreCounters form rows trail paid lacks wanting → value_on trail l.var ≡ None → All (λ (row : PositiveRow). HasSmallSums row) rows → given ≡ lacks → (r : ℕ) → r < length given → (gain form.objective l (row_at rows r).terms ≤ get_or given r 0) × (get_or given r 0 + loss form.objective (negation l) (row_at rows r).terms < 2 ^ 64 + gain form.objective l (row_at rows r).terms)
+can_join form rows trail paid lacks given wanting l are free small same r h =
+    let within : r < length rows = omega (arith, ap (λ (xs : List ℕ). length xs) same, are.count) in
+    let read = ap (λ (xs : List ℕ). get_or xs r 0) same in
+    lack-joined form.objective trail l (row_at rows r) (get_or given r 0) free (small r (record { terms = []; degree = 0 }) within) (omega (arith, are.each r within))
+
+-- the last literal can be taken back
+pub can_leave : (form : NormalForm) (rows : List PositiveRow) (trail : List Literal) (paid : ℕ) (lacks given : List ℕ) (wanting : List Bool) (l : Literal) → AreCounters form rows (trail ++ l ∷ []) paid lacks wanting → value_on trail l.var ≡ None → All (λ (row : PositiveRow). HasSmallSums row) rows → given ≡ lacks → (r : ℕ) → r < length given → (loss form.objective (negation l) (row_at rows r).terms ≤ get_or given r 0) × (get_or given r 0 + gain form.objective l (row_at rows r).terms < 2 ^ 64 + loss form.objective (negation l) (row_at rows r).terms)
+can_leave form rows trail paid lacks given wanting l are free small same r h =
+    let within : r < length rows = omega (arith, ap (λ (xs : List ℕ). length xs) same, are.count) in
+    let read = ap (λ (xs : List ℕ). get_or xs r 0) same in
+    lack-left form.objective trail l (row_at rows r) (get_or given r 0) free (small r (record { terms = []; degree = 0 }) within) (omega (arith, are.each r within))
+
+-- the literal at a place of the trail has no value before it, and follows the literals before it
+pub at_place : (vars : ℕ) (trail : List Literal) (k : ℕ) (l : Literal) → IsProperTrail vars trail → k < length trail → l ≡ get_or trail k l → (value_on (take k trail) l.var ≡ None) × (take (k + 1) trail ≡ take k trail ++ l ∷ [])
+at_place vars trail k l proper h read =
+    (ap (λ (m : Literal). value_on (take k trail) m.var) read ∙ proper.once k l h, take_more trail k l h ∙ ap (λ (m : Literal). take k trail ++ m ∷ []) (sym read))
+
+-- the objective's total bounds what is paid
+pub paid_within : (form : NormalForm) (trail : List Literal) (l : Literal) → value_on trail l.var ≡ None → reached trail form.objective + weight_of l form.objective ≤ sum_by (λ (t : PositiveTerm). t.coef) form.objective
+paid_within form trail l free = omega (arith, reached-push trail l form.objective free, reached-le-total (trail ++ l ∷ []) form.objective)

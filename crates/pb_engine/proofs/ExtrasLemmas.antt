@@ -1,0 +1,86 @@
+-- Visiting the rows that need costly literals adds up the extras of all rows.
+use Rattle.std.proofs.Common.{◌≡◌, ℕ, ◌+◌, ◌-◌, ◌<◌, ◌≤◌, List, [], ◌∷◌, length, get_or, drop, drop-cons, refl, sym, ◌∙◌, ap, subst, arith, add-one, Bool, false, cond, All, inl, inr, zero, suc}
+use Rattle.std.specs.Prelude.{nat_lt}
+use Rattle.std.proofs.lemmas.Bool.{cases_Bool, ltb-false}
+use Rattle.std.proofs.lemmas.List.{get_or-map}
+use Rattle.pb_inst.specs.Literal.{Literal}
+use Rattle.pb_normal.specs.declared.terms.PositiveTerm.{PositiveTerm}
+use Rattle.pb_normal.specs.NormalForm.{PositiveRow, NormalForm, IsNormal}
+use Rattle.pb_engine.specs.Constraints.{row_at, AreRowsOver, HaveRisingVariables}
+use Rattle.pb_engine.specs.DisjointRows.{need, costly, extra, extra_of, is_picked, marked_by, extras}
+use Rattle.pb_engine.specs.Needs.{wants, AreCounters}
+use Rattle.pb_engine.specs.RowSet.{HasNoneBetween}
+use Rattle.pb_engine.specs.declared.needs.TheConstants.{MET}
+use Rattle.pb_engine.proofs.DisjointBound.{ArePickable}
+use Rattle.pb_engine.proofs.NeedLemmas.{length-wants}
+use Rattle.pb_engine.proofs.OfferLemmas.{not_picked}
+
+-- a row that needs nothing has no extra
+no-need : (objective : List PositiveTerm) (trail : List Literal) (row : PositiveRow) → need objective trail row ≡ 0 → extra objective trail row ≡ 0
+unfolding extra
+no-need objective trail row none = ap (λ (n : ℕ). extra_of objective n (costly objective trail row.terms)) none
+
+first_of_drop : (rows : List PositiveRow) (i : ℕ) → i < length rows → drop i rows ≡ row_at rows i ∷ drop (i + 1) rows
+first_of_drop rows i h = rw (add-one) (drop-cons rows i (record { terms = []; degree = 0 }) h)
+
+extras-passed : (objective : List PositiveTerm) (trail : List Literal) (marks : List Bool) (rows : List PositiveRow) (i : ℕ) → i < length rows → is_picked objective trail marks (row_at rows i) ≡ false → extras objective trail marks (drop i rows) ≡ extras objective trail marks (drop (i + 1) rows)
+extras-passed objective trail marks rows i h passed =
+    ap (extras objective trail marks) (first_of_drop rows i h)
+    ∙ ap (λ (b : Bool). cond b (extra objective trail (row_at rows i) + extras objective trail (marked_by trail marks (row_at rows i).terms) (drop (i + 1) rows)) (extras objective trail marks (drop (i + 1) rows))) passed
+
+-- rows that need nothing are passed over
+passes : (objective : List PositiveTerm) (trail : List Literal) (marks : List Bool) (rows : List PositiveRow) (k from : ℕ) → from + k ≤ length rows → ((r : ℕ) → from ≤ r → r < from + k → need objective trail (row_at rows r) ≡ 0) → extras objective trail marks (drop from rows) ≡ extras objective trail marks (drop (from + k) rows)
+passes objective trail marks rows zero from h none = ap (λ (n : ℕ). extras objective trail marks (drop n rows)) (let same : from ≡ from + 0 = omega arith in same)
+passes objective trail marks rows (suc k) from h none =
+    extras-passed objective trail marks rows from (omega arith) (not_picked objective trail marks (row_at rows from) (no-need objective trail (row_at rows from) (none from (omega arith) (omega arith))))
+    ∙ (passes objective trail marks rows k (from + 1) (omega arith) (λ r low high. none r (omega arith) (omega arith))
+    ∙ ap (λ (n : ℕ). extras objective trail marks (drop n rows)) (let same : from + 1 + k ≡ from + suc k = omega arith in same))
+
+pub extras-next : (objective : List PositiveTerm) (trail : List Literal) (marks : List Bool) (rows : List PositiveRow) (from to : ℕ) → from ≤ to → to ≤ length rows → ((r : ℕ) → from ≤ r → r < to → need objective trail (row_at rows r) ≡ 0) → extras objective trail marks (drop from rows) ≡ extras objective trail marks (drop to rows)
+extras-next objective trail marks rows from to low high none =
+    let same : from + (to - from) ≡ to = omega arith in
+    passes objective trail marks rows (to - from) from (omega arith) (λ r above below. none r above (omega arith)) ∙ ap (λ (n : ℕ). extras objective trail marks (drop n rows)) same
+
+-- a row that isn't among those that need costly literals needs none
+pub none-needed : (form : NormalForm) (rows : List PositiveRow) (trail : List Literal) (paid : ℕ) (lacks : List ℕ) (wanting : List Bool) (from to : ℕ) → AreCounters form rows trail paid lacks wanting → to ≤ length rows → HasNoneBetween wanting from to → (r : ℕ) → from ≤ r → r < to → need form.objective trail (row_at rows r) ≡ 0
+unfolding wants
+none-needed form rows trail paid lacks wanting from to are high none r low below =
+    let exists : r < length lacks = omega (arith, are.count) in
+    let off : nat_lt MET (get_or lacks r 0) ≡ false = sym (get_or-map (λ (n : ℕ). nat_lt MET n) lacks r 0 false exists) ∙ (ap (λ (ms : List Bool). get_or ms r false) (sym are.wanting_are) ∙ none r low below) in
+    omega (arith, ltb-false MET (get_or lacks r 0) off, are.each r (omega arith))
+
+pub wanting-count : (form : NormalForm) (rows : List PositiveRow) (trail : List Literal) (paid : ℕ) (lacks : List ℕ) (wanting : List Bool) → AreCounters form rows trail paid lacks wanting → length wanting ≡ length rows
+wanting-count form rows trail paid lacks wanting are = ap (λ (ms : List Bool). length ms) are.wanting_are ∙ (length-wants lacks ∙ are.count)
+
+-- what the row adds, and what is left
+pub extras-step : (objective : List PositiveTerm) (trail : List Literal) (marks new : List Bool) (rows : List PositiveRow) (i result : ℕ) → i < length rows → result ≡ cond (is_picked objective trail marks (row_at rows i)) (extra objective trail (row_at rows i)) 0 → new ≡ cond (is_picked objective trail marks (row_at rows i)) (marked_by trail marks (row_at rows i).terms) marks → extras objective trail marks (drop i rows) ≡ result + extras objective trail new (drop (i + 1) rows)
+extras-step objective trail marks new rows i result h adds is =
+    let row = row_at rows i in
+    elim (cases_Bool (is_picked objective trail marks row)) [
+      | inl picked ↦
+          (let first = ap (extras objective trail marks) (first_of_drop rows i h) ∙ ap (λ (b : Bool). cond b (extra objective trail row + extras objective trail (marked_by trail marks row.terms) (drop (i + 1) rows)) (extras objective trail marks (drop (i + 1) rows))) picked in
+          let amount : result ≡ extra objective trail row = adds ∙ ap (λ (b : Bool). cond b (extra objective trail row) 0) picked in
+          let marked : new ≡ marked_by trail marks row.terms = is ∙ ap (λ (b : Bool). cond b (marked_by trail marks row.terms) marks) picked in
+          let rest = ap (λ (ms : List Bool). extras objective trail ms (drop (i + 1) rows)) marked in
+          omega arith)
+      | inr passed ↦
+          (let first = extras-passed objective trail marks rows i h passed in
+          let amount : result ≡ 0 = adds ∙ ap (λ (b : Bool). cond b (extra objective trail row) 0) passed in
+          let same : new ≡ marks = is ∙ ap (λ (b : Bool). cond b (marked_by trail marks row.terms) marks) passed in
+          let rest = ap (λ (ms : List Bool). extras objective trail ms (drop (i + 1) rows)) same in
+          omega arith)
+    ]
+
+pub extras-end : (objective : List PositiveTerm) (trail : List Literal) (marks : List Bool) (rows : List PositiveRow) → extras objective trail marks (drop (length rows) rows) ≡ 0
+extras-end objective trail marks rows = ap (extras objective trail marks) (all_dropped rows)
+  where
+    all_dropped : (xs : List PositiveRow) → drop (length xs) xs ≡ []
+    all_dropped [] = refl
+    all_dropped (x ∷ xs) = all_dropped xs
+
+-- the rows of an engine are such that extras of them add up
+pub pickable : (form : NormalForm) (vars : ℕ) (rows : List PositiveRow) → IsNormal form → vars ≡ form.vars → HaveRisingVariables rows → AreRowsOver vars rows → ArePickable form rows
+pickable form vars rows normal same rising over = record {
+  objective = λ k d h. (normal.shape.objective.variables k d h).0;
+  rows_are = λ k d h. (rising k d h, subst (λ (n : ℕ). All (λ (t : PositiveTerm). (1 ≤ t.lit.var) × (t.lit.var ≤ n)) (get_or rows k d).terms) same (over k d h));
+}

@@ -1,0 +1,157 @@
+-- Going through the terms of a row for its costly literals, and marking its variables.
+use Rattle.std.proofs.Common.{◌≡◌, ◌≢◌, ℕ, ◌+◌, ◌-◌, ◌*◌, ◌<◌, ◌≤◌, ◌++◌, List, [], ◌∷◌, length, get_or, set, take, fold, max, min, refl, sym, ◌∙◌, ap, subst, arith, Bool, true, false, not, ◌&&◌, ◌||◌, cond, sum_by, Some, None, Option, inl, inr}
+use Rattle.std.specs.Prelude.{nat_lt}
+use Rattle.std.proofs.lemmas.Bool.{cases_Bool, ltb-true, ltb-false, lt-ltb}
+use Rattle.std.proofs.lemmas.List.Elements.{filter_more}
+use Rattle.std.proofs.lemmas.List.Folds.{list_any_more, list_any_at}
+use Rattle.std.proofs.lemmas.List.Sums.{sum_by-cons, sum_by_push, sum_by_more_le, fold_push, fold_more, sum_by-le-sum_by}
+use Rattle.pb_inst.specs.Literal.{Literal}
+use Rattle.pb_normal.specs.declared.terms.PositiveTerm.{PositiveTerm}
+use Rattle.pb_normal.specs.NormalForm.{PositiveRow}
+use Rattle.pb_normal.proofs.LiteralLemmas.{AreRising}
+use Rattle.pb_engine.specs.declared.extras.Offer.{Offer}
+use Rattle.pb_engine.specs.DisjointRows.{has_cost, is_free, is_costly, costly, greatest, cheapest, top_cost, extra, need, is_marked, meets_marks, marked_by, is_picked}
+use Rattle.pb_engine.specs.Needs.{IsLackOf}
+use Rattle.pb_engine.specs.declared.needs.TheConstants.{MET}
+use Rattle.pb_engine.specs.Offers.{no_offer, offer_with, offer_by, offer_of, offer_joined, extra_in}
+use Rattle.pb_engine.specs.Trail.{weight_of}
+use Rattle.pb_engine.proofs.DisjointBound.{one_each, times_one, ones_suffice}
+use Rattle.pb_engine.proofs.DisjointLemmas.{AreWithin, number, worth_at_most, at_most_greatest, covered-marked_by, row_extra, costly-cons, costly-nil}
+
+costly-next : (objective : List PositiveTerm) (trail : List Literal) (terms : List PositiveTerm) (i : ℕ) (d : PositiveTerm) → i < length terms → costly objective trail (take (i + 1) terms) ≡ costly objective trail (take i terms) ++ cond (is_costly objective trail (get_or terms i d).lit) (get_or terms i d ∷ []) []
+unfolding costly
+costly-next objective trail terms i d h = filter_more (λ (t : PositiveTerm). is_costly objective trail t.lit) terms i d h
+
+costly-at-most : (objective : List PositiveTerm) (trail : List Literal) (terms : List PositiveTerm) → sum_by (λ (t : PositiveTerm). t.coef) (costly objective trail terms) ≤ sum_by (λ (t : PositiveTerm). t.coef) terms
+costly-at-most objective trail [] = (let none = ap (λ (ts : List PositiveTerm). sum_by (λ (t : PositiveTerm). t.coef) ts) (costly-nil objective trail) in omega arith)
+costly-at-most objective trail (t ∷ terms) =
+    let rest = costly-at-most objective trail terms in
+    let total = sum_by-cons (λ (u : PositiveTerm). u.coef) t terms in
+    by_case (is_costly objective trail t.lit) (ap (λ (ts : List PositiveTerm). sum_by (λ (u : PositiveTerm). u.coef) ts) (costly-cons objective trail t terms)) total rest
+  where
+    by_case : (b : Bool) → sum_by (λ (u : PositiveTerm). u.coef) (costly objective trail (t ∷ terms)) ≡ sum_by (λ (u : PositiveTerm). u.coef) (cond b (t ∷ costly objective trail terms) (costly objective trail terms)) → sum_by (λ (u : PositiveTerm). u.coef) (t ∷ terms) ≡ t.coef + sum_by (λ (u : PositiveTerm). u.coef) terms → sum_by (λ (u : PositiveTerm). u.coef) (costly objective trail terms) ≤ sum_by (λ (u : PositiveTerm). u.coef) terms → sum_by (λ (u : PositiveTerm). u.coef) (costly objective trail (t ∷ terms)) ≤ sum_by (λ (u : PositiveTerm). u.coef) (t ∷ terms)
+    by_case true is total rest = omega (arith, sum_by-cons (λ (u : PositiveTerm). u.coef) t (costly objective trail terms))
+    by_case false is total rest = omega arith
+
+-- the total so far and the next coefficient are within all coefficients
+pub offer-fits : (objective : List PositiveTerm) (trail : List Literal) (terms : List PositiveTerm) (i : ℕ) (d : PositiveTerm) (offer : Offer) → i < length terms → offer ≡ offer_of objective trail (take i terms) → offer.total + (get_or terms i d).coef ≤ sum_by (λ (t : PositiveTerm). t.coef) terms
+offer-fits objective trail terms i d offer h is = omega (arith, ap (λ (o : Offer). o.total) is, costly-at-most objective trail (take i terms), sum_by_more_le (λ (t : PositiveTerm). t.coef) terms i d h)
+
+offer_by-push : (objective : List PositiveTerm) (terms : List PositiveTerm) (t : PositiveTerm) → offer_by objective (terms ++ t ∷ []) ≡ offer_with (offer_by objective terms) t.coef (weight_of t.lit objective)
+unfolding greatest cheapest
+offer_by-push objective terms t =
+    let total = sum_by_push (λ (u : PositiveTerm). u.coef) terms t in
+    let most = fold_push (λ (m : ℕ) (u : PositiveTerm). max m u.coef) 0 terms t in
+    let least = fold_push (λ (m : ℕ) (u : PositiveTerm). min m (weight_of u.lit objective)) top_cost terms t in
+    rw (total, most, least) refl
+
+pub offer-none : (objective : List PositiveTerm) (trail : List Literal) (terms : List PositiveTerm) → no_offer ≡ offer_of objective trail (take 0 terms)
+unfolding costly greatest cheapest
+offer-none objective trail terms = refl
+
+pub unmet-none : (trail : List Literal) (marks : List Bool) (terms : List PositiveTerm) → meets_marks trail marks (take 0 terms) ≡ false
+unfolding meets_marks
+unmet-none trail marks terms = refl
+
+meets-next : (trail : List Literal) (marks : List Bool) (terms : List PositiveTerm) (i : ℕ) (d : PositiveTerm) → i < length terms → meets_marks trail marks (take (i + 1) terms) ≡ (meets_marks trail marks (take i terms) || (is_free trail (get_or terms i d).lit && is_marked marks (get_or terms i d).lit))
+unfolding meets_marks
+meets-next trail marks terms i d h = list_any_more (λ (t : PositiveTerm). is_free trail t.lit && is_marked marks t.lit) terms i d h
+
+meets-at : (trail : List Literal) (marks : List Bool) (terms : List PositiveTerm) (i : ℕ) (d : PositiveTerm) → i < length terms → (is_free trail (get_or terms i d).lit && is_marked marks (get_or terms i d).lit) ≡ true → meets_marks trail marks terms ≡ true
+unfolding meets_marks
+meets-at trail marks terms i d h on = list_any_at (λ (t : PositiveTerm). is_free trail t.lit && is_marked marks t.lit) terms i d h on
+
+none_of : (objective : List PositiveTerm) (trail : List Literal) (marks : List Bool) (offer : Offer) (t : PositiveTerm) → offer_joined objective trail marks offer t ≡ None → (is_free trail t.lit && is_marked marks t.lit) ≡ true
+none_of objective trail marks offer t = by_cases (is_free trail t.lit) (is_marked marks t.lit) (has_cost objective t.lit)
+  where
+    by_cases : (a b d : Bool) → cond a (cond b None (cond d (Some (offer_with offer t.coef (weight_of t.lit objective))) (Some offer))) (Some offer) ≡ None → (a && b) ≡ true
+    by_cases true true d h = refl
+    by_cases true false true h = absurd (let none : ⊥ = cc in none)
+    by_cases true false false h = absurd (let none : ⊥ = cc in none)
+    by_cases false b d h = absurd (let none : ⊥ = cc in none)
+
+-- where a term is of a marked variable the row shares a variable
+pub offer-met : (objective : List PositiveTerm) (trail : List Literal) (marks : List Bool) (terms : List PositiveTerm) (i : ℕ) (t : PositiveTerm) (offer : Offer) → i < length terms → t ≡ get_or terms i t → offer_joined objective trail marks offer t ≡ None → meets_marks trail marks terms ≡ true
+offer-met objective trail marks terms i t offer h read none =
+    meets-at trail marks terms i t h (subst (λ (u : PositiveTerm). (is_free trail u.lit && is_marked marks u.lit) ≡ true) read (none_of objective trail marks offer t none))
+
+some_is : (x y : Offer) → ◌≡◌ {A = Option Offer} (Some x) (Some y) → x ≡ y
+some_is x y h = cc
+
+-- one more term
+pub offer-next : (objective : List PositiveTerm) (trail : List Literal) (marks : List Bool) (terms : List PositiveTerm) (i : ℕ) (t : PositiveTerm) (offer next : Offer) → i < length terms → t ≡ get_or terms i t → offer ≡ offer_of objective trail (take i terms) → meets_marks trail marks (take i terms) ≡ false → offer_joined objective trail marks offer t ≡ Some next → (next ≡ offer_of objective trail (take (i + 1) terms)) × (meets_marks trail marks (take (i + 1) terms) ≡ false)
+offer-next objective trail marks terms i t offer next h read is unmet joined =
+    let more = costly-next objective trail terms i t h ∙ ap (λ (u : PositiveTerm). costly objective trail (take i terms) ++ cond (is_costly objective trail u.lit) (u ∷ []) []) (sym read) in
+    let met = meets-next trail marks terms i t h ∙ (ap (λ (u : PositiveTerm). meets_marks trail marks (take i terms) || (is_free trail u.lit && is_marked marks u.lit)) (sym read) ∙ ap (λ (b : Bool). b || (is_free trail t.lit && is_marked marks t.lit)) unmet) in
+    let front = costly objective trail (take i terms) in
+    by_cases (is_free trail t.lit) (is_marked marks t.lit) (has_cost objective t.lit) joined more met (ap (offer_by objective) more)
+  where
+    append-nil : (xs : List PositiveTerm) → xs ++ [] ≡ xs
+    append-nil [] = refl
+    append-nil (x ∷ xs) = ap (λ (ys : List PositiveTerm). x ∷ ys) (append-nil xs)
+
+    same : (b : Bool) → b ≡ false → offer_by objective (costly objective trail (take (i + 1) terms)) ≡ offer_by objective (costly objective trail (take i terms) ++ cond b (t ∷ []) []) → offer_by objective (costly objective trail (take (i + 1) terms)) ≡ offer
+    same b off whole = whole ∙ (ap (λ (x : Bool). offer_by objective (costly objective trail (take i terms) ++ cond x (t ∷ []) [])) off ∙ (ap (offer_by objective) (append-nil (costly objective trail (take i terms))) ∙ sym is))
+
+    by_cases : (a b d : Bool) → cond a (cond b None (cond d (Some (offer_with offer t.coef (weight_of t.lit objective))) (Some offer))) (Some offer) ≡ Some next → costly objective trail (take (i + 1) terms) ≡ costly objective trail (take i terms) ++ cond (a && d) (t ∷ []) [] → meets_marks trail marks (take (i + 1) terms) ≡ (false || (a && b)) → offer_by objective (costly objective trail (take (i + 1) terms)) ≡ offer_by objective (costly objective trail (take i terms) ++ cond (a && d) (t ∷ []) []) → (next ≡ offer_of objective trail (take (i + 1) terms)) × (meets_marks trail marks (take (i + 1) terms) ≡ false)
+    by_cases true true d e more met whole = absurd (let none : ⊥ = cc in none)
+    by_cases true false true e more met whole =
+        (sym (some_is (offer_with offer t.coef (weight_of t.lit objective)) next e) ∙ (ap (λ (o : Offer). offer_with o t.coef (weight_of t.lit objective)) is ∙ (sym (offer_by-push objective (costly objective trail (take i terms)) t) ∙ sym whole)), met)
+    by_cases true false false e more met whole = (sym (some_is offer next e) ∙ sym (same false refl whole), met)
+    by_cases false b d e more met whole = (sym (some_is offer next e) ∙ sym (same false refl whole), met)
+
+-- enough literals have some coefficient
+pub some-greatest : (objective : List PositiveTerm) (trail : List Literal) (terms : List PositiveTerm) (n : ℕ) → 0 < n → n ≤ sum_by (λ (t : PositiveTerm). t.coef) (costly objective trail terms) → 0 < greatest (costly objective trail terms)
+some-greatest objective trail terms n some reach =
+    let cs = costly objective trail terms in
+    let most = worth_at_most one_each (greatest cs) cs (at_most_greatest cs) in
+    let ones = times_one cs in
+    positive (greatest cs) (number one_each cs) (omega arith)
+  where
+    positive : (g q : ℕ) → 0 < g * q → 0 < g
+    positive g q h = elim (cases_Bool (nat_lt 0 g)) [
+      | inl yes' ↦ ltb-true 0 g yes'
+      | inr isnt ↦ (let zero_g : g ≡ 0 = omega (arith, ltb-false 0 g isnt) in let product : g * q ≡ 0 = rw zero_g (omega arith) in absurd (omega arith))
+    ]
+
+-- the extra of a row that shares no variable is at most the whole objective
+pub extra-within : (objective : List PositiveTerm) (trail : List Literal) (marks : List Bool) (row : PositiveRow) → AreRising row.terms → AreWithin (length marks) row.terms → meets_marks trail marks row.terms ≡ false → extra objective trail row ≤ sum_by (λ (t : PositiveTerm). t.coef) objective
+extra-within objective trail marks row rising within unmet =
+    let pays = row_extra one_each objective trail row (ones_suffice objective (row ∷ []) trail 0 row (omega arith)) in
+    let covers = covered-marked_by one_each objective trail row.terms marks rising within unmet in
+    let most = sum_by-le-sum_by (λ (t : PositiveTerm). cond (is_marked (marked_by trail marks row.terms) t.lit) (t.coef * one_each t.lit) 0) (λ (t : PositiveTerm). t.coef) objective (λ t. at_most (is_marked (marked_by trail marks row.terms) t.lit) t.coef) in
+    omega arith
+  where
+    at_most : (b : Bool) (n : ℕ) → cond b (n * 1) 0 ≤ n
+    at_most true n = omega arith
+    at_most false n = omega arith
+
+pub marked_by-next : (trail : List Literal) (marks : List Bool) (terms : List PositiveTerm) (i : ℕ) (t : PositiveTerm) (old new : List Bool) → i < length terms → t ≡ get_or terms i t → old ≡ marked_by trail marks (take i terms) → new ≡ cond (is_free trail t.lit) (set old (t.lit.var - 1) true) old → new ≡ marked_by trail marks (take (i + 1) terms)
+unfolding marked_by
+marked_by-next trail marks terms i t old new h read was is =
+    let step : List Bool → PositiveTerm → List Bool = λ ms u. cond (is_free trail u.lit) (set ms (u.lit.var - 1) true) ms in
+    is ∙ (ap (λ (ms : List Bool). step ms t) was ∙ (ap (step (fold step marks (take i terms))) read ∙ sym (fold_more step marks terms i t h)))
+
+pub marked_by-none : (trail : List Literal) (marks : List Bool) (terms : List PositiveTerm) → marks ≡ marked_by trail marks (take 0 terms)
+unfolding marked_by
+marked_by-none trail marks terms = refl
+
+pub need-is : (objective : List PositiveTerm) (trail : List Literal) (row : PositiveRow) (lack : ℕ) → IsLackOf objective trail row lack → lack - MET ≡ need objective trail row
+need-is objective trail row lack is = omega arith
+
+pub extra-is : (objective : List PositiveTerm) (trail : List Literal) (row : PositiveRow) (offer : Offer) (n : ℕ) → offer ≡ offer_of objective trail row.terms → n ≡ need objective trail row → extra_in offer n ≡ extra objective trail row
+unfolding extra
+extra-is objective trail row offer n is needed = ap (λ (o : Offer). extra_in o n) is ∙ ap (extra_in (offer_of objective trail row.terms)) needed
+
+pub not_picked : (objective : List PositiveTerm) (trail : List Literal) (marks : List Bool) (row : PositiveRow) → extra objective trail row ≡ 0 → is_picked objective trail marks row ≡ false
+not_picked objective trail marks row none = ap (λ (n : ℕ). nat_lt 0 n && not (meets_marks trail marks row.terms)) none
+
+pub is-picked : (objective : List PositiveTerm) (trail : List Literal) (marks : List Bool) (row : PositiveRow) → extra objective trail row ≢ 0 → meets_marks trail marks row.terms ≡ false → is_picked objective trail marks row ≡ true
+is-picked objective trail marks row some unmet = rw (lt-ltb 0 (extra objective trail row) (omega arith), unmet) refl
+
+pub met-passed : (objective : List PositiveTerm) (trail : List Literal) (marks : List Bool) (row : PositiveRow) → meets_marks trail marks row.terms ≡ true → is_picked objective trail marks row ≡ false
+met-passed objective trail marks row met = rw met (and_false (nat_lt 0 (extra objective trail row)))
+  where
+    and_false : (b : Bool) → (b && false) ≡ false
+    and_false true = refl
+    and_false false = refl

@@ -1,0 +1,7 @@
+use Rattle.std.proofs.Common.{◌≡◌, take, map}
+use Rattle.pb_engine.specs.Clauses.{unit_term}
+use Rattle.pb_engine.specs.DisjointRows.{marked_by}
+use Rattle.pb_engine.proofs.extras.mark_lits.Given as goal
+
+abbrev pub invariant-loop-lit : goal.invariant-loop-lit
+invariant-loop-lit l = l.marks ≡ marked_by l.slacks.trail l.initial.marks (take l.lit-index (map unit_term l.lits))

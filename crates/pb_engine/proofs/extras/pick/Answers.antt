@@ -1,0 +1,120 @@
+use Rattle.std.proofs.Common.{◌≡◌, ◌≤◌, ℕ, List, Bool, false, [], length, get_or, take, cond, refl, ap, sym, subst, ◌∙◌, arith, sum_by}
+use Rattle.std.proofs.lemmas.List.{take_all}
+use Rattle.pb_inst.specs.declared.TheConstants.{SUM_BOUND}
+use Rattle.pb_inst.specs.Literal.{Literal}
+use Rattle.pb_normal.specs.declared.terms.PositiveTerm.{PositiveTerm}
+use Rattle.pb_engine.specs.declared.extras.Offer.{Offer}
+use Rattle.pb_engine.specs.Constraints.{row_at, AreRowsOver, HaveRisingVariables}
+use Rattle.pb_engine.specs.DisjointRows.{need, extra, meets_marks, marked_by}
+use Rattle.pb_engine.specs.Needs.{IsLackOf}
+use Rattle.pb_engine.specs.Offers.{offer_of, extra_in}
+use Rattle.pb_engine.specs.Tables.{terms_in}
+use Rattle.pb_engine.specs.Tracked.{Tracked}
+use Rattle.pb_engine.proofs.DisjointLemmas.{AreWithin}
+use Rattle.pb_engine.proofs.OfferLemmas.{need-is, extra-is, extra-within, some-greatest, not_picked, is-picked}
+use Rattle.pb_engine.proofs.extras.pick.Goals as goal
+
+pub extra-extra-requires-clause-positive : goal.extra-extra-requires-clause-positive
+extra-extra-requires-clause-positive c = λ some reach.
+    let s = c.args.slacks.now in
+    let objective = s.form.objective in
+    let row = row_at s.rows c.args.row in
+    let counters = c.requires.needs.counters in
+    let full : take c.args.needs.now.counted s.trail ≡ s.trail = take_all c.args.needs.now.counted s.trail (omega (arith, c.requires.counted)) in
+    let each = subst (λ (t : List Literal). IsLackOf objective t row (get_or c.args.needs.now.lacks.items c.args.row 0)) full (counters.each c.args.row c.requires.row) in
+    let needed : c.need.result ≡ need objective s.trail row = c.need.ensures ∙ need-is objective s.trail row (get_or c.args.needs.now.lacks.items c.args.row 0) each in
+    let terms : terms_in c.terms-terms.result ≡ row.terms = c.terms-terms.ensures ∙ ap (λ (k : Tracked). (row_at k.rows c.args.row).terms) c.tables-tables.ensures in
+    let told = c.in-Some.ensures.some c.in-Some.offer refl in
+    let offer : c.in-Some.offer ≡ offer_of objective s.trail row.terms = told.0 ∙ ap (offer_of objective s.trail) terms in
+    let unmet : meets_marks s.trail c.args.marks.now row.terms ≡ false = ap (meets_marks s.trail c.args.marks.now) (sym terms) ∙ told.1 in
+    let value : extra_in c.in-Some.offer c.need.result ≡ extra objective s.trail row = extra-is objective s.trail row c.in-Some.offer c.need.result offer needed in
+    let greatest_is = ap (λ (o : Offer). o.greatest) offer in
+    let total_is = ap (λ (o : Offer). o.total) offer in
+    omega (arith, some-greatest objective s.trail row.terms c.need.result some (omega arith))
+
+pub extra-extra-requires-clause-fits : goal.extra-extra-requires-clause-fits
+extra-extra-requires-clause-fits c =
+    let s = c.args.slacks.now in
+    let objective = s.form.objective in
+    let row = row_at s.rows c.args.row in
+    let counters = c.requires.needs.counters in
+    let full : take c.args.needs.now.counted s.trail ≡ s.trail = take_all c.args.needs.now.counted s.trail (omega (arith, c.requires.counted)) in
+    let each = subst (λ (t : List Literal). IsLackOf objective t row (get_or c.args.needs.now.lacks.items c.args.row 0)) full (counters.each c.args.row c.requires.row) in
+    let needed : c.need.result ≡ need objective s.trail row = c.need.ensures ∙ need-is objective s.trail row (get_or c.args.needs.now.lacks.items c.args.row 0) each in
+    let terms : terms_in c.terms-terms.result ≡ row.terms = c.terms-terms.ensures ∙ ap (λ (k : Tracked). (row_at k.rows c.args.row).terms) c.tables-tables.ensures in
+    let told = c.in-Some.ensures.some c.in-Some.offer refl in
+    let offer : c.in-Some.offer ≡ offer_of objective s.trail row.terms = told.0 ∙ ap (offer_of objective s.trail) terms in
+    let unmet : meets_marks s.trail c.args.marks.now row.terms ≡ false = ap (meets_marks s.trail c.args.marks.now) (sym terms) ∙ told.1 in
+    let value : extra_in c.in-Some.offer c.need.result ≡ extra objective s.trail row = extra-is objective s.trail row c.in-Some.offer c.need.result offer needed in
+    let P : Tracked → Type 0 = λ k. HaveRisingVariables k.rows × AreRowsOver k.vars k.rows × (sum_by (λ (t : PositiveTerm). t.coef) k.form.objective ≤ SUM_BOUND) in
+    let facts : P s = subst P c.tables-tables.ensures (c.vars-vars.ensures.rising, c.vars-vars.ensures.rows, c.vars-vars.ensures.normal.limits.coefficients) in
+    let within : AreWithin (length c.args.marks.now) row.terms = subst (λ (n : ℕ). AreWithin n row.terms) (sym c.requires.marks) (facts.1 c.args.row (record { terms = []; degree = 0 }) c.requires.row) in
+    omega (arith, facts.2, extra-within objective s.trail c.args.marks.now row (facts.0 c.args.row (record { terms = []; degree = 0 }) c.requires.row) within unmet)
+
+pub returns-then-extra-eq0-clause-extra : goal.returns-then-extra-eq0-clause-extra
+returns-then-extra-eq0-clause-extra c =
+    let s = c.args.slacks.now in
+    let objective = s.form.objective in
+    let row = row_at s.rows c.args.row in
+    let counters = c.requires.needs.counters in
+    let full : take c.args.needs.now.counted s.trail ≡ s.trail = take_all c.args.needs.now.counted s.trail (omega (arith, c.requires.counted)) in
+    let each = subst (λ (t : List Literal). IsLackOf objective t row (get_or c.args.needs.now.lacks.items c.args.row 0)) full (counters.each c.args.row c.requires.row) in
+    let needed : c.need.result ≡ need objective s.trail row = c.need.ensures ∙ need-is objective s.trail row (get_or c.args.needs.now.lacks.items c.args.row 0) each in
+    let terms : terms_in c.terms-terms.result ≡ row.terms = c.terms-terms.ensures ∙ ap (λ (k : Tracked). (row_at k.rows c.args.row).terms) c.tables-tables.ensures in
+    let told = c.in-Some.ensures.some c.in-Some.offer refl in
+    let offer : c.in-Some.offer ≡ offer_of objective s.trail row.terms = told.0 ∙ ap (offer_of objective s.trail) terms in
+    let unmet : meets_marks s.trail c.args.marks.now row.terms ≡ false = ap (meets_marks s.trail c.args.marks.now) (sym terms) ∙ told.1 in
+    let value : extra_in c.in-Some.offer c.need.result ≡ extra objective s.trail row = extra-is objective s.trail row c.in-Some.offer c.need.result offer needed in
+    let off = not_picked objective s.trail c.args.marks.now row (sym value ∙ (sym c.extra-extra.ensures ∙ c.if-extra-eq0.true)) in
+    sym (ap (λ (b : Bool). cond b (extra objective s.trail row) 0) off)
+
+pub returns-then-extra-eq0-clause-marks : goal.returns-then-extra-eq0-clause-marks
+returns-then-extra-eq0-clause-marks c =
+    let s = c.args.slacks.now in
+    let objective = s.form.objective in
+    let row = row_at s.rows c.args.row in
+    let counters = c.requires.needs.counters in
+    let full : take c.args.needs.now.counted s.trail ≡ s.trail = take_all c.args.needs.now.counted s.trail (omega (arith, c.requires.counted)) in
+    let each = subst (λ (t : List Literal). IsLackOf objective t row (get_or c.args.needs.now.lacks.items c.args.row 0)) full (counters.each c.args.row c.requires.row) in
+    let needed : c.need.result ≡ need objective s.trail row = c.need.ensures ∙ need-is objective s.trail row (get_or c.args.needs.now.lacks.items c.args.row 0) each in
+    let terms : terms_in c.terms-terms.result ≡ row.terms = c.terms-terms.ensures ∙ ap (λ (k : Tracked). (row_at k.rows c.args.row).terms) c.tables-tables.ensures in
+    let told = c.in-Some.ensures.some c.in-Some.offer refl in
+    let offer : c.in-Some.offer ≡ offer_of objective s.trail row.terms = told.0 ∙ ap (offer_of objective s.trail) terms in
+    let unmet : meets_marks s.trail c.args.marks.now row.terms ≡ false = ap (meets_marks s.trail c.args.marks.now) (sym terms) ∙ told.1 in
+    let value : extra_in c.in-Some.offer c.need.result ≡ extra objective s.trail row = extra-is objective s.trail row c.in-Some.offer c.need.result offer needed in
+    let off = not_picked objective s.trail c.args.marks.now row (sym value ∙ (sym c.extra-extra.ensures ∙ c.if-extra-eq0.true)) in
+    sym (ap (λ (b : Bool). cond b (marked_by s.trail c.args.marks.now row.terms) c.args.marks.now) off)
+
+pub returns-else-extra-eq0-clause-extra : goal.returns-else-extra-eq0-clause-extra
+returns-else-extra-eq0-clause-extra c =
+    let s = c.args.slacks.now in
+    let objective = s.form.objective in
+    let row = row_at s.rows c.args.row in
+    let counters = c.requires.needs.counters in
+    let full : take c.args.needs.now.counted s.trail ≡ s.trail = take_all c.args.needs.now.counted s.trail (omega (arith, c.requires.counted)) in
+    let each = subst (λ (t : List Literal). IsLackOf objective t row (get_or c.args.needs.now.lacks.items c.args.row 0)) full (counters.each c.args.row c.requires.row) in
+    let needed : c.need.result ≡ need objective s.trail row = c.need.ensures ∙ need-is objective s.trail row (get_or c.args.needs.now.lacks.items c.args.row 0) each in
+    let terms : terms_in c.terms-terms.result ≡ row.terms = c.terms-terms.ensures ∙ ap (λ (k : Tracked). (row_at k.rows c.args.row).terms) c.tables-tables.ensures in
+    let told = c.in-Some.ensures.some c.in-Some.offer refl in
+    let offer : c.in-Some.offer ≡ offer_of objective s.trail row.terms = told.0 ∙ ap (offer_of objective s.trail) terms in
+    let unmet : meets_marks s.trail c.args.marks.now row.terms ≡ false = ap (meets_marks s.trail c.args.marks.now) (sym terms) ∙ told.1 in
+    let value : extra_in c.in-Some.offer c.need.result ≡ extra objective s.trail row = extra-is objective s.trail row c.in-Some.offer c.need.result offer needed in
+    let on = is-picked objective s.trail c.args.marks.now row (λ none. c.if-extra-eq0.false (c.extra-extra.ensures ∙ (value ∙ none))) unmet in
+    c.extra-extra.ensures ∙ (value ∙ sym (ap (λ (b : Bool). cond b (extra objective s.trail row) 0) on))
+
+pub returns-else-extra-eq0-clause-marks : goal.returns-else-extra-eq0-clause-marks
+returns-else-extra-eq0-clause-marks c =
+    let s = c.args.slacks.now in
+    let objective = s.form.objective in
+    let row = row_at s.rows c.args.row in
+    let counters = c.requires.needs.counters in
+    let full : take c.args.needs.now.counted s.trail ≡ s.trail = take_all c.args.needs.now.counted s.trail (omega (arith, c.requires.counted)) in
+    let each = subst (λ (t : List Literal). IsLackOf objective t row (get_or c.args.needs.now.lacks.items c.args.row 0)) full (counters.each c.args.row c.requires.row) in
+    let needed : c.need.result ≡ need objective s.trail row = c.need.ensures ∙ need-is objective s.trail row (get_or c.args.needs.now.lacks.items c.args.row 0) each in
+    let terms : terms_in c.terms-terms.result ≡ row.terms = c.terms-terms.ensures ∙ ap (λ (k : Tracked). (row_at k.rows c.args.row).terms) c.tables-tables.ensures in
+    let told = c.in-Some.ensures.some c.in-Some.offer refl in
+    let offer : c.in-Some.offer ≡ offer_of objective s.trail row.terms = told.0 ∙ ap (offer_of objective s.trail) terms in
+    let unmet : meets_marks s.trail c.args.marks.now row.terms ≡ false = ap (meets_marks s.trail c.args.marks.now) (sym terms) ∙ told.1 in
+    let value : extra_in c.in-Some.offer c.need.result ≡ extra objective s.trail row = extra-is objective s.trail row c.in-Some.offer c.need.result offer needed in
+    let on = is-picked objective s.trail c.args.marks.now row (λ none. c.if-extra-eq0.false (c.extra-extra.ensures ∙ (value ∙ none))) unmet in
+    c.mark.ensures ∙ (ap (marked_by s.trail c.args.marks.now) terms ∙ sym (ap (λ (b : Bool). cond b (marked_by s.trail c.args.marks.now row.terms) c.args.marks.now) on))

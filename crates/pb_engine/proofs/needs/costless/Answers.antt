@@ -1,0 +1,23 @@
+use Rattle.std.proofs.Common.{[], ap, sym, arith}
+use Rattle.pb_normal.specs.declared.terms.PositiveTerm.{PositiveTerm}
+use Rattle.pb_engine.proofs.SpareLemmas.{spare-more, spare-same, spare-within, spare-none}
+use Rattle.pb_engine.proofs.needs.costless.Goals as goal
+use Rattle.pb_engine.proofs.needs.costless.Goals.{then-cost-eq0, else-cost-eq0}
+
+pub loop-term-init : goal.loop-term-init
+loop-term-init c = sym (spare-none c.args.tables.now.form.objective [])
+
+pub overflow_add-sum : goal.overflow_add-sum
+overflow_add-sum c =
+    let t = c.term-item.result in
+    let within = spare-within c.args.tables.now.form.objective c.args.terms.now c.loop-term.term-index t c.loop-term-test.true in
+    let coef = ap (λ (u : PositiveTerm). u.coef) c.term-item.is in
+    omega (arith, c.loop-term.invariant, c.requires.fits)
+
+pub loop-term-preserved : goal.loop-term-preserved
+loop-term-preserved c =
+    let objective = c.args.tables.now.form.objective in
+    elim c.if-cost-eq0.branch [
+      | then-cost-eq0 w ↦ omega (arith, w.sum-is, c.loop-term.invariant, spare-more objective c.args.terms.now c.loop-term.term-index c.term-item.result c.cost.result c.loop-term-test.true c.term-item.is c.cost.ensures w.if-cost-eq0.true)
+      | else-cost-eq0 w ↦ omega (arith, w.sum-is, c.loop-term.invariant, spare-same objective c.args.terms.now c.loop-term.term-index c.term-item.result c.cost.result c.loop-term-test.true c.term-item.is c.cost.ensures w.if-cost-eq0.false)
+    ]

@@ -1,0 +1,10 @@
+use Rattle.std.proofs.Common.{◌≡◌, ◌<◌, ℕ, [], length, get_or}
+use Rattle.pb_engine.specs.Constraints.{row_at}
+use Rattle.pb_engine.specs.Needs.{IsLackOf}
+use Rattle.pb_engine.proofs.needs.lacks_of.Given as goal
+
+abbrev pub invariant-loop-row : goal.invariant-loop-row
+invariant-loop-row l = record {
+  count : length l.lacks.items ≡ l.row;
+  each : (r : ℕ) → r < l.row → IsLackOf l.tables.form.objective [] (row_at l.tables.rows r) (get_or l.lacks.items r 0);
+}

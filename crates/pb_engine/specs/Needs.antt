@@ -1,0 +1,36 @@
+-- What is kept beside a trail for the bound by disjoint rows.
+use Rattle.std.specs.Prelude.{◌≡◌, ℕ, ◌+◌, ◌<◌, ◌≤◌, Bool, List, length, map, take, nat_lt, slice_index}
+use Rattle.pb_inst.specs.Literal.{Literal}
+use Rattle.pb_normal.specs.declared.terms.PositiveTerm.{PositiveTerm}
+use Rattle.pb_normal.specs.NormalForm.{PositiveRow, NormalForm}
+use Rattle.pb_engine.specs.declared.needs.Needs.{Needs}
+use Rattle.pb_engine.specs.declared.needs.TheConstants.{MET}
+use Rattle.pb_engine.specs.Constraints.{row_at}
+use Rattle.pb_engine.specs.DisjointRows.{spare}
+use Rattle.pb_engine.specs.Tracked.{Tracked}
+use Rattle.pb_engine.specs.Trail.{reached}
+
+-- the degree less what the row has at no cost, which may be below 0, and 2^63 more
+abbrev pub IsLackOf : List PositiveTerm → List Literal → PositiveRow → ℕ → Type 0
+IsLackOf objective trail row lack = lack + spare objective trail row.terms ≡ MET + row.degree
+
+-- which rows need costly literals
+unfoldable pub wants : List ℕ → List Bool
+wants lacks = map (λ lack. nat_lt MET lack) lacks
+
+-- what the trail pays and each row lacks, and which rows need costly literals
+pub record AreCounters (form : NormalForm) (rows : List PositiveRow) (trail : List Literal) (paid : ℕ) (lacks : List ℕ) (wanting : List Bool) : Type 0 where
+  pub paid_is : paid ≡ reached trail form.objective
+  pub count : length lacks ≡ length rows
+  pub each : (r : ℕ) → r < length rows → IsLackOf form.objective trail (row_at rows r) (slice_index lacks r)
+  pub wanting_are : wanting ≡ wants lacks
+
+-- the first literals of the trail are counted
+pub record AreNeeds (s : Tracked) (needs : Needs) : Type 0 where
+  pub within : needs.counted ≤ length s.trail
+  pub counters : AreCounters s.form s.rows (take needs.counted s.trail) needs.paid needs.lacks.items needs.wanting
+
+-- the counters are those of the trail, and there is a mark for each variable
+pub record HasCounters (s : Tracked) (needs : Needs) (marks : List Bool) : Type 0 where
+  pub needs_are : AreNeeds s needs
+  pub room : length marks ≡ s.vars

@@ -1,0 +1,31 @@
+-- The costly literals of a row.
+use Rattle.std.specs.Prelude.{ℕ, ◌+◌, ◌*◌, Bool, not, ◌&&◌, List, Option, Some, None, max, min, nat_lt, if◌then◌else◌}
+use Rattle.std.specs.Int.{div_ceil}
+use Rattle.pb_inst.specs.Literal.{Literal}
+use Rattle.pb_normal.specs.declared.terms.PositiveTerm.{PositiveTerm}
+use Rattle.pb_normal.specs.NormalForm.{total_coefficient}
+use Rattle.pb_engine.specs.declared.extras.Offer.{Offer}
+use Rattle.pb_engine.specs.DisjointRows.{has_cost, is_free, costly, greatest, cheapest, top_cost, is_marked}
+use Rattle.pb_engine.specs.Trail.{weight_of}
+
+abbrev pub no_offer : Offer
+no_offer = record { total = 0; greatest = 0; cheapest = top_cost }
+
+abbrev pub offer_with : Offer → ℕ → ℕ → Offer
+offer_with offer coef cost = record { total = offer.total + coef; greatest = max offer.greatest coef; cheapest = min offer.cheapest cost }
+
+-- what these costly literals are
+abbrev pub offer_by : List PositiveTerm → List PositiveTerm → Offer
+offer_by objective terms = record { total = total_coefficient terms; greatest = greatest terms; cheapest = cheapest objective top_cost terms }
+
+-- what the costly literals of the terms are
+abbrev pub offer_of : List PositiveTerm → List Literal → List PositiveTerm → Offer
+offer_of objective trail terms = offer_by objective (costly objective trail terms)
+
+-- with one more term, or none where its variable has no value and is marked
+abbrev pub offer_joined : List PositiveTerm → List Literal → List Bool → Offer → PositiveTerm → Option Offer
+offer_joined objective trail marks offer t =
+    if is_free trail t.lit then (if is_marked marks t.lit then None else (if has_cost objective t.lit then Some (offer_with offer t.coef (weight_of t.lit objective)) else Some offer)) else Some offer
+
+abbrev pub extra_in : Offer → ℕ → ℕ
+extra_in offer needed = if nat_lt 0 needed && not (nat_lt offer.total needed) then div_ceil needed offer.greatest * offer.cheapest else 0

@@ -1,0 +1,126 @@
+//! Propagation over clauses of cubes, and over a row of a million literals.
+
+ghost use Rattle.std.specs.Prelude.{◌≡◌, ◌≤◌, true, All};
+
+use crate::engine::tests::{assume, form, lit, propagate, slack, undo_to};
+use crate::{Engine, Step};
+use pb_inst::{Cube, Lit, Number};
+use pb_normal::Normal;
+use std::alloc::Global;
+use std::process::Abort;
+
+fn cube(rt: &impl Abort, alloc: Global, numbers: &[i32]) -> Cube {
+    let mut lits = Vec::new(alloc);
+    for number in numbers {
+        lits.push(lit(rt, *number)).expect(rt, "memory");
+    }
+    Cube::new(alloc, &lits).expect(rt, "memory")
+}
+
+fn is_within(lits: &[Lit], vars: u32) -> bool
+    ensures { result ≡ true → All (λ l. l.var ≤ vars) lits.now }
+{
+    for lit in lits {
+        if lit.var() > vars {
+            return false;
+        }
+    }
+    true
+}
+
+fn are_within(cubes: &[Cube], vars: u32) -> bool
+    ensures { result ≡ true → All (λ cube. All (λ l. l.var ≤ vars) cube) cubes.now }
+{
+    for cube in cubes {
+        if !is_within(cube.lits(), vars) {
+            return false;
+        }
+    }
+    true
+}
+
+/// Three variables and no rows.
+fn free(rt: &impl Abort, alloc: Global) -> Normal {
+    form(rt, alloc, 3, &[], &[])
+}
+
+fn engine<'a>(rt: &impl Abort, alloc: Global, form: &'a Normal, cubes: &'a [Cube]) -> Engine<'a> {
+    assert!(rt; are_within(cubes, form.vars()));
+    Engine::new(alloc, form, cubes).expect(rt, "memory")
+}
+
+#[test]
+fn a_cube_that_is_nearly_true_forces_a_literal(rt: HostRuntime) {
+    let form = free(&rt, rt.alloc());
+    let cubes = [cube(&rt, rt.alloc(), &[1, -2, 3])];
+    let mut engine = engine(&rt, rt.alloc(), &form, &cubes);
+    assert!(rt; propagate(&rt, &mut engine) == Step::Fixed);
+    assert!(rt; assume(&rt, &mut engine, 3) == Step::Fixed);
+    assert!(rt; propagate(&rt, &mut engine) == Step::Fixed);
+    assert_eq!(rt; engine.value(2), None);
+    assert!(rt; assume(&rt, &mut engine, 1) == Step::Fixed);
+    assert!(rt; propagate(&rt, &mut engine) == Step::Fixed);
+    assert_eq!(rt; engine.value(2), Some(true));
+    undo_to(&rt, &mut engine, 1);
+    assert_eq!(rt; engine.value(2), None);
+    assert!(rt; assume(&rt, &mut engine, -2) == Step::Fixed);
+    assert!(rt; propagate(&rt, &mut engine) == Step::Fixed);
+    assert_eq!(rt; engine.value(1), Some(false));
+}
+
+#[test]
+fn repeats_in_a_cube_count_once(rt: HostRuntime) {
+    let form = free(&rt, rt.alloc());
+    let cubes = [cube(&rt, rt.alloc(), &[2, 1, 2, 1, 2])];
+    let mut engine = engine(&rt, rt.alloc(), &form, &cubes);
+    assert_eq!(rt; slack(&rt, &engine, 0), Some(1));
+    assert!(rt; propagate(&rt, &mut engine) == Step::Fixed);
+    assert!(rt; assume(&rt, &mut engine, 2) == Step::Fixed);
+    assert_eq!(rt; slack(&rt, &engine, 0), Some(0));
+    assert!(rt; propagate(&rt, &mut engine) == Step::Fixed);
+    assert_eq!(rt; engine.value(1), Some(false));
+}
+
+#[test]
+fn a_cube_that_contradicts_itself_gives_no_clause(rt: HostRuntime) {
+    let form = free(&rt, rt.alloc());
+    let cubes = [
+        cube(&rt, rt.alloc(), &[1, 3, -1]),
+        cube(&rt, rt.alloc(), &[2]),
+    ];
+    let mut engine = engine(&rt, rt.alloc(), &form, &cubes);
+    assert_eq!(rt; engine.slacks.rows(), 1);
+    assert!(rt; propagate(&rt, &mut engine) == Step::Fixed);
+    assert_eq!(rt; engine.value(1), None);
+    assert_eq!(rt; engine.value(2), Some(false));
+    assert_eq!(rt; engine.value(3), None);
+}
+
+#[test]
+fn the_empty_cube_conflicts_at_once(rt: HostRuntime) {
+    let form = free(&rt, rt.alloc());
+    let cubes = [cube(&rt, rt.alloc(), &[])];
+    let mut engine = engine(&rt, rt.alloc(), &form, &cubes);
+    assert!(rt; propagate(&rt, &mut engine) == Step::Conflict);
+    undo_to(&rt, &mut engine, 0);
+    assert!(rt; propagate(&rt, &mut engine) == Step::Conflict);
+}
+
+#[test]
+fn the_last_of_a_million_literals_is_forced(rt: HostRuntime) {
+    let last = 1_000_000;
+    let mut row: Vec<(Number, i32)> = Vec::new(rt.alloc());
+    for number in 1..=last {
+        row.push((1, number)).expect(&rt, "memory");
+    }
+    let form = form(&rt, rt.alloc(), 1_000_000, &[], &[(&row, 1)]);
+    let mut engine = engine(&rt, rt.alloc(), &form, &[]);
+    for number in 1..last {
+        assert!(rt; assume(&rt, &mut engine, number.wrapping_neg()) == Step::Fixed);
+        assert_eq!(rt; engine.value(1_000_000), None);
+        assert!(rt; propagate(&rt, &mut engine) == Step::Fixed);
+    }
+    assert_eq!(rt; engine.value(1_000_000), Some(true));
+    undo_to(&rt, &mut engine, 999_998);
+    assert_eq!(rt; engine.value(1_000_000), None);
+}

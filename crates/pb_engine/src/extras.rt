@@ -1,0 +1,216 @@
+//! What rows that share no variable without a value add to a lower bound.
+
+ghost use Rattle.std.specs.Prelude.{◌≡◌, ℕ, ◌+◌, ◌-◌, ◌^◌, ◌<◌, ◌≤◌, None, true, false, All, length, map, replicate, sum_by, slice_set, if◌then◌else◌};
+ghost use Rattle.std.specs.Option.{ForSome};
+ghost use Rattle.pb_engine.specs.Clauses.{unit_term};
+ghost use Rattle.pb_engine.specs.Constraints.{row_at};
+ghost use Rattle.pb_engine.specs.DisjointRows.{is_free, is_picked, extra, extras, meets_marks, marked_by};
+ghost use Rattle.pb_engine.specs.Needs.{AreNeeds};
+ghost use Rattle.pb_engine.specs.Offers.{no_offer, offer_with, offer_of, offer_joined, extra_in};
+ghost use Rattle.pb_engine.specs.Tables.{terms_in};
+
+use crate::marks::Marks;
+use crate::needs::Needs;
+use crate::slacks::Slacks;
+use crate::tables::RowTerms;
+use pb_inst::{Lit, Magnitude};
+use pb_normal::PositiveTerm;
+
+/// The sum and the greatest of the coefficients of costly literals, and the least cost of one of them.
+#[derive(Clone, Copy, Debug)]
+struct Offer {
+    total: Magnitude,
+    greatest: Magnitude,
+    cheapest: Magnitude,
+}
+
+impl Offer {
+    /// No literal.
+    fn none() -> Offer
+        ensures { result ≡ no_offer }
+    {
+        Offer {
+            total: 0,
+            greatest: 0,
+            cheapest: Magnitude::MAX,
+        }
+    }
+
+    /// With one more literal.
+    fn with(self, coef: Magnitude, cost: Magnitude) -> Offer
+        requires { self.total + coef < 2 ^ 64 }
+        ensures { result ≡ offer_with self coef cost }
+    {
+        Offer {
+            total: self.total + coef,
+            greatest: self.greatest.max(coef),
+            cheapest: self.cheapest.min(cost),
+        }
+    }
+
+    /// With the term where its literal is costly, or none where its variable has no value and is marked.
+    fn joined(self, slacks: &Slacks<'_>, marks: &Marks, coef: Magnitude, lit: Lit) -> Option<Offer>
+        requires variable { (1 ≤ lit.var) × (lit.var ≤ slacks.now.vars) }
+        requires marks { length marks.now ≡ slacks.now.vars }
+        requires fits { self.total + coef < 2 ^ 64 }
+        ensures { result ≡ offer_joined slacks.now.form.objective slacks.now.trail marks.now self (record { coef = coef; lit = lit }) }
+    {
+        if slacks.value(lit.var()).is_some() {
+            return Some(self);
+        }
+        if marks.is_marked(lit.var()) {
+            return None;
+        }
+        let cost = slacks.tables().cost(lit);
+        if cost == 0 {
+            return Some(self);
+        }
+        Some(self.with(coef, cost))
+    }
+
+    /// The least number of literals that can reach the need, times the least cost of one.
+    fn extra(self, need: Magnitude) -> Magnitude
+        requires positive { 0 < need → need ≤ self.total → 0 < self.greatest }
+        requires fits { extra_in self need < 2 ^ 64 }
+        ensures { result ≡ extra_in self need }
+    {
+        if need == 0 || self.total < need {
+            return 0;
+        }
+        need.div_ceil(self.greatest) * self.cheapest
+    }
+}
+
+/// What the costly literals of the row are, or none where a variable without a value is marked.
+fn offer_in(slacks: &Slacks<'_>, marks: &Marks, terms: RowTerms<'_>) -> Option<Offer>
+    requires variables { All (λ t. (1 ≤ t.lit.var) × (t.lit.var ≤ slacks.now.vars)) (terms_in terms) }
+    requires marks { length marks.now ≡ slacks.now.vars }
+    requires fits { sum_by (λ t. t.coef) (terms_in terms) < 2 ^ 64 }
+    ensures some { ForSome result (λ offer. (offer ≡ offer_of slacks.now.form.objective slacks.now.trail (terms_in terms.entry)) × (meets_marks slacks.now.trail marks.now (terms_in terms.entry) ≡ false)) }
+    ensures none { result ≡ None → meets_marks slacks.now.trail marks.now (terms_in terms.entry) ≡ true }
+{
+    match terms {
+        RowTerms::Weighted(terms) => offer_of_terms(slacks, marks, terms),
+        RowTerms::Units(lits) => offer_of_lits(slacks, marks, lits),
+    }
+}
+
+/// What the costly literals of the terms are.
+fn offer_of_terms(slacks: &Slacks<'_>, marks: &Marks, terms: &[PositiveTerm]) -> Option<Offer>
+    requires variables { All (λ t. (1 ≤ t.lit.var) × (t.lit.var ≤ slacks.now.vars)) terms.now }
+    requires marks { length marks.now ≡ slacks.now.vars }
+    requires fits { sum_by (λ t. t.coef) terms.now < 2 ^ 64 }
+    ensures some { ForSome result (λ offer. (offer ≡ offer_of slacks.now.form.objective slacks.now.trail terms.now) × (meets_marks slacks.now.trail marks.now terms.now ≡ false)) }
+    ensures none { result ≡ None → meets_marks slacks.now.trail marks.now terms.now ≡ true }
+{
+    let mut offer = Offer::none();
+    for term in terms {
+        offer = offer.joined(slacks, marks, term.coef, term.lit)?;
+    }
+    Some(offer)
+}
+
+/// What the costly literals of a clause are.
+fn offer_of_lits(slacks: &Slacks<'_>, marks: &Marks, lits: &[Lit]) -> Option<Offer>
+    requires variables { All (λ t. (1 ≤ t.lit.var) × (t.lit.var ≤ slacks.now.vars)) (map unit_term lits.now) }
+    requires marks { length marks.now ≡ slacks.now.vars }
+    requires fits { sum_by (λ t. t.coef) (map unit_term lits.now) < 2 ^ 64 }
+    ensures some { ForSome result (λ offer. (offer ≡ offer_of slacks.now.form.objective slacks.now.trail (map unit_term lits.now)) × (meets_marks slacks.now.trail marks.now (map unit_term lits.now) ≡ false)) }
+    ensures none { result ≡ None → meets_marks slacks.now.trail marks.now (map unit_term lits.now) ≡ true }
+{
+    let mut offer = Offer::none();
+    for lit in lits {
+        offer = offer.joined(slacks, marks, 1, *lit)?;
+    }
+    Some(offer)
+}
+
+/// Marks the row's variables that have no value.
+fn mark(marks: &mut Marks, slacks: &Slacks<'_>, terms: RowTerms<'_>)
+    requires variables { All (λ t. (1 ≤ t.lit.var) × (t.lit.var ≤ slacks.now.vars)) (terms_in terms) }
+    requires marks { length marks.old ≡ slacks.now.vars }
+    ensures { marks.new ≡ marked_by slacks.now.trail marks.old (terms_in terms.entry) }
+{
+    match terms {
+        RowTerms::Weighted(terms) => mark_terms(marks, slacks, terms),
+        RowTerms::Units(lits) => mark_lits(marks, slacks, lits),
+    }
+}
+
+/// Marks the variables of the terms that have no value.
+fn mark_terms(marks: &mut Marks, slacks: &Slacks<'_>, terms: &[PositiveTerm])
+    requires variables { All (λ t. (1 ≤ t.lit.var) × (t.lit.var ≤ slacks.now.vars)) terms.now }
+    requires marks { length marks.old ≡ slacks.now.vars }
+    ensures { marks.new ≡ marked_by slacks.now.trail marks.old terms.now }
+{
+    for term in terms {
+        mark_free(marks, slacks, term.lit);
+    }
+}
+
+/// Marks the variables of the literals that have no value.
+fn mark_lits(marks: &mut Marks, slacks: &Slacks<'_>, lits: &[Lit])
+    requires variables { All (λ t. (1 ≤ t.lit.var) × (t.lit.var ≤ slacks.now.vars)) (map unit_term lits.now) }
+    requires marks { length marks.old ≡ slacks.now.vars }
+    ensures { marks.new ≡ marked_by slacks.now.trail marks.old (map unit_term lits.now) }
+{
+    for lit in lits {
+        mark_free(marks, slacks, *lit);
+    }
+}
+
+/// Marks the literal's variable where it has no value.
+fn mark_free(marks: &mut Marks, slacks: &Slacks<'_>, lit: Lit)
+    requires variable { (1 ≤ lit.var) × (lit.var ≤ slacks.now.vars) }
+    requires marks { length marks.old ≡ slacks.now.vars }
+    ensures { marks.new ≡ (if is_free slacks.now.trail lit then slice_set marks.old (lit.var - 1) true else marks.old) }
+{
+    if slacks.value(lit.var()).is_some() {
+        return;
+    }
+    marks.mark(lit.var());
+}
+
+/// What the row adds where it is picked, else 0. A picked row's variables without a value are marked.
+fn pick(needs: &Needs, marks: &mut Marks, slacks: &Slacks<'_>, row: usize) -> Magnitude
+    requires row { row < length slacks.now.rows }
+    requires needs { AreNeeds slacks.now needs.now }
+    requires counted { needs.now.counted ≡ length slacks.now.trail }
+    requires marks { length marks.old ≡ slacks.now.vars }
+    ensures extra { result ≡ (if is_picked slacks.now.form.objective slacks.now.trail marks.old (row_at slacks.now.rows row) then extra slacks.now.form.objective slacks.now.trail (row_at slacks.now.rows row) else 0) }
+    ensures marks { marks.new ≡ (if is_picked slacks.now.form.objective slacks.now.trail marks.old (row_at slacks.now.rows row) then marked_by slacks.now.trail marks.old (row_at slacks.now.rows row).terms else marks.old) }
+{
+    let tables = slacks.tables();
+    let (_vars, _length) = (tables.vars(), slacks.len());
+    let terms = tables.terms(row);
+    match offer_in(slacks, marks, terms) {
+        None => 0,
+        Some(offer) => {
+            let extra = offer.extra(needs.need(row));
+            if extra == 0 {
+                return 0;
+            }
+            mark(marks, slacks, terms);
+            extra
+        }
+    }
+}
+
+/// The extras of the rows that are picked in order.
+pub fn extras(needs: &Needs, marks: &mut Marks, slacks: &Slacks<'_>) -> Magnitude
+    requires needs { AreNeeds slacks.now needs.now }
+    requires counted { needs.now.counted ≡ length slacks.now.trail }
+    requires marks { length marks.old ≡ slacks.now.vars }
+    ensures extras { result ≡ extras slacks.now.form.objective slacks.now.trail (replicate slacks.now.vars false) slacks.now.rows }
+    ensures marks { length marks.new ≡ length marks.old }
+{
+    marks.clear();
+    let _vars = slacks.tables().vars();
+    let mut sum = 0;
+    let mut from = 0;
+    while let Some(row) = needs.next(from) {
+        sum += pick(needs, marks, slacks, row);
+        from = row + 1;
+    }
+    sum
+}

@@ -1,0 +1,337 @@
+//! What the trail pays, and what each row needs of literals that cost.
+
+ghost use Rattle.std.specs.Prelude.{◌≡◌, ℕ, ◌+◌, ◌-◌, ◌^◌, ◌<◌, ◌≤◌, None, [], length, map, take, All, IfOk, OnOk, slice_index, sum_by, nat_lt, if◌then◌else◌};
+ghost use Rattle.std.specs.Option.{ForSome};
+ghost use Rattle.pb_engine.specs.RowSet.{HasNoneBetween};
+ghost use Rattle.pb_engine.specs.declared.needs.TheConstants.{MET};
+ghost use Rattle.pb_engine.specs.Clauses.{unit_term};
+ghost use Rattle.pb_engine.specs.Constraints.{row_at};
+ghost use Rattle.pb_engine.specs.DisjointRows.{spare, gain, loss};
+ghost use Rattle.pb_engine.specs.Index.{total_for};
+ghost use Rattle.pb_engine.specs.Needs.{AreNeeds, IsLackOf, wants};
+ghost use Rattle.pb_engine.specs.Tables.{terms_in};
+ghost use Rattle.pb_engine.specs.Trail.{negation, weight_of};
+
+use crate::occurrences::{Occurrence, UnitOccurrence};
+use crate::row_set::RowSet;
+use crate::slacks::Slacks;
+use crate::tables::{RowTerms, Tables};
+use pb_inst::{Lit, Magnitude, Memory};
+use pb_normal::PositiveTerm;
+use std::alloc::Global;
+
+/// 2^63: what a row lacks that needs nothing more.
+pub const MET: Magnitude = 9_223_372_036_854_775_808;
+
+/// What the first literals of a trail pay, and what each row lacks after them: 2^63 more than its degree less what it has at
+/// no cost, since it may have more than its degree. Rows that lack more than 2^63 stand in a set.
+#[derive(Debug, Drop)]
+pub struct Needs {
+    counted: usize,
+    paid: Magnitude,
+    lacks: Vec<Magnitude>,
+    wanting: RowSet,
+}
+
+impl Needs {
+    /// No literal is counted.
+    pub fn new(alloc: Global, slacks: &Slacks<'_>) -> Result<Needs, Memory>
+        ensures { IfOk result (λ needs. AreNeeds slacks.now needs) }
+    {
+        let lacks = lacks_of(alloc, slacks.tables())?;
+        let wanting = wanting_of(alloc, &lacks)?;
+        Ok(Needs {
+            counted: 0,
+            paid: 0,
+            lacks,
+            wanting,
+        })
+    }
+
+    /// Counts the literals of the trail that were not counted yet.
+    pub fn count(&mut self, slacks: &Slacks<'_>)
+        requires { AreNeeds slacks.now self.old }
+        ensures needs { AreNeeds slacks.now self.new }
+        ensures all { self.new.counted ≡ length slacks.now.trail }
+    {
+        while self.counted < slacks.len() {
+            self.count_next(slacks);
+        }
+    }
+
+    /// Takes back the literals of the trail from a place on.
+    pub fn take_back(&mut self, slacks: &Slacks<'_>, start: usize)
+        requires { AreNeeds slacks.now self.old }
+        ensures needs { AreNeeds slacks.now self.new }
+        ensures before { self.new.counted ≤ start }
+    {
+        while self.counted > start {
+            self.take_back_last(slacks);
+        }
+    }
+
+    /// What the counted literals pay.
+    pub fn paid(&self) -> Magnitude
+        ensures { result ≡ self.now.paid }
+    {
+        self.paid
+    }
+
+    /// The first row from a row on that needs costly literals, or none.
+    pub fn next(&self, from: usize) -> Option<usize>
+        ensures some { ForSome result (λ row. (from ≤ row) × (row < length self.now.wanting) × HasNoneBetween self.now.wanting from row) }
+        ensures none { result ≡ None → HasNoneBetween self.now.wanting from (length self.now.wanting) }
+    {
+        self.wanting.next(from)
+    }
+
+    /// What the costly literals of the row must reach.
+    pub fn need(&self, row: usize) -> Magnitude
+        requires { row < length self.now.lacks.items }
+        ensures { result ≡ slice_index self.now.lacks.items row - MET }
+    {
+        self.lacks[row].saturating_sub(MET)
+    }
+
+    /// Counts the next literal.
+    fn count_next(&mut self, slacks: &Slacks<'_>)
+        requires needs { AreNeeds slacks.now self.old }
+        requires next { self.old.counted < length slacks.now.trail }
+        ensures needs { AreNeeds slacks.now self.new }
+        ensures counted { self.new.counted ≡ self.old.counted + 1 }
+    {
+        let tables = slacks.tables();
+        let (_vars, _length) = (tables.vars(), slacks.len());
+        let lit = slacks.literal(self.counted);
+        join(&mut self.lacks, &mut self.wanting, tables, lit);
+        self.paid += tables.cost(lit);
+        self.counted += 1;
+    }
+
+    /// Takes back the last literal that is counted.
+    fn take_back_last(&mut self, slacks: &Slacks<'_>)
+        requires needs { AreNeeds slacks.now self.old }
+        requires some { 0 < self.old.counted }
+        ensures needs { AreNeeds slacks.now self.new }
+        ensures counted { self.new.counted + 1 ≡ self.old.counted }
+    {
+        let tables = slacks.tables();
+        let (_vars, _length) = (tables.vars(), slacks.len());
+        let lit = slacks.literal(self.counted - 1);
+        leave(&mut self.lacks, &mut self.wanting, tables, lit);
+        self.paid -= tables.cost(lit);
+        self.counted -= 1;
+    }
+}
+
+/// What the rows lack once the literal joins the trail.
+fn join(lacks: &mut [Magnitude], wanting: &mut RowSet, tables: &Tables<'_>, lit: Lit)
+    requires variable { lit.var ≤ tables.now.vars }
+    requires count { length lacks.old ≡ length tables.now.rows }
+    requires enough { (r : ℕ) → r < length lacks.old → gain tables.now.form.objective lit (row_at tables.now.rows r).terms ≤ slice_index lacks.old r }
+    requires fits { (r : ℕ) → r < length lacks.old → slice_index lacks.old r + loss tables.now.form.objective (negation lit) (row_at tables.now.rows r).terms < 2 ^ 64 + gain tables.now.form.objective lit (row_at tables.now.rows r).terms }
+    requires wanting { wanting.old ≡ wants lacks.old }
+    ensures count { length lacks.new ≡ length lacks.old }
+    ensures changed { (r : ℕ) → r < length lacks.old → slice_index lacks.new r + gain tables.now.form.objective lit (row_at tables.now.rows r).terms ≡ slice_index lacks.old r + loss tables.now.form.objective (negation lit) (row_at tables.now.rows r).terms }
+    ensures wanting { wanting.new ≡ wants lacks.new }
+{
+    let negation = lit.negate();
+    lower_if(tables.cost(lit) > 0, lacks, wanting, tables, lit);
+    raise_if(tables.cost(negation) == 0, lacks, wanting, tables, negation);
+}
+
+/// What the rows lack once the literal leaves the trail.
+fn leave(lacks: &mut [Magnitude], wanting: &mut RowSet, tables: &Tables<'_>, lit: Lit)
+    requires variable { lit.var ≤ tables.now.vars }
+    requires count { length lacks.old ≡ length tables.now.rows }
+    requires enough { (r : ℕ) → r < length lacks.old → loss tables.now.form.objective (negation lit) (row_at tables.now.rows r).terms ≤ slice_index lacks.old r }
+    requires fits { (r : ℕ) → r < length lacks.old → slice_index lacks.old r + gain tables.now.form.objective lit (row_at tables.now.rows r).terms < 2 ^ 64 + loss tables.now.form.objective (negation lit) (row_at tables.now.rows r).terms }
+    requires wanting { wanting.old ≡ wants lacks.old }
+    ensures count { length lacks.new ≡ length lacks.old }
+    ensures changed { (r : ℕ) → r < length lacks.old → slice_index lacks.new r + loss tables.now.form.objective (negation lit) (row_at tables.now.rows r).terms ≡ slice_index lacks.old r + gain tables.now.form.objective lit (row_at tables.now.rows r).terms }
+    ensures wanting { wanting.new ≡ wants lacks.new }
+{
+    let negation = lit.negate();
+    lower_if(tables.cost(negation) == 0, lacks, wanting, tables, negation);
+    raise_if(tables.cost(lit) > 0, lacks, wanting, tables, lit);
+}
+
+/// Takes the literal's coefficients from what its rows lack, if it is to.
+fn lower_if(
+    wanted: bool,
+    lacks: &mut [Magnitude],
+    wanting: &mut RowSet,
+    tables: &Tables<'_>,
+    lit: Lit,
+)
+    requires variable { lit.var ≤ tables.now.vars }
+    requires count { length lacks.old ≡ length tables.now.rows }
+    requires enough { (r : ℕ) → r < length lacks.old → (if wanted then weight_of lit (row_at tables.now.rows r).terms else 0) ≤ slice_index lacks.old r }
+    requires wanting { wanting.old ≡ wants lacks.old }
+    ensures count { length lacks.new ≡ length lacks.old }
+    ensures lowered { (r : ℕ) → r < length lacks.old → slice_index lacks.new r + (if wanted then weight_of lit (row_at tables.now.rows r).terms else 0) ≡ slice_index lacks.old r }
+    ensures wanting { wanting.new ≡ wants lacks.new }
+{
+    if !wanted {
+        return;
+    }
+    lower(lacks, wanting, tables.occurrences(lit));
+    lower_units(lacks, wanting, tables.units(lit));
+}
+
+/// Adds the literal's coefficients to what its rows lack, if it is to.
+fn raise_if(
+    wanted: bool,
+    lacks: &mut [Magnitude],
+    wanting: &mut RowSet,
+    tables: &Tables<'_>,
+    lit: Lit,
+)
+    requires variable { lit.var ≤ tables.now.vars }
+    requires count { length lacks.old ≡ length tables.now.rows }
+    requires fits { (r : ℕ) → r < length lacks.old → slice_index lacks.old r + (if wanted then weight_of lit (row_at tables.now.rows r).terms else 0) < 2 ^ 64 }
+    requires wanting { wanting.old ≡ wants lacks.old }
+    ensures count { length lacks.new ≡ length lacks.old }
+    ensures raised { (r : ℕ) → r < length lacks.old → slice_index lacks.new r ≡ slice_index lacks.old r + (if wanted then weight_of lit (row_at tables.now.rows r).terms else 0) }
+    ensures wanting { wanting.new ≡ wants lacks.new }
+{
+    if !wanted {
+        return;
+    }
+    raise(lacks, wanting, tables.occurrences(lit));
+    raise_units(lacks, wanting, tables.units(lit));
+}
+
+/// Takes the coefficients of the occurrences from what their rows lack.
+fn lower(lacks: &mut [Magnitude], wanting: &mut RowSet, occurrences: &[Occurrence])
+    requires rows_exist { All (λ o. o.row < length lacks.old) occurrences.now }
+    requires enough { (r : ℕ) → r < length lacks.old → total_for r occurrences.now ≤ slice_index lacks.old r }
+    requires wanting { wanting.old ≡ wants lacks.old }
+    ensures lowered { (r : ℕ) → r < length lacks.old → slice_index lacks.new r + total_for r occurrences.now ≡ slice_index lacks.old r }
+    ensures wanting { wanting.new ≡ wants lacks.new }
+{
+    for occurrence in occurrences {
+        let row = occurrence.row;
+        lacks[row] -= occurrence.coef;
+        wanting.put(row, lacks[row] > MET);
+    }
+}
+
+/// Takes 1 for each occurrence from what its row lacks.
+fn lower_units(lacks: &mut [Magnitude], wanting: &mut RowSet, occurrences: &[UnitOccurrence])
+    requires rows_exist { All (λ o. o.row < length lacks.old) occurrences.now }
+    requires enough { (r : ℕ) → r < length lacks.old → total_for r occurrences.now ≤ slice_index lacks.old r }
+    requires wanting { wanting.old ≡ wants lacks.old }
+    ensures lowered { (r : ℕ) → r < length lacks.old → slice_index lacks.new r + total_for r occurrences.now ≡ slice_index lacks.old r }
+    ensures wanting { wanting.new ≡ wants lacks.new }
+{
+    for occurrence in occurrences {
+        let row = occurrence.row();
+        lacks[row] -= 1;
+        wanting.put(row, lacks[row] > MET);
+    }
+}
+
+/// Adds the coefficients of the occurrences to what their rows lack.
+fn raise(lacks: &mut [Magnitude], wanting: &mut RowSet, occurrences: &[Occurrence])
+    requires rows_exist { All (λ o. o.row < length lacks.old) occurrences.now }
+    requires fits { (r : ℕ) → r < length lacks.old → slice_index lacks.old r + total_for r occurrences.now < 2 ^ 64 }
+    requires wanting { wanting.old ≡ wants lacks.old }
+    ensures raised { (r : ℕ) → r < length lacks.old → slice_index lacks.new r ≡ slice_index lacks.old r + total_for r occurrences.now }
+    ensures wanting { wanting.new ≡ wants lacks.new }
+{
+    for occurrence in occurrences {
+        let row = occurrence.row;
+        lacks[row] += occurrence.coef;
+        wanting.put(row, lacks[row] > MET);
+    }
+}
+
+/// Adds 1 for each occurrence to what its row lacks.
+fn raise_units(lacks: &mut [Magnitude], wanting: &mut RowSet, occurrences: &[UnitOccurrence])
+    requires rows_exist { All (λ o. o.row < length lacks.old) occurrences.now }
+    requires fits { (r : ℕ) → r < length lacks.old → slice_index lacks.old r + total_for r occurrences.now < 2 ^ 64 }
+    requires wanting { wanting.old ≡ wants lacks.old }
+    ensures raised { (r : ℕ) → r < length lacks.old → slice_index lacks.new r ≡ slice_index lacks.old r + total_for r occurrences.now }
+    ensures wanting { wanting.new ≡ wants lacks.new }
+{
+    for occurrence in occurrences {
+        let row = occurrence.row();
+        lacks[row] += 1;
+        wanting.put(row, lacks[row] > MET);
+    }
+}
+
+/// What each row lacks before any literal is counted.
+fn lacks_of(alloc: Global, tables: &Tables<'_>) -> Result<Vec<Magnitude>, Memory>
+    ensures count { IfOk result (λ lacks. length lacks.items ≡ length tables.now.rows) }
+    ensures each { IfOk result (λ lacks. (r : ℕ) → r < length tables.now.rows → IsLackOf tables.now.form.objective [] (row_at tables.now.rows r) (slice_index lacks.items r)) }
+{
+    let mut lacks = Vec::with_capacity(alloc, tables.len())?;
+    for row in 0..tables.len() {
+        lacks.push(lack_of(tables, row))?;
+    }
+    Ok(lacks)
+}
+
+/// What the row lacks before any literal is counted.
+fn lack_of(tables: &Tables<'_>, row: usize) -> Magnitude
+    requires { row < length tables.now.rows }
+    ensures { IsLackOf tables.now.form.objective [] (row_at tables.now.rows row) result }
+{
+    let _vars = tables.vars();
+    MET - at_no_cost(tables, tables.terms(row)) + tables.degree(row)
+}
+
+/// What the row has at no cost before any literal is counted.
+fn at_no_cost(tables: &Tables<'_>, terms: RowTerms<'_>) -> Magnitude
+    requires variables { All (λ t. t.lit.var ≤ tables.now.vars) (terms_in terms) }
+    requires fits { sum_by (λ t. t.coef) (terms_in terms) < 2 ^ 64 }
+    ensures { result ≡ spare tables.now.form.objective [] (terms_in terms.entry) }
+{
+    match terms {
+        RowTerms::Weighted(terms) => costless(tables, terms),
+        RowTerms::Units(lits) => costless_units(tables, lits),
+    }
+}
+
+/// The sum of the coefficients of literals without cost.
+fn costless(tables: &Tables<'_>, terms: &[PositiveTerm]) -> Magnitude
+    requires variables { All (λ t. t.lit.var ≤ tables.now.vars) terms.now }
+    requires fits { sum_by (λ t. t.coef) terms.now < 2 ^ 64 }
+    ensures { result ≡ spare tables.now.form.objective [] terms.now }
+{
+    let mut sum = 0;
+    for term in terms {
+        if tables.cost(term.lit) == 0 {
+            sum += term.coef;
+        }
+    }
+    sum
+}
+
+/// The number of literals without cost.
+fn costless_units(tables: &Tables<'_>, lits: &[Lit]) -> Magnitude
+    requires variables { All (λ l. l.var ≤ tables.now.vars) lits.now }
+    ensures { result ≡ spare tables.now.form.objective [] (map unit_term lits.now) }
+{
+    let mut sum = 0;
+    for lit in lits {
+        if tables.cost(*lit) == 0 {
+            sum += 1;
+        }
+    }
+    sum
+}
+
+/// The rows that need costly literals.
+fn wanting_of(alloc: Global, lacks: &[Magnitude]) -> Result<RowSet, Memory>
+    requires { length lacks.now < 2 ^ 63 }
+    ensures { IfOk result (λ wanting. wanting ≡ wants lacks.now) }
+{
+    let mut wanting = RowSet::new(alloc, lacks.len())?;
+    for row in 0..lacks.len() {
+        wanting.put(row, lacks[row] > MET);
+    }
+    Ok(wanting)
+}
