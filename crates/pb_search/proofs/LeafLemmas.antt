@@ -1,15 +1,17 @@
 -- Full trails, and subtrees that may be left.
-use Rattle.std.proofs.Common.{◌≡◌, ◌≢◌, ℕ, ◌+◌, ◌-◌, List, length, refl, sym, ◌∙◌, ap, subst, arith, Bool, true, false, cond, inl, inr, ◌⊎◌, Option, None, Some}
+use Rattle.std.proofs.Common.{◌≡◌, ◌≢◌, ℕ, ◌+◌, ◌-◌, ◌*◌, ◌<◌, ◌≤◌, ◌==◌, min, List, length, refl, sym, ◌∙◌, ap, subst, arith, Bool, true, false, cond, inl, inr, ◌⊎◌, Option, None, Some}
 use Rattle.std.specs.Prelude.{slice_index_or, unwrap_or, ℤ, ◌<ℤ◌, ◌≤ℤ◌, IsSomeAnd}
 use Rattle.std.specs.Option.{option_map}
 use Rattle.std.proofs.lemmas.List.{ext_get_or}
 use Rattle.std.proofs.Math.ListN.{get_or-eq_default}
 use Rattle.std.proofs.lemmas.Bool.{cases_lt}
 use Rattle.std.proofs.lemmas.Int.{ints}
+use Rattle.std.proofs.lemmas.Nat.Bits.{bit_at-zero}
 use Rattle.pb_inst.specs.Literal.{Literal}
 use Rattle.pb_inst.specs.Problem.{Problem}
 use Rattle.pb_inst.specs.Meaning.{literal_value, IsFeasible, cost}
 use Rattle.pb_inst.specs.Order.{IsBefore}
+use Rattle.pb_inst.specs.Words.{has_bit}
 use Rattle.pb_inst.specs.Cubes.{MakesTrue}
 use Rattle.pb_inst.specs.Incumbent.{Incumbent, Solution, IsSolution, solution_of}
 use Rattle.pb_inst.proofs.OrderProofs.{none_before_itself}
@@ -20,7 +22,7 @@ use Rattle.pb_engine.specs.EngineState.{EngineState}
 use Rattle.pb_engine.specs.Soundness.{IsFull, IsSolved, IsSoundTrail}
 use Rattle.pb_search.specs.Held.{IsImprovement}
 use Rattle.pb_search.specs.Solutions.{Completes}
-use Rattle.pb_search.specs.Trees.{IsEngineOf, IsFilledFrom, IsClosed, IsNotBefore, AgreesBelow, DifferFirstAt, bit_on}
+use Rattle.pb_search.specs.Trees.{IsEngineOf, IsFilledFrom, IsClosed, IsNotBefore, DifferAt, HasOnesWithin, bit_on}
 use Rattle.pb_search.proofs.HeldLemmas.{IsTaken}
 use Rattle.pb_search.proofs.Engines.{value_on-true, value_on-entry}
 
@@ -102,11 +104,15 @@ one_within trail a all k one = bit_of_true a k true (value_on-true a trail (k + 
 not_both : (b : Bool) → b ≡ true → b ≡ false → ⊥
 not_both b h k = let e : true ≡ false = sym h ∙ k in let bad : ⊥ = cc in bad
 
--- where the trail with zeros elsewhere is the assignment itself
-pub same_not_before : (trail : List Literal) (b : List Bool) → AgreesBelow trail b (length b) → IsNotBefore trail b
-same_not_before trail b same a all h =
+-- a place that is true on the trail is 1 wherever the trail is true
+true_within : (trail : List Literal) (a : List Bool) → MakesTrue a trail → (k : ℕ) → value_on trail (k + 1) ≡ Some true → at a k ≡ true
+true_within trail a all k one = bit_of_true a k true (value_on-true a trail (k + 1) true all one)
+
+-- where the trail has every 1 of the assignment
+pub ones_not_before : (trail : List Literal) (b : List Bool) → HasOnesWithin trail b 0 (length b) → IsNotBefore trail b
+ones_not_before trail b ones a all h =
     elim (cases_lt h.place (length b)) [
-      | inl lt ↦ not_both (at a h.place) (one_within trail a all h.place (sym (same h.place lt) ∙ h.second_has_one)) h.first_has_zero
+      | inl lt ↦ not_both (at a h.place) (true_within trail a all h.place (ones h.place (omega arith) lt h.second_has_one)) h.first_has_zero
       | inr over ↦ not_both (at b h.place) h.second_has_one (get_or-eq_default b false over)
     ]
 
@@ -114,18 +120,27 @@ other_bit : (x y : Bool) → x ≡ false → ¬ (x ≡ y) → y ≡ true
 other_bit x true e other = refl
 other_bit x false e other = absurd (other e)
 
--- where the trail has 1 at the first difference
-pub later_not_before : (trail : List Literal) (b : List Bool) (var : ℕ) → DifferFirstAt trail b var → at b (var - 1) ≡ false → IsNotBefore trail b
-later_not_before trail b var first zero_there a all h =
-    let one : bit_on trail (var - 1) ≡ true = other_bit (at b (var - 1)) (bit_on trail (var - 1)) zero_there first.differ in
+-- where the trail has every 1 of the assignment up to a variable, and there 1 where the assignment has 0
+pub later_not_before : (trail : List Literal) (b : List Bool) (var : ℕ) → DifferAt trail b var → at b (var - 1) ≡ false → HasOnesWithin trail b 0 var → IsNotBefore trail b
+later_not_before trail b var there zero_there ones a all h =
+    let one : bit_on trail (var - 1) ≡ true = other_bit (at b (var - 1)) (bit_on trail (var - 1)) zero_there there.differ in
     let one_in : at a (var - 1) ≡ true = one_within trail a all (var - 1) one in
-    elim (cases_lt h.place (var - 1)) [
-      | inl lt ↦ not_both (at a h.place) (one_within trail a all h.place (sym (first.same_before h.place lt) ∙ h.second_has_one)) h.first_has_zero
-      | inr rest ↦ elim (cases_lt (var - 1) h.place) [
-        | inl lt ↦ not_both (at b (var - 1)) (sym (h.same_before (var - 1) lt) ∙ one_in) zero_there
-        | inr also ↦ let same : var - 1 ≡ h.place = omega arith in not_both (at b h.place) h.second_has_one (subst (λ (k : ℕ). at b k ≡ false) same zero_there)
-      ]
+    let from_one : 1 ≤ var = there.from_one in
+    elim (cases_lt h.place var) [
+      | inl lt ↦ not_both (at a h.place) (true_within trail a all h.place (ones h.place (omega arith) lt h.second_has_one)) h.first_has_zero
+      | inr rest ↦ not_both (at b (var - 1)) (sym (h.same_before (var - 1) (omega arith)) ∙ one_in) zero_there
     ]
+
+zero_has_no_bit : (k : ℕ) → has_bit 0 k ≡ false
+zero_has_no_bit k = ap (λ (b : ℕ). b == 1) (bit_at-zero k)
+
+-- where a word of the assignment is 0, it has no 1 there
+pub no_ones : (trail : List Literal) (b : List Bool) (i count word : ℕ) → word ≡ 0 → ((k : ℕ) → k < 64 → at b (64 * i + k) ≡ has_bit word k) → HasOnesWithin trail b (64 * i) (min (64 * i + 64) count)
+no_ones trail b i count word zero bits k low high one =
+    let place : 64 * i + (k - 64 * i) ≡ k = omega arith in
+    let bit : at b (64 * i + (k - 64 * i)) ≡ has_bit word (k - 64 * i) = bits (k - 64 * i) (omega arith) in
+    let none : at b k ≡ false = sym (ap (λ (n : ℕ). at b n) place) ∙ bit ∙ ap (λ (n : ℕ). has_bit n (k - 64 * i)) zero ∙ zero_has_no_bit (k - 64 * i) in
+    absurd (not_both (at b k) one none)
 
 -- a bound above the best cost
 pub closed_above : (p : Problem) (s : EngineState) (bound : ℤ) (t : Solution) → IsEngineOf p s → IsLowerBound s.form s.rows s.trail bound → IsSolution p t → t.cost <ℤ bound → IsClosed p s (Some t)

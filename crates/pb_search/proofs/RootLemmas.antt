@@ -1,6 +1,6 @@
 -- Assuming the literals of a cube, and what a search of a piece shows.
 use Rattle.std.proofs.Common.{◌≡◌, ◌≢◌, ℕ, ◌+◌, ◌-◌, ◌<◌, List, [], ◌∷◌, ◌++◌, length, take, refl, sym, ◌∙◌, ap, subst, arith, suc, zero, Bool, true, false, All, inl, inr, ◌⊎◌, Option, None, Some, ◌↔◌}
-use Rattle.std.specs.Prelude.{slice_index_or, slice_get, IsSomeAnd}
+use Rattle.std.specs.Prelude.{map, slice_index_or, slice_get, IsSomeAnd}
 use Rattle.std.specs.Option.{IfSome}
 use Rattle.std.proofs.lemmas.List.Elements.{All-nil, All-cons, All-append}
 use Rattle.std.proofs.lemmas.List.{take_more}
@@ -14,7 +14,7 @@ use Rattle.pb_normal.specs.NormalForm.{MeetsRows}
 use Rattle.pb_engine.specs.Trail.{value_on}
 use Rattle.pb_engine.specs.Completion.{HasNoCompletion}
 use Rattle.pb_engine.specs.EngineState.{EngineState}
-use Rattle.pb_engine.specs.Soundness.{assumptions, IsSoundTrail}
+use Rattle.pb_engine.specs.Soundness.{assumptions, literal_at, IsSoundTrail}
 use Rattle.pb_cubes.specs.Pieces.{LiesIn}
 use Rattle.pb_search.specs.Done.{Division, IsCandidate, IsDone}
 use Rattle.pb_search.specs.Held.{IsImprovement}
@@ -48,6 +48,20 @@ on_trail s l a sound is h all = value_on-true a s.trail l.var l.positive (sound.
 pub off_trail : (s : EngineState) (l : Literal) (v : Bool) (a : List Bool) → IsSoundTrail s → value_on s.trail l.var ≡ Some v → v ≢ l.positive → Satisfies s a → MakesTrue a (assumptions s) → ¬ True a l
 off_trail s l v a sound is other h all one =
     other (sym (sign_is v (slice_index_or a (l.var - 1) false) (on_trail s (record { var = l.var; positive = v }) a sound is h all)) ∙ sign_is l.positive (slice_index_or a (l.var - 1) false) one)
+
+-- where the trail has no assumptions and no completion, nothing meets the constraints
+pub refuted_at_root : (s t : EngineState) (a : List Bool) → SameConstraints s t → IsSoundTrail t → assumptions t ≡ [] → HasNoCompletion t.rows t.trail → ¬ Satisfies s a
+refuted_at_root s t a same sound root none h =
+    let sol = same_solution s t a same h in
+    none a (record { makes_true = sound.forced a sol.meets_rows (subst (λ (x : List Literal). MakesTrue a x) (sym root) (All-nil (True a))); meets_rows = sol.meets_rows })
+
+-- at level 0 there are no assumptions
+pub no_assumptions : (s : EngineState) → length s.levels ≡ 0 → assumptions s ≡ []
+no_assumptions s none = of_none s.levels none
+  where
+    of_none : (places : List ℕ) → length places ≡ 0 → map (λ place. literal_at s.trail place) places ≡ []
+    of_none [] e = refl
+    of_none (p ∷ places) e = absurd (omega (arith, e))
 
 -- from the root of a cube to the solutions that make it true
 pub root_solution : (s t : EngineState) (cube : List Literal) (a : List Bool) → SameConstraints s t → (MakesTrue a (assumptions t) ↔ MakesTrue a cube) → SatisfiesUnder s cube a → SatisfiesUnder t (assumptions t) a

@@ -1,9 +1,14 @@
 -- How a search is laid out: one tree for the cubes, and one for the remainder, which makes each cube false.
-use Rattle.std.specs.Prelude.{◌≡◌, Bool, List, All, ◌↔◌}
+use Rattle.std.specs.Prelude.{◌≡◌, ◌≤◌, Bool, List, [], All, ◌↔◌}
+use Rattle.pb_inst.specs.Literal.{Literal}
 use Rattle.pb_inst.specs.Problem.{Problem}
 use Rattle.pb_inst.specs.Meaning.{IsFeasible}
 use Rattle.pb_inst.specs.Cubes.{MakesFalse}
-use Rattle.pb_normal.specs.NormalForm.{MeetsRows}
+use Rattle.pb_inst.specs.declared.TheConstants.{MAX_VARS}
+use Rattle.pb_normal.specs.NormalForm.{MeetsRows, KeepsFeasible, KeepsCost}
+use Rattle.pb_engine.specs.Clauses.{AreClausesOf}
+use Rattle.pb_engine.specs.Table.{FormRows, ClauseRows}
+use Rattle.pb_engine.specs.Tables.{AreBeside}
 use Rattle.pb_cubes.specs.Pieces.{CubeList}
 use Rattle.pb_search.specs.declared.trees.Tree.{Tree}
 use Rattle.pb_search.specs.Trees.{IsTreeOf}
@@ -14,3 +19,19 @@ pub record IsLaidOut (p : Problem) (pieces : CubeList) (cube rest : Tree) : Type
   pub rest_tree : IsTreeOf p rest
   pub cube_rows : (a : List Bool) → IsFeasible p a → MeetsRows a cube.engine.rows
   pub rest_rows : (a : List Bool) → MeetsRows a rest.engine.rows ↔ (IsFeasible p a × All (λ cube. MakesFalse a cube) pieces.cubes)
+
+-- the cubes over the instance's variables
+abbrev pub pieces_of : Problem → List (List Literal) → CubeList
+pieces_of p cubes = record { vars = p.vars; cubes = cubes }
+
+-- the rows are those of a normal form of the instance; one table of clauses is of no cubes, the other of all
+pub record AreTables (p : Problem) (pieces : CubeList) (rows : FormRows) (none rest : ClauseRows) : Type 0 where
+  pub vars : rows.form.vars ≡ p.vars
+  pub few_variables : p.vars ≤ MAX_VARS
+  pub feasible : KeepsFeasible p rows.form
+  pub costs : KeepsCost p rows.form
+  pub piece_vars : pieces.vars ≡ p.vars
+  pub none_beside : AreBeside rows none
+  pub rest_beside : AreBeside rows rest
+  pub no_cubes : AreClausesOf [] none.rows
+  pub all_cubes : AreClausesOf pieces.cubes rest.rows

@@ -1,5 +1,5 @@
 -- What a search tree keeps true.
-use Rattle.std.specs.Prelude.{◌≡◌, ℕ, ◌+◌, ◌-◌, ◌<◌, ◌≤◌, Bool, false, List, [], ◌∷◌, ◌++◌, length, All, ◌⊎◌, IsSomeAnd, Option, None, vec_capacity, slice_index_or, unwrap_or}
+use Rattle.std.specs.Prelude.{◌≡◌, ℕ, ◌+◌, ◌-◌, ◌<◌, ◌≤◌, Bool, true, false, List, [], ◌∷◌, ◌++◌, length, All, ◌⊎◌, IsSomeAnd, Option, None, Some, vec_capacity, slice_index_or, unwrap_or}
 use Rattle.pb_inst.specs.Literal.{Literal}
 use Rattle.pb_inst.specs.Problem.{Problem}
 use Rattle.pb_inst.specs.Meaning.{IsFeasible}
@@ -66,12 +66,15 @@ IsFilledFrom trail a = (k : ℕ) → k < length a → slice_index_or a k false �
 abbrev pub AgreesBelow : List Literal → List Bool → ℕ → Type 0
 AgreesBelow trail a place = (k : ℕ) → k < place → slice_index_or a k false ≡ bit_on trail k
 
--- the variable is the first where the trail, with zeros elsewhere, and the assignment differ
-pub record DifferFirstAt (trail : List Literal) (a : List Bool) (var : ℕ) : Type 0 where
+-- the variable is one where the trail, with zeros elsewhere, and the assignment differ
+pub record DifferAt (trail : List Literal) (a : List Bool) (var : ℕ) : Type 0 where
   pub from_one : 1 ≤ var
   pub within : var ≤ length a
-  pub same_before : AgreesBelow trail a (var - 1)
   pub differ : ¬ (slice_index_or a (var - 1) false ≡ bit_on trail (var - 1))
+
+-- of the places from `start` to before `end`, each where the assignment has 1 is true on the trail
+abbrev pub HasOnesWithin : List Literal → List Bool → ℕ → ℕ → Type 0
+HasOnesWithin trail a start end = (k : ℕ) → start ≤ k → k < end → slice_index_or a k false ≡ true → value_on trail (k + 1) ≡ Some true
 
 -- whoever makes the trail true does not come before the assignment by its variables
 abbrev pub IsNotBefore : List Literal → List Bool → Type 0

@@ -1,6 +1,6 @@
 //! The root of a search: the literals of a cube are assumed.
 
-ghost use Rattle.std.specs.Prelude.{◌≡◌, ◌≤◌, ◌↔◌, ◌++◌, ◌∷◌, [], None, false, List, Bool, All};
+ghost use Rattle.std.specs.Prelude.{◌≡◌, ◌≤◌, ◌↔◌, ◌++◌, ◌∷◌, [], None, true, false, List, Bool, All};
 ghost use Rattle.pb_inst.specs.Cubes.{MakesTrue};
 ghost use Rattle.pb_inst.specs.Meaning.{literal_value};
 ghost use Rattle.pb_engine.specs.Trail.{value_on};
@@ -51,6 +51,33 @@ fn assume_free(engine: &mut Engine<'_>, lit: Lit) -> Step
     } else {
         Step::Fixed
     }
+}
+
+/// Takes back all assumptions, and adds what follows without any. A conflict means that no assignment meets the
+/// constraints; it stands from then on, so that it is found but once.
+pub fn return_to_root(engine: &mut Engine<'_>) -> Step
+    ensures constraints { SameConstraints engine.old engine.new }
+    ensures sound { IsSoundTrail engine.new }
+    ensures no_assumptions { result ≡ Step.Fixed → assumptions engine.new ≡ [] }
+    ensures no_conflict { result ≡ Step.Fixed → engine.new.conflict ≡ false }
+    ensures conflict { result ≡ Step.Conflict → (a : List Bool) → ¬ Satisfies engine.old a }
+{
+    if is_refuted(engine) {
+        return Step::Conflict;
+    }
+    engine.undo_to(0);
+    engine.propagate()
+}
+
+/// Whether a conflict stands that follows from no assumption.
+fn is_refuted(engine: &Engine<'_>) -> bool
+    ensures refuted { result ≡ true → (a : List Bool) → ¬ Satisfies engine.now a }
+    ensures sound { IsSoundTrail engine.now }
+{
+    if engine.level() > 0 {
+        return false;
+    }
+    engine.conflict()
 }
 
 /// Assumes the literals of a cube. A conflict means that no assignment that meets the constraints makes the cube true.

@@ -5,20 +5,19 @@ ghost use Rattle.pb_inst.specs.declared.TheConstants.{MAX_VARS};
 ghost use Rattle.pb_engine.specs.Trail.{value_on};
 ghost use Rattle.pb_engine.specs.Soundness.{IsFull};
 
-use crate::branches::Branch;
+use crate::branches::{Branch, Hints};
 use crate::outlooks::Outlook;
 use pb_engine::Engine;
 use pb_inst::{Lit, Number};
 
 /// A decision of a variable without a value, or none where every variable has one. Any such decision is right. Where the
 /// bound equals the best cost, the lowest variable up to the first difference to the best assignment comes first, 0
-/// first, so that the order of assignments soon decides; else the literals come in their order, of which `scanned`
-/// places are known to have values.
+/// first, so that the order of assignments soon decides; else the literals come in their order.
 pub fn next_decision(
     engine: &Engine<'_>,
     vars: u32,
     order: &[Lit],
-    scanned: usize,
+    hints: Hints,
     outlook: Outlook,
     bound: Number,
 ) -> Option<Branch>
@@ -28,18 +27,18 @@ pub fn next_decision(
     ensures fresh { IfSome result (λ b. b.flipped ≡ false) }
     ensures full { IfNone result (IsFull engine.now) }
 {
-    if let Some(lit) = tied_literal(engine, vars, outlook) {
-        return Some(decision(lit, bound, scanned));
+    if let Some(branch) = tied_decision(engine, vars, hints, outlook, bound) {
+        return Some(branch);
     }
-    if let Some(branch) = ordered_decision(engine, vars, order, scanned, bound) {
+    if let Some(branch) = ordered_decision(engine, vars, order, hints, bound) {
         return Some(branch);
     }
     let lit = lowest_free(engine, vars)?;
-    Some(decision(lit, bound, scanned))
+    Some(decision(lit, bound, hints))
 }
 
 /// The decision for the literal, the first one of its variable.
-fn decision(lit: Lit, bound: Number, scanned: usize) -> Branch
+fn decision(lit: Lit, bound: Number, hints: Hints) -> Branch
     ensures literal { result.lit ≡ lit }
     ensures fresh { result.flipped ≡ false }
 {
@@ -47,38 +46,52 @@ fn decision(lit: Lit, bound: Number, scanned: usize) -> Branch
         lit,
         flipped: false,
         bound,
-        scanned,
+        hints,
     }
 }
 
 /// Where the bound equals the best cost: the negated lowest variable without a value, up to the first difference.
-fn tied_literal(engine: &Engine<'_>, vars: u32, outlook: Outlook) -> Option<Lit>
+fn tied_decision(
+    engine: &Engine<'_>,
+    vars: u32,
+    hints: Hints,
+    outlook: Outlook,
+    bound: Number,
+) -> Option<Branch>
     requires variables { vars ≡ engine.now.vars }
     requires few { vars ≤ MAX_VARS }
-    ensures free { IfSome result (λ l. (l.var ≤ vars) × (value_on engine.now.trail l.var ≡ None)) }
+    ensures free { IfSome result (λ b. (b.lit.var ≤ vars) × (value_on engine.now.trail b.lit.var ≡ None)) }
+    ensures fresh { IfSome result (λ b. b.flipped ≡ false) }
 {
-    match outlook {
-        Outlook::Tied(var) => lowest_free(engine, var.min(vars)),
-        _ => None,
+    let Outlook::Tied(var) = outlook else {
+        return None;
+    };
+    for place in hints.settled..var.min(vars) {
+        if engine.value(place + 1).is_none() {
+            let lit = Lit::new(place + 1, false).ok()?;
+            let settled = place;
+            return Some(decision(lit, bound, Hints { settled, ..hints }));
+        }
     }
+    None
 }
 
-/// The first literal of the order, from a place on, whose variable has no value.
+/// The first literal of the order whose variable has no value, from the place on that the hints tell.
 fn ordered_decision(
     engine: &Engine<'_>,
     vars: u32,
     order: &[Lit],
-    scanned: usize,
+    hints: Hints,
     bound: Number,
 ) -> Option<Branch>
     requires variables { vars ≡ engine.now.vars }
     ensures free { IfSome result (λ b. (b.lit.var ≤ vars) × (value_on engine.now.trail b.lit.var ≡ None)) }
     ensures fresh { IfSome result (λ b. b.flipped ≡ false) }
 {
-    for place in scanned..order.len() {
-        let lit = order[place];
+    for scanned in hints.scanned..order.len() {
+        let lit = order[scanned];
         if is_free(engine, vars, lit) {
-            return Some(decision(lit, bound, place));
+            return Some(decision(lit, bound, Hints { scanned, ..hints }));
         }
     }
     None

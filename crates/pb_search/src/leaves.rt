@@ -51,8 +51,8 @@ pub fn take_leaf<S: Share>(
     }
 }
 
-/// Asks the share for an assignment, and takes it over where it is feasible and an improvement.
-pub fn borrow<S: Share>(scratch: &mut Assignment, best: &mut Best<'_>, share: &mut S)
+/// Asks the share for an assignment, and takes it over where it is feasible and an improvement. Answers whether it did.
+pub fn borrow<S: Share>(scratch: &mut Assignment, best: &mut Best<'_>, share: &mut S) -> bool
     requires room { length scratch.old ≡ best.old.problem.vars }
     ensures same_length { length scratch.new ≡ length scratch.old }
     ensures moves_on { MovesOn best.old best.new }
@@ -62,7 +62,8 @@ pub fn borrow<S: Share>(scratch: &mut Assignment, best: &mut Best<'_>, share: &m
     ensures same_lending { S.lends share.new ≡ S.lends share.old }
 {
     let below = best.cost().unwrap_or(Number::MAX);
-    if share.borrow(below, scratch) {
-        best.take(scratch);
+    if !share.borrow(below, scratch) {
+        return false;
     }
+    best.take(scratch)
 }

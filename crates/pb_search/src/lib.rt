@@ -11,8 +11,12 @@ mod outlooks;
 mod paths;
 mod searches;
 mod shares;
+mod tables;
+#[cfg(test)]
+mod tests;
 mod trees;
 mod visits;
 
 pub use searches::Search;
 pub use shares::{Alone, Share};
+pub use tables::SearchTables;

@@ -71,6 +71,6 @@ fn other_value(branch: &Branch) -> Branch
         lit: branch.lit.negate(),
         flipped: true,
         bound: branch.bound,
-        scanned: branch.scanned,
+        hints: branch.hints,
     }
 }

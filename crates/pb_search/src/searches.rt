@@ -9,8 +9,9 @@ ghost use Rattle.pb_search.specs.Solutions.{SameConstraints, SatisfiesUnder};
 ghost use Rattle.pb_search.specs.Trees.{IsTreeOf};
 
 use crate::Share;
-use crate::cubes::assume_cube;
+use crate::cubes::{assume_cube, return_to_root};
 use crate::leaves::borrow;
+use crate::tables::SearchTables;
 use crate::trees::Tree;
 use crate::visits::explore;
 use pb_cubes::{Piece, Pieces};
@@ -35,7 +36,9 @@ fn search_below<S: Share>(tree: &mut Tree<'_>, cube: &[Lit], best: &mut Best<'_>
 {
     borrow(&mut tree.candidate, best, share);
     tree.branches.clear();
-    tree.engine.undo_to(0);
+    if return_to_root(&mut tree.engine) == Step::Conflict {
+        return;
+    }
     if assume_cube(&mut tree.engine, cube) == Step::Fixed {
         explore(tree, best, share);
     }
@@ -85,6 +88,19 @@ impl<'a> Search<'a> {
         Ok(Search {
             instance,
             pieces,
+            cube,
+            rest,
+        })
+    }
+
+    /// Makes all that the searches of the pieces need, over tables that are lent. Fails where memory is refused.
+    pub fn over(alloc: Global, tables: &'a SearchTables<'a>) -> Result<Search<'a>, Memory>
+        ensures { IfOk result (λ s. s ≡ tables.now) }
+    {
+        let (cube, rest) = tables.trees(alloc)?;
+        Ok(Search {
+            instance: tables.instance(),
+            pieces: tables.pieces(),
             cube,
             rest,
         })

@@ -3,10 +3,11 @@
 ghost use Rattle.std.specs.Prelude.{◌≡◌, ◌++◌, ◌≤◌, List, All, IfOk, length, vec_capacity};
 ghost use Rattle.pb_normal.specs.NormalForm.{PositiveRow};
 ghost use Rattle.pb_engine.specs.Clauses.{AreClausesOf};
+ghost use Rattle.pb_engine.specs.Tables.{AreBeside};
 
 use crate::branches::Branch;
 use crate::orders::literal_order;
-use pb_engine::Engine;
+use pb_engine::{Clauses, Engine, Rows};
 use pb_inst::{Assignment, Cube, Lit, Memory};
 use pb_normal::Normal;
 use std::alloc::Global;
@@ -30,9 +31,42 @@ impl<'a> Tree<'a> {
         ensures candidate { IfOk result (λ t. length t.candidate ≡ normal.now.vars) }
         ensures room { IfOk result (λ t. normal.now.vars ≤ vec_capacity t.branches) }
     {
+        let engine = Engine::new(alloc, normal, negated)?;
+        Tree::around(alloc, engine, normal, negated)
+    }
+
+    /// A tree over rows and clauses that are lent. Of the cubes to be false only the order of decisions knows.
+    pub fn over(
+        alloc: Global,
+        rows: &'a Rows<'a>,
+        clauses: &'a Clauses,
+        negated: &[Cube],
+    ) -> Result<Tree<'a>, Memory>
+        requires { AreBeside rows.now clauses.now }
+        ensures form { IfOk result (λ t. t.engine.form ≡ rows.now.form) }
+        ensures vars { IfOk result (λ t. t.engine.vars ≡ rows.now.form.vars) }
+        ensures rows { IfOk result (λ t. t.engine.rows ≡ rows.now.form.rows ++ clauses.now.rows) }
+        ensures candidate { IfOk result (λ t. length t.candidate ≡ rows.now.form.vars) }
+        ensures room { IfOk result (λ t. rows.now.form.vars ≤ vec_capacity t.branches) }
+    {
+        let engine = Engine::over(alloc, rows, clauses)?;
+        Tree::around(alloc, engine, rows.form(), negated)
+    }
+
+    /// The engine with no decisions, and room for one of each variable.
+    fn around(
+        alloc: Global,
+        engine: Engine<'a>,
+        normal: &Normal,
+        negated: &[Cube],
+    ) -> Result<Tree<'a>, Memory>
+        ensures engine { IfOk result (λ t. t.engine ≡ engine.entry) }
+        ensures candidate { IfOk result (λ t. length t.candidate ≡ normal.now.vars) }
+        ensures room { IfOk result (λ t. normal.now.vars ≤ vec_capacity t.branches) }
+    {
         let vars = normal.vars();
         Ok(Tree {
-            engine: Engine::new(alloc, normal, negated)?,
+            engine,
             branches: Vec::with_capacity(alloc, vars as usize)?,
             candidate: Assignment::new(alloc, vars)?,
             order: literal_order(alloc, normal, negated)?,

@@ -9,7 +9,7 @@ ghost use Rattle.pb_search.specs.Solutions.{SameConstraints, Completes};
 ghost use Rattle.pb_search.specs.Trees.{IsTreeOf, IsAtSomePath, IsFree, IsClosed, SameBranches, IsUnderWay, IsNext, LeavesFewer, IsSearched, IsOwn};
 
 use crate::Share;
-use crate::branches::Branch;
+use crate::branches::{Branch, Hints};
 use crate::decisions::next_decision;
 use crate::leaves::{borrow, take_leaf};
 use crate::outlooks::{Outlook, judge};
@@ -24,7 +24,7 @@ const BORROW_INTERVAL: u32 = 256;
 /// Propagates. Gives the decision to make next, or none where no completion of the trail is before what is held.
 fn visit<S: Share>(
     tree: &mut Tree<'_>,
-    scanned: usize,
+    hints: Hints,
     best: &mut Best<'_>,
     share: &mut S,
 ) -> Option<Branch>
@@ -47,13 +47,12 @@ fn visit<S: Share>(
         return None;
     }
     let bound = tree.engine.bound();
-    let outlook = judge(&tree.engine, bound, best);
+    let outlook = judge(&tree.engine, bound, best, hints.settled);
     if outlook == Outlook::Closed {
         return None;
     }
     let vars = tree.candidate.len();
-    let Some(branch) = next_decision(&tree.engine, vars, &tree.order, scanned, outlook, bound)
-    else {
+    let Some(branch) = next_decision(&tree.engine, vars, &tree.order, hints, outlook, bound) else {
         take_leaf(&tree.engine, &mut tree.candidate, best, share);
         return None;
     };
@@ -63,7 +62,7 @@ fn visit<S: Share>(
 /// Visits where the search stands. Gives the decision to make next, or none where the search is finished.
 fn next_branch<S: Share>(
     tree: &mut Tree<'_>,
-    scanned: usize,
+    hints: Hints,
     best: &mut Best<'_>,
     share: &mut S,
 ) -> Option<Branch>
@@ -79,7 +78,7 @@ fn next_branch<S: Share>(
     ensures made_for { IsTreeOf best.old.problem tree.new }
     ensures constraints { SameConstraints tree.old.engine tree.new.engine }
 {
-    match visit(tree, scanned, best, share) {
+    match visit(tree, hints, best, share) {
         Some(branch) => Some(branch),
         None => retreat(tree, best),
     }
@@ -101,13 +100,16 @@ pub fn explore<S: Share>(tree: &mut Tree<'_>, best: &mut Best<'_>, share: &mut S
     ensures constraints { SameConstraints tree.old.engine tree.new.engine }
 {
     let mut decisions = 0;
-    let mut scanned = 0;
-    while let Some(branch) = next_branch(tree, scanned, best, share) {
-        scanned = branch.scanned;
+    let mut borrowed = 0u32;
+    let mut hints = Hints::none();
+    while let Some(branch) = next_branch(tree, hints, best, share) {
         decide(&mut tree.engine, &mut tree.branches, branch);
+        hints = branch.hints_after(borrowed);
         decisions = (decisions + 1) % BORROW_INTERVAL;
         if decisions == 0 {
-            borrow(&mut tree.candidate, best, share);
+            let taken = u32::from(borrow(&mut tree.candidate, best, share));
+            borrowed = borrowed.wrapping_add(taken);
+            hints = branch.hints_after(borrowed);
         }
     }
 }

@@ -1,0 +1,8 @@
+use Rattle.std.proofs.Common.{◌≡◌}
+use Rattle.bench_search.proofs.search_all.Given as goal
+
+abbrev pub invariant-loop-piece : goal.invariant-loop-piece
+invariant-loop-piece l = record {
+  same_search : l.search ≡ l.initial.search;
+  same_instance : l.best.problem ≡ l.fn.best.problem;
+}

@@ -1,0 +1,162 @@
+//! Searches an instance as one piece and says on standard error what it found, how many decisions that took, and how
+//! long. The first argument is a file of clauses, where its name ends in `.cnf`, and else of linear constraints. A second
+//! one is a number k: the instance is then searched in the pieces of its split over k variables.
+#![tactic(auto)]
+
+ghost use Rattle.std.specs.Prelude.{◌≡◌, ◌+◌, ◌≤◌, false, length, IfSome};
+
+use pb_cubes::{Pieces, split};
+use pb_inst::{Assignment, Best, Instance, Number};
+use pb_normal::normalise;
+use pb_read::{read_cnf, read_opb};
+use pb_search::{Search, Share};
+use std::alloc::Global;
+use std::time::{CpuClock, Duration};
+use std::{env, fs, io};
+
+/// After how many decisions a search asks its share.
+const INTERVAL: u64 = 256;
+
+/// Counts how often it is asked, and lends nothing.
+#[derive(Clone, Copy, Debug)]
+struct Counter {
+    asked: u64,
+    offered: u64,
+}
+
+impl Share for Counter {
+    ghost keeps = { λ _ _. Unit {0} };
+
+    ghost lends = { λ _. false };
+
+    ghost keeps_itself = { λ _. tt };
+
+    ghost keeps_onward = { λ _ _ _ _ _. tt };
+
+    fn offer(&mut self, _cost: Number, _assignment: &Assignment) {
+        self.offered = self.offered.saturating_add(1);
+    }
+
+    fn borrow(&mut self, _below: Number, _into: &mut Assignment) -> bool {
+        self.asked = self.asked.saturating_add(1);
+        false
+    }
+}
+
+/// The instance of a file; none where it cannot be read.
+fn read(rt: &HostRuntime, name: &str) -> Option<Instance> {
+    let text = fs::read(rt, name).ok()?;
+    if name.ends_with(".cnf") {
+        read_cnf(rt.alloc(), &text).ok()
+    } else {
+        read_opb(rt.alloc(), &text).ok()
+    }
+}
+
+/// The remainder of no cubes where k is 0, and else the pieces of the split; none where there is no such split.
+fn pieces_of(alloc: Global, instance: &Instance, k: u32) -> Option<Pieces>
+    ensures { IfSome result (λ pieces. pieces.vars ≡ instance.now.vars) }
+{
+    if k == 0 {
+        return Pieces::new(instance.vars(), Vec::new(alloc)).ok();
+    }
+    let cubes = split(alloc, instance, k).ok()?;
+    Pieces::new(instance.vars(), cubes).ok()
+}
+
+/// Searches all pieces in order.
+fn search_all(search: &mut Search<'_>, count: u32, best: &mut Best<'_>, counter: &mut Counter)
+    requires pieces { count ≤ length search.old.cubes + 1 }
+    requires same_instance { best.old.problem ≡ search.old.problem }
+{
+    for piece in 0..count {
+        search.run(piece, best, counter);
+    }
+}
+
+/// What a measured search found, and the processor time that it took.
+#[derive(Clone, Copy, Debug)]
+struct Measured {
+    cost: Option<Number>,
+    decisions: u64,
+    improvements: u64,
+    searching: Duration,
+}
+
+/// Searches all pieces with the clock; none where it is refused.
+fn timed(
+    rt: &HostRuntime,
+    search: &mut Search<'_>,
+    count: u32,
+    best: &mut Best<'_>,
+) -> Option<Measured>
+    requires pieces { count ≤ length search.old.cubes + 1 }
+    requires same_instance { best.old.problem ≡ search.old.problem }
+{
+    let mut counter = Counter {
+        asked: 0,
+        offered: 0,
+    };
+    let start = rt.process_cpu_time().ok()?;
+    search_all(search, count, best, &mut counter);
+    let end = rt.process_cpu_time().ok()?;
+    let asked_on_the_way = counter.asked.saturating_sub(u64::from(count));
+    Some(Measured {
+        cost: best.cost(),
+        decisions: asked_on_the_way.saturating_mul(INTERVAL),
+        improvements: counter.offered,
+        searching: end.saturating_sub(start),
+    })
+}
+
+/// Searches the instance; none where memory or the clock is refused, or there is no such split.
+fn measure(rt: &HostRuntime, instance: &Instance, k: u32) -> Option<Measured> {
+    let alloc = rt.alloc();
+    let Ok(normal) = normalise(alloc, instance) else {
+        return None;
+    };
+    let pieces = pieces_of(alloc, instance, k)?;
+    let mut best = Best::none(alloc, instance).ok()?;
+    let mut search = Search::new(alloc, instance, &normal, &pieces).ok()?;
+    timed(rt, &mut search, pieces.len(), &mut best)
+}
+
+/// Prints one line.
+fn print(rt: &HostRuntime, measured: &Measured) -> io::Result<()> {
+    let cost = measured.cost;
+    let decisions = measured.decisions;
+    let improvements = measured.improvements;
+    let searching = measured.searching;
+    eprintln!(rt;
+        "cost {cost:?}, {decisions} decisions, searched in {searching:?}, {improvements} improvements"
+    )
+}
+
+/// Reads and searches the file.
+fn run(rt: &HostRuntime, name: &str, k: u32) -> io::Result<()> {
+    let Some(instance) = read(rt, name) else {
+        return eprintln!(rt; "{name} cannot be read");
+    };
+    match measure(rt, &instance, k) {
+        Some(measured) => print(rt, &measured),
+        None => eprintln!(rt; "{name} cannot be searched"),
+    }
+}
+
+/// The number that the word spells, or 0.
+fn number(word: Option<String>) -> u32 {
+    match word {
+        Some(text) => text.as_str().parse::<u32>().unwrap_or(0),
+        None => 0,
+    }
+}
+
+fn main(rt: HostRuntime) -> io::Result<()> {
+    let mut args = env::args(&rt)?;
+    args.next();
+    let Some(name) = args.next() else {
+        return eprintln!(rt; "bench_search FILE [K]");
+    };
+    let k = number(args.next());
+    run(&rt, &name, k)
+}

@@ -1,0 +1,9 @@
+//! Searches of worked instances, searches whose share hands over any bits, and small instances beside the listing of all
+//! assignments.
+
+mod instances;
+mod lenders;
+mod listing;
+mod pieces;
+mod shares;
+mod worked;

@@ -1,0 +1,138 @@
+//! Instances, cubes and assignments by the numbers of their literals, and searches of pieces.
+
+ghost use Rattle.std.specs.Prelude.{◌≡◌, length, IfOk};
+
+use crate::{Search, Share};
+use pb_cubes::Pieces;
+use pb_inst::{Assignment, Best, Cube, Instance, InstanceBuilder, Lit, Number, Relation, Term};
+use pb_normal::normalise;
+use std::alloc::Global;
+use std::process::Abort;
+
+/// Coefficients and literals, a relation and a number.
+pub type Row<'a> = (&'a [(Number, i32)], Relation, Number);
+
+/// `min: 2 x1 3 x2 1 x3` with `x1 + x2 >= 1` and `x2 + x3 >= 1`: x1 and x3 cost 3, and so does x2, which comes first.
+pub const TIED: (&[(Number, i32)], &[Row<'_>]) = (
+    &[(2, 1), (3, 2), (1, 3)],
+    &[
+        (&[(1, 1), (1, 2)], Relation::AtLeast, 1),
+        (&[(1, 2), (1, 3)], Relation::AtLeast, 1),
+    ],
+);
+
+/// The literal of the variable, negated where the number is negative.
+pub fn lit(rt: &impl Abort, number: i32) -> Lit {
+    Lit::new(number.unsigned_abs(), number > 0).expect(rt, "a variable")
+}
+
+fn terms(rt: &impl Abort, alloc: Global, numbers: &[(Number, i32)]) -> Vec<Term> {
+    let mut terms = Vec::new(alloc);
+    for (coef, number) in numbers {
+        let lit = lit(rt, *number);
+        terms.push(Term { coef: *coef, lit }).expect(rt, "memory");
+    }
+    terms
+}
+
+/// An objective, where it has terms, and constraints.
+pub fn instance(
+    rt: &impl Abort,
+    alloc: Global,
+    vars: u32,
+    objective: &[(Number, i32)],
+    rows: &[Row<'_>],
+) -> Instance {
+    let mut builder = InstanceBuilder::new(alloc);
+    if !objective.is_empty() {
+        let objective = terms(rt, alloc, objective);
+        builder.set_objective(&objective).expect(rt, "an objective");
+    }
+    for (row, relation, bound) in rows {
+        let row = terms(rt, alloc, row);
+        builder
+            .add(&row, *relation, *bound)
+            .expect(rt, "a constraint");
+    }
+    builder.finish(vars).ok().expect(rt, "an instance")
+}
+
+/// Cubes, each a list of literals.
+pub fn cubes(rt: &impl Abort, alloc: Global, lists: &[&[i32]]) -> Vec<Cube> {
+    let mut cubes = Vec::new(alloc);
+    for list in lists {
+        let mut lits = Vec::new(alloc);
+        for number in *list {
+            lits.push(lit(rt, *number)).expect(rt, "memory");
+        }
+        let cube = Cube::new(alloc, &lits).expect(rt, "memory");
+        cubes.push(cube).expect(rt, "memory");
+    }
+    cubes
+}
+
+/// The assignment that makes these variables alone true.
+pub fn assignment(rt: &impl Abort, alloc: Global, vars: u32, made_true: &[u32]) -> Assignment
+    ensures { length result ≡ vars }
+{
+    let mut assignment = Assignment::new(alloc, vars).expect(rt, "memory");
+    for var in made_true {
+        assert!(rt; 1 <= *var);
+        assert!(rt; *var <= assignment.len());
+        assignment.set(*var, true);
+    }
+    assert!(rt; assignment.len() == vars);
+    assignment
+}
+
+/// Holds nothing yet.
+pub fn nothing<'i>(rt: &impl Abort, alloc: Global, instance: &'i Instance) -> Best<'i>
+    ensures { result.problem ≡ instance.now }
+{
+    Best::none(alloc, instance).expect(rt, "memory")
+}
+
+/// Searches the pieces from `first` to before `end`, one after the other.
+pub fn search_pieces<S: Share>(
+    rt: &impl Abort,
+    alloc: Global,
+    instance: &Instance,
+    pieces: &Pieces,
+    first: u32,
+    end: u32,
+    best: &mut Best<'_>,
+    share: &mut S,
+)
+    requires { best.old.problem ≡ instance.now }
+    ensures { best.new.problem ≡ best.old.problem }
+{
+    let vars = instance.vars();
+    assert!(rt; pieces.vars() == vars);
+    let normal = normalise(alloc, instance).expect(rt, "memory");
+    let mut search = Search::new(alloc, instance, &normal, pieces).expect(rt, "memory");
+    for piece in first..end {
+        assert!(rt; piece < pieces.len());
+        search.run(piece, best, share);
+    }
+}
+
+/// The cost and the variables that are true, as `3: x2`, or `none`.
+pub fn shown(rt: &impl Abort, alloc: Global, best: &Best<'_>) -> String {
+    match (best.cost(), best.assignment()) {
+        (Some(cost), Some(held)) => solution(rt, alloc, cost, held),
+        _ => format!(in alloc; "none").expect(rt, "memory"),
+    }
+}
+
+/// The cost and the variables that are true, as `3: x2`.
+pub fn solution(rt: &impl Abort, alloc: Global, cost: Number, held: &Assignment) -> String {
+    let mut text = format!(in alloc; "{cost}:").expect(rt, "memory");
+    for place in 0..held.len() {
+        let var = place + 1;
+        if held.get(var) {
+            let part = format!(in alloc; " x{var}").expect(rt, "memory");
+            text.push_str(part.as_str()).expect(rt, "memory");
+        }
+    }
+    text
+}

@@ -1,0 +1,200 @@
+//! What a search makes of the bits that are handed over, and what it tells its share.
+
+use super::instances::{Row, TIED, assignment, instance, nothing, search_pieces, shown};
+use super::lenders::{InTurn, Lender};
+use pb_cubes::Pieces;
+use pb_inst::{Number, Relation};
+
+#[test]
+fn infeasible_bits_are_dropped(rt: HostRuntime) {
+    let alloc = rt.alloc();
+    let tied = instance(&rt, alloc, 3, TIED.0, TIED.1);
+    let pieces = Pieces::new(3, Vec::new(alloc)).expect(&rt, "pieces");
+    let lent = assignment(&rt, alloc, 3, &[]);
+    let mut best = nothing(&rt, alloc, &tied);
+    search_pieces(
+        &rt,
+        alloc,
+        &tied,
+        &pieces,
+        0,
+        1,
+        &mut best,
+        &mut Lender { lent },
+    );
+    assert_eq!(rt; shown(&rt, alloc, &best).as_str(), "3: x2");
+}
+
+#[test]
+fn a_costly_assignment_is_improved(rt: HostRuntime) {
+    let alloc = rt.alloc();
+    let tied = instance(&rt, alloc, 3, TIED.0, TIED.1);
+    let pieces = Pieces::new(3, Vec::new(alloc)).expect(&rt, "pieces");
+    let lent = assignment(&rt, alloc, 3, &[1, 2, 3]);
+    let mut best = nothing(&rt, alloc, &tied);
+    search_pieces(
+        &rt,
+        alloc,
+        &tied,
+        &pieces,
+        0,
+        1,
+        &mut best,
+        &mut Lender { lent },
+    );
+    assert_eq!(rt; shown(&rt, alloc, &best).as_str(), "3: x2");
+}
+
+/// `min: 1 x1 1 x65` with `x1 + x65 = 1`: of what is handed over in turn one is feasible, and comes second.
+#[test]
+fn assignments_handed_over_in_turn(rt: HostRuntime) {
+    let alloc = rt.alloc();
+    let sum: &[(Number, i32)] = &[(1, 1), (1, 65)];
+    let rows: &[Row<'_>] = &[(sum, Relation::Equal, 1)];
+    let one_of_two = instance(&rt, alloc, 65, sum, rows);
+    let pieces = Pieces::new(65, Vec::new(alloc)).expect(&rt, "pieces");
+    let mut lent = Vec::new(alloc);
+    let lists: &[&[u32]] = &[&[1, 65], &[], &[1]];
+    for list in lists {
+        lent.push(assignment(&rt, alloc, 65, list))
+            .expect(&rt, "memory");
+    }
+    let mut all = assignment(&rt, alloc, 65, &[]);
+    for place in 0..65 {
+        assert!(rt; place < all.len());
+        all.set(place + 1, true);
+    }
+    lent.push(all).expect(&rt, "memory");
+    for first in 0..lent.len() {
+        let mut turns = Vec::new(alloc);
+        for turn in 0..lent.len() {
+            let at = (first + turn) % lent.len();
+            let mut copy = assignment(&rt, alloc, 65, &[]);
+            let next = lent.get(at).expect(&rt, "an assignment");
+            assert!(rt; copy.len() == next.len());
+            copy.copy_from(next);
+            turns.push(copy).expect(&rt, "memory");
+        }
+        let mut share = InTurn::new(turns);
+        let mut best = nothing(&rt, alloc, &one_of_two);
+        search_pieces(
+            &rt,
+            alloc,
+            &one_of_two,
+            &pieces,
+            0,
+            1,
+            &mut best,
+            &mut share,
+        );
+        assert_eq!(rt; shown(&rt, alloc, &best).as_str(), "1: x65", "from {first}");
+    }
+}
+
+/// The share is asked at the beginning, when nothing is held, and is told of what the search found itself.
+#[test]
+fn the_share_is_asked_and_told(rt: HostRuntime) {
+    let alloc = rt.alloc();
+    let tied = instance(&rt, alloc, 3, TIED.0, TIED.1);
+    let pieces = Pieces::new(3, Vec::new(alloc)).expect(&rt, "pieces");
+    let mut share = InTurn::new(Vec::new(alloc));
+    let mut best = nothing(&rt, alloc, &tied);
+    search_pieces(&rt, alloc, &tied, &pieces, 0, 1, &mut best, &mut share);
+    assert_eq!(rt; share.asked, 1);
+    assert_eq!(rt; share.first_below, Some(Number::MAX));
+    assert_eq!(rt; share.last_offered, Some(3));
+    let offered = share.offered;
+    search_pieces(&rt, alloc, &tied, &pieces, 0, 1, &mut best, &mut share);
+    assert_eq!(rt; share.asked, 2);
+    assert_eq!(rt; share.last_below, Some(3));
+    assert_eq!(rt;
+        share.offered,
+        offered,
+        "what is held already is not offered again"
+    );
+}
+
+/// The variable that says that the pigeon sits in the hole, of seven.
+fn seat(pigeon: i32, hole: i32) -> i32 {
+    pigeon.wrapping_mul(7).wrapping_add(hole).wrapping_add(1)
+}
+
+/// Eight pigeons do not fit into seven holes, which takes thousands of decisions.
+#[test]
+fn the_share_is_asked_on_the_way(rt: HostRuntime) {
+    let alloc = rt.alloc();
+    let mut sums = Vec::new(alloc);
+    for pigeon in 0..8 {
+        let mut holes: Vec<(Number, i32)> = Vec::new(alloc);
+        for hole in 0..7 {
+            holes.push((1, seat(pigeon, hole))).expect(&rt, "memory");
+        }
+        sums.push((holes, Relation::AtLeast)).expect(&rt, "memory");
+    }
+    for hole in 0..7 {
+        let mut pigeons: Vec<(Number, i32)> = Vec::new(alloc);
+        for pigeon in 0..8 {
+            pigeons.push((1, seat(pigeon, hole))).expect(&rt, "memory");
+        }
+        sums.push((pigeons, Relation::AtMost)).expect(&rt, "memory");
+    }
+    let mut rows: Vec<Row<'_>> = Vec::new(alloc);
+    for (sum, relation) in &sums {
+        rows.push((sum.as_slice(), *relation, 1))
+            .expect(&rt, "memory");
+    }
+    let crowded = instance(&rt, alloc, 56, &[], &rows);
+    let pieces = Pieces::new(56, Vec::new(alloc)).expect(&rt, "pieces");
+    let mut share = InTurn::new(Vec::new(alloc));
+    let mut best = nothing(&rt, alloc, &crowded);
+    search_pieces(&rt, alloc, &crowded, &pieces, 0, 1, &mut best, &mut share);
+    assert_eq!(rt; shown(&rt, alloc, &best).as_str(), "none");
+    assert!(rt; share.asked > 10);
+    assert_eq!(rt; share.offered, 0);
+}
+
+/// One of every two neighbours on a ring with chords is chosen, at least cost. Whatever is handed over on the way, the
+/// answer is the same.
+#[test]
+fn assignments_handed_over_on_the_way(rt: HostRuntime) {
+    let alloc = rt.alloc();
+    let mut costs: Vec<(Number, i32)> = Vec::new(alloc);
+    let mut pairs = Vec::new(alloc);
+    for place in 0..80i32 {
+        let cost = Number::from(place.wrapping_mul(7) % 11 + 1);
+        costs.push((cost, place + 1)).expect(&rt, "memory");
+        for step in [1, 7] {
+            let other = (place + step) % 80 + 1;
+            pairs
+                .push([(1, place + 1), (1, other)])
+                .expect(&rt, "memory");
+        }
+    }
+    let mut rows: Vec<Row<'_>> = Vec::new(alloc);
+    for pair in &pairs {
+        rows.push((pair.as_slice(), Relation::AtLeast, 1))
+            .expect(&rt, "memory");
+    }
+    let ring = instance(&rt, alloc, 80, &costs, &rows);
+    let pieces = Pieces::new(80, Vec::new(alloc)).expect(&rt, "pieces");
+    let mut alone = InTurn::new(Vec::new(alloc));
+    let mut best = nothing(&rt, alloc, &ring);
+    search_pieces(&rt, alloc, &ring, &pieces, 0, 1, &mut best, &mut alone);
+    let want = shown(&rt, alloc, &best);
+    assert!(rt; alone.asked > 5);
+    let mut lent = Vec::new(alloc);
+    for free in 0..12u32 {
+        let mut cover = assignment(&rt, alloc, 80, &[]);
+        for place in 0..80u32 {
+            assert!(rt; place < cover.len());
+            let is_free = place % 2 == 1 && place < free.saturating_mul(2);
+            cover.set(place + 1, !is_free);
+        }
+        lent.push(cover).expect(&rt, "memory");
+    }
+    let mut share = InTurn::new(lent);
+    let mut best = nothing(&rt, alloc, &ring);
+    search_pieces(&rt, alloc, &ring, &pieces, 0, 1, &mut best, &mut share);
+    assert!(rt; share.asked > 5);
+    assert_eq!(rt; shown(&rt, alloc, &best).as_str(), want.as_str());
+}
