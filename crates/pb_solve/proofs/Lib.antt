@@ -1,7 +1,11 @@
+mod DividingLaws
 mod DivisionLaws
+pub mod ClaimLaws
+pub mod FirstLaws
+pub mod LeastLaws
 mod OutcomeLaws
 mod PreparingLaws
 mod ReportLaws
 mod SendingLaws
-mod SolvingLaws
 mod TextLaws
+pub mod WorkLaws

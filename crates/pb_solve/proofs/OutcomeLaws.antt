@@ -1,18 +1,19 @@
 -- How the steps of a run make its outcome.
-use Rattle.std.proofs.Common.{◌≡◌, ◌≢◌, ℕ, ℤ, Bool, true, false, List, [], Option, Some, None, is_some, Result, Ok, Err, OnOk, refl, ◌∙◌, ap, subst, inr, arith}
-use Rattle.std.specs.Prelude.{IfSome, IfOk}
+use Rattle.std.proofs.Common.{◌≡◌, ◌≢◌, ℕ, ℤ, Bool, true, false, List, Option, Some, None, is_some, Result, Ok, Err, OnOk, refl, ◌∙◌, ap, subst, inr}
+use Rattle.std.specs.Prelude.{IfOk}
 use Rattle.std.specs.Option.{option_map}
 use Rattle.std.specs.Io.KnownBytes.{Appends}
 use Rattle.pb_inst.specs.Problem.{Problem}
 use Rattle.pb_inst.specs.Meaning.{cost}
 use Rattle.pb_inst.specs.Order.{IsLeast}
 use Rattle.pb_inst.specs.Incumbent.{Solution}
+use Rattle.pb_solve.specs.declared.preparing.Prepared.{Prepared}
 use Rattle.pb_solve.specs.declared.options.Format.{Format}
 use Rattle.pb_solve.specs.declared.options.Status.{Status}
 use Rattle.pb_solve.specs.declared.options.Status.TheVariants.{Satisfiable, Unsatisfiable, Optimum, Unsupported, Unknown}
 use Rattle.pb_solve.specs.declared.options.Refusal.{Refusal}
 use Rattle.pb_solve.specs.Solving.{HoldsLeast}
-use Rattle.pb_solve.specs.Outcome.{Refused, Infeasible, Feasible, Optimal, IsOutcome, IsDivisionAccepted}
+use Rattle.pb_solve.specs.Outcome.{Refused, Infeasible, Feasible, Optimal, IsOutcome}
 use Rattle.pb_solve.specs.Report.{infeasible_report, satisfiable_report, optimum_report, refusal_report}
 use Rattle.pb_solve.specs.Run.{WhereTold, Reports, Answers, IsAccepted}
 
@@ -25,17 +26,6 @@ told_weaker None (Some (Some us)) P Q h p = tt
 told_weaker (Some ts) None P Q h p = h ts None p
 told_weaker (Some ts) (Some None) P Q h p = tt
 told_weaker (Some ts) (Some (Some us)) P Q h p = h ts (Some us) p
-
--- what was read is what is told
-pub told_alone : (input : Option (List ℕ)) (text : List ℕ) (P : List ℕ → Option (List ℕ) → Type 0) → IfSome input (λ t. text ≡ t) → P text None → WhereTold input None P
-told_alone None text P e p = tt
-told_alone (Some ts) text P e p = subst (λ t. P t None) e p
-
--- ---- without a cube file and without a split
-
--- nothing is refused where there is nothing
-pub alone_accepted : (p : Problem) → IsDivisionAccepted p [] None 0
-alone_accepted p = ([], refl, λ bad. absurd (let h = bad.0 in let no : ⊥ = omega arith in no), λ many. absurd (let no : ⊥ = omega (arith, many) in no))
 
 -- ---- the answer
 
@@ -82,13 +72,13 @@ answer_optimum format p held old new status a z least is_a is_z some is written 
 
 -- ---- the report
 
-pub answer_reported : (format : Format) (p : Problem) (input : Option (List ℕ)) (cubes : Option (Option (List ℕ))) (split : ℕ) (old new : Option (List ℕ)) (status : Status) → WhereTold input cubes (λ text cube_text. IsAccepted format text cube_text split p) → Answers format p old new status → Reports format input cubes split old new status
-answer_reported format p input cubes split old new status told h = record {
+pub answer_reported : (format : Format) (found : Prepared) (input : Option (List ℕ)) (cubes : Option (Option (List ℕ))) (split : ℕ) (old new : Option (List ℕ)) (status : Status) → WhereTold input cubes (λ text cube_text. IsAccepted format text cube_text split found) → Answers format found.instance old new status → Reports format input cubes split old new status
+answer_reported format found input cubes split old new status told h = record {
   outcome = h.outcome;
   ends = h.ends;
   writes = h.writes;
-  right = told_weaker input cubes (λ text cube_text. IsAccepted format text cube_text split p) (λ text cube_text. IsOutcome format text cube_text split h.outcome)
-      (λ text cube_text accepted. inr (p, accepted.0, accepted.1, inr (accepted.2, h.right))) told;
+  right = told_weaker input cubes (λ text cube_text. IsAccepted format text cube_text split found) (λ text cube_text. IsOutcome format text cube_text split h.outcome)
+      (λ text cube_text accepted. inr (found.instance, accepted.0, accepted.1, inr (accepted.2.0, h.right))) told;
 }
 
 pub refusal_reported : (format : Format) (input : Option (List ℕ)) (cubes : Option (Option (List ℕ))) (split : ℕ) (old new : Option (List ℕ)) (status : Status) (refusal : Refusal) → WhereTold input cubes (λ text cube_text. IsOutcome format text cube_text split (Refused refusal)) → status ≡ Unsupported → Appends old new (refusal_report refusal) → Reports format input cubes split old new status
@@ -109,9 +99,9 @@ pub optimum_answers : {E : Type 0} (r : Result Status E) (format : Format) (p : 
 optimum_answers (Ok status) format p held old new a z least is_a is_z some is written = answer_optimum format p held old new status a z least is_a is_z some is written
 optimum_answers (Err e) format p held old new a z least is_a is_z some is written = tt
 
-pub answers_report : {E : Type 0} (r : Result Status E) (format : Format) (p : Problem) (input : Option (List ℕ)) (cubes : Option (Option (List ℕ))) (split : ℕ) (old new : Option (List ℕ)) → WhereTold input cubes (λ text cube_text. IsAccepted format text cube_text split p) → IfOk r (λ status. status ≢ Unknown → Answers format p old new status) → IfOk r (λ status. status ≢ Unknown → Reports format input cubes split old new status)
-answers_report (Ok status) format p input cubes split old new told h = λ known. answer_reported format p input cubes split old new status told (h known)
-answers_report (Err e) format p input cubes split old new told h = tt
+pub answers_report : {E : Type 0} (r : Result Status E) (format : Format) (found : Prepared) (input : Option (List ℕ)) (cubes : Option (Option (List ℕ))) (split : ℕ) (old new : Option (List ℕ)) → WhereTold input cubes (λ text cube_text. IsAccepted format text cube_text split found) → IfOk r (λ status. status ≢ Unknown → Answers format found.instance old new status) → IfOk r (λ status. status ≢ Unknown → Reports format input cubes split old new status)
+answers_report (Ok status) format found input cubes split old new told h = λ known. answer_reported format found input cubes split old new status told (h known)
+answers_report (Err e) format found input cubes split old new told h = tt
 
 pub refusal_reports : {E : Type 0} (r : Result Status E) (format : Format) (input : Option (List ℕ)) (cubes : Option (Option (List ℕ))) (split : ℕ) (old new : Option (List ℕ)) (refusal : Refusal) → WhereTold input cubes (λ text cube_text. IsOutcome format text cube_text split (Refused refusal)) → IfOk r (λ status. status ≡ Unsupported) → OnOk r (Appends old new (refusal_report refusal)) → IfOk r (λ status. status ≢ Unknown → Reports format input cubes split old new status)
 refusal_reports (Ok status) format input cubes split old new refusal told is written = λ known. refusal_reported format input cubes split old new status refusal told is written

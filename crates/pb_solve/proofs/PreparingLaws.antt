@@ -6,22 +6,17 @@ use Rattle.pb_inst.specs.Problem.{Problem}
 use Rattle.pb_read.specs.declared.fault.ReadFault.{ReadFault}
 use Rattle.pb_solve.specs.declared.options.Format.{Format}
 use Rattle.pb_solve.specs.declared.options.Refusal.TheVariants.{Input, Cubes, Split, TooManyCubes}
+use Rattle.pb_solve.specs.declared.preparing.Prepared.{Prepared}
 use Rattle.pb_solve.specs.declared.preparing.Halt.{Halt}
 use Rattle.pb_solve.specs.declared.preparing.Halt.TheVariants as halt
 use Rattle.pb_solve.specs.Texts.{Spells, text_refusal}
 use Rattle.pb_solve.specs.Outcome as outcome
-use Rattle.pb_solve.specs.Outcome.{IsOutcome, IsDivisionAccepted, IsDivisionRefused, IsBadSplit, IsTooMany, FileCounts, split_cubes, most_split}
+use Rattle.pb_solve.specs.Outcome.{IsOutcome, IsDivisionAccepted, IsDivisionRefused, IsBadSplit, IsTooMany, split_cubes, most_split}
+use Rattle.pb_solve.specs.Division.{IsDivided}
 use Rattle.pb_solve.specs.Reading.{TellsText}
 use Rattle.pb_solve.specs.Run.{WhereTold, CubesTold, IsAccepted, IsPrepared, HaltsInput, HaltsDivision}
+use Rattle.pb_solve.proofs.OutcomeLaws.{told_weaker}
 use Rattle.pb_solve.proofs.TextLaws.{not_both}
-
-weaker : (input : Option (List ℕ)) (cubes : Option (Option (List ℕ))) (P Q : List ℕ → Option (List ℕ) → Type 0) → ((text : List ℕ) (cube_text : Option (List ℕ)) → P text cube_text → Q text cube_text) → WhereTold input cubes P → WhereTold input cubes Q
-weaker None None P Q h p = tt
-weaker None (Some None) P Q h p = tt
-weaker None (Some (Some us)) P Q h p = tt
-weaker (Some ts) None P Q h p = h ts None p
-weaker (Some ts) (Some None) P Q h p = tt
-weaker (Some ts) (Some (Some us)) P Q h p = h ts (Some us) p
 
 -- what was read of the input told
 told_of_input : (input : Option (List ℕ)) (cubes : Option (Option (List ℕ))) (P : List ℕ → Type 0) → IfSome input P → WhereTold input cubes (λ t cube_text. P t)
@@ -54,7 +49,7 @@ input_halts format input cubes split halt.ReadInput halts = tt
 input_halts format input cubes split halt.ReadCubes halts = absurd halts
 input_halts format input cubes split halt.Memory halts = tt
 input_halts format input cubes split (halt.Refused (Input fault)) halts =
-    weaker input cubes (λ t cube_text. text_refusal format t ≡ Some fault) (λ t cube_text. IsOutcome format t cube_text split (outcome.Refused (Input fault)))
+    told_weaker input cubes (λ t cube_text. text_refusal format t ≡ Some fault) (λ t cube_text. IsOutcome format t cube_text split (outcome.Refused (Input fault)))
     (λ t cube_text h. inl (fault, refl, h))
     (told_of_input input cubes (λ t. text_refusal format t ≡ Some fault) halts)
 input_halts format input cubes split (halt.Refused (Cubes fault)) halts = absurd halts
@@ -62,11 +57,11 @@ input_halts format input cubes split (halt.Refused Split) halts = absurd halts
 input_halts format input cubes split (halt.Refused TooManyCubes) halts = absurd halts
 
 -- nothing was refused
-pub all_accepted : (format : Format) (input : Option (List ℕ)) (cubes : Option (Option (List ℕ))) (split : ℕ) (p : Problem) (own : List (List Literal)) → IfSome input (λ t. Spells format t p own) → CubesTold cubes (λ u. IsDivisionAccepted p own u split) → IsPrepared format input cubes split (Ok p)
-all_accepted format input cubes split p own spells accepted =
-    weaker input cubes (λ t u. Spells format t p own × IsDivisionAccepted p own u split) (λ t u. IsAccepted format t u split p)
+pub all_accepted : (format : Format) (input : Option (List ℕ)) (cubes : Option (Option (List ℕ))) (split : ℕ) (found : Prepared) (own : List (List Literal)) → IfSome input (λ t. Spells format t found.instance own) → CubesTold cubes (λ u. IsDivided found.instance own u split found.pieces.cubes) → IsPrepared format input cubes split (Ok found)
+all_accepted format input cubes split found own spells accepted =
+    told_weaker input cubes (λ t u. Spells format t found.instance own × IsDivided found.instance own u split found.pieces.cubes) (λ t u. IsAccepted format t u split found)
     (λ t u h. (own, h.0, h.1))
-    (told_of_both input cubes (λ t. Spells format t p own) (λ u. IsDivisionAccepted p own u split) spells accepted)
+    (told_of_both input cubes (λ t. Spells format t found.instance own) (λ u. IsDivided found.instance own u split found.pieces.cubes) spells accepted)
 
 -- the run ends at the cubes or the split
 pub division_halts : (format : Format) (input : Option (List ℕ)) (cubes : Option (Option (List ℕ))) (split : ℕ) (p : Problem) (own : List (List Literal)) (h : Halt) → IfSome input (λ t. Spells format t p own) → CubesTold cubes (λ u. HaltsDivision p own u split h) → IsPrepared format input cubes split (Err h)
@@ -74,7 +69,7 @@ division_halts format input cubes split p own halt.ReadInput spells halts = tt
 division_halts format input cubes split p own halt.ReadCubes spells halts = tt
 division_halts format input cubes split p own halt.Memory spells halts = tt
 division_halts format input cubes split p own (halt.Refused refusal) spells halts =
-    weaker input cubes (λ t u. Spells format t p own × IsDivisionRefused p own u split refusal) (λ t u. IsOutcome format t u split (outcome.Refused refusal))
+    told_weaker input cubes (λ t u. Spells format t p own × IsDivisionRefused p own u split refusal) (λ t u. IsOutcome format t u split (outcome.Refused refusal))
     (λ t u h. inr (p, own, h.0, inl (refusal, refl, h.1)))
     (told_of_both input cubes (λ t. Spells format t p own) (λ u. IsDivisionRefused p own u split refusal) spells halts)
 

@@ -3,7 +3,12 @@ pub mod Reading
 pub mod Sending
 pub mod Texts
 pub mod Outcome
+pub mod Division
 pub mod Report
 pub mod Solving
 pub mod Run
 pub mod Laws
+pub mod Parts
+pub mod Claims
+pub mod Sharing
+pub mod Forking

@@ -53,10 +53,6 @@ FileSpells vars (Some text) cubes = SpellsCubes vars text cubes
 abbrev pub IsFileRefused : ℕ → Option (List ℕ) → ReadFault → Type 0
 IsFileRefused vars cube_text fault = IsSomeAnd cube_text (λ text. cube_text_refusal vars text ≡ Some fault)
 
--- the cube file has so many cubes
-abbrev pub FileCounts : ℕ → Option (List ℕ) → ℕ → Type 0
-FileCounts vars cube_text count = (cubes : List (List Literal)) × FileSpells vars cube_text cubes × (length cubes ≡ count)
-
 -- so many cubes are too many with those that the split makes
 abbrev pub IsTooMany : ℕ → ℕ → Type 0
 IsTooMany count split = most_cubes < count + split_cubes split

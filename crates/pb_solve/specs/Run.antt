@@ -7,13 +7,15 @@ use Rattle.pb_inst.specs.Literal.{Literal}
 use Rattle.pb_inst.specs.Problem.{Problem}
 use Rattle.pb_solve.specs.declared.options.Format.{Format}
 use Rattle.pb_solve.specs.declared.options.Status.{Status}
+use Rattle.pb_solve.specs.declared.preparing.Prepared.{Prepared}
 use Rattle.pb_solve.specs.declared.preparing.Halt.{Halt}
 use Rattle.pb_solve.specs.declared.preparing.Halt.TheVariants.{ReadInput, ReadCubes, Memory, Refused}
 use Rattle.pb_solve.specs.Device.{Device}
 use Rattle.pb_solve.specs.declared.options.Refusal.TheVariants as refusal
 use Rattle.pb_solve.specs.Texts.{Spells, text_refusal}
 use Rattle.pb_solve.specs.Outcome as outcome
-use Rattle.pb_solve.specs.Outcome.{Outcome, IsOutcome, IsAnswer, IsDivisionAccepted, IsDivisionRefused}
+use Rattle.pb_solve.specs.Outcome.{Outcome, IsOutcome, IsAnswer, IsDivisionRefused}
+use Rattle.pb_solve.specs.Division.{IsDivided}
 use Rattle.pb_solve.specs.Report.{report, status_of}
 
 -- what the cube file has left: nothing where there is no file, else its text where the reader tells it
@@ -59,13 +61,13 @@ pub record Answers (format : Format) (p : Problem) (old new : Option (List ℕ))
   pub writes : Appends old new (report format outcome)
   pub right : IsAnswer p outcome
 
--- the input spells the instance, with cubes of its own, and the cubes and the split are accepted
-abbrev pub IsAccepted : Format → List ℕ → Option (List ℕ) → ℕ → Problem → Type 0
-IsAccepted format text cube_text split p = (own : List (List Literal)) × Spells format text p own × IsDivisionAccepted p own cube_text split
+-- the input spells the instance, with cubes of its own, and the cubes and the split are accepted and make the pieces
+abbrev pub IsAccepted : Format → List ℕ → Option (List ℕ) → ℕ → Prepared → Type 0
+IsAccepted format text cube_text split found = (own : List (List Literal)) × Spells format text found.instance own × IsDivided found.instance own cube_text split found.pieces.cubes
 
--- the instance of the texts, unless something is refused: then that is the outcome
-abbrev pub IsPrepared : Format → Option (List ℕ) → Option (Option (List ℕ)) → ℕ → Result Problem Halt → Type 0
-IsPrepared format input cubes split (Ok p) = WhereTold input cubes (λ text cube_text. IsAccepted format text cube_text split p)
+-- the instance and the pieces of the texts and the split, unless something is refused: then that is the outcome
+abbrev pub IsPrepared : Format → Option (List ℕ) → Option (Option (List ℕ)) → ℕ → Result Prepared Halt → Type 0
+IsPrepared format input cubes split (Ok found) = WhereTold input cubes (λ text cube_text. IsAccepted format text cube_text split found)
 IsPrepared format input cubes split (Err ReadInput) = ⊤
 IsPrepared format input cubes split (Err ReadCubes) = ⊤
 IsPrepared format input cubes split (Err Memory) = ⊤

@@ -2,21 +2,39 @@
 #![tactic(auto)]
 
 mod device;
+mod dividing;
+mod forking;
+mod gates;
+mod gathering;
 mod laws;
 mod lines;
 mod options;
+mod parts;
 mod preparing;
 mod reading;
 mod report;
 mod running;
 mod sending;
+mod sharing;
 mod solving;
+mod working;
 
 pub use device::Device;
+pub use gates::{Gate, OpenGate};
+pub use gathering::gather;
 pub use laws::report_laws;
 pub use options::{Format, Options, RunFault, Status};
+pub use parts::Part;
 pub use report::report_memory;
 pub use running::run;
+pub use solving::{SolveFault, solve};
+pub use working::work;
 
 #[cfg(test)]
+mod division_tests;
+#[cfg(test)]
+mod hostile;
+#[cfg(test)]
 mod tests;
+#[cfg(test)]
+mod worker_tests;

@@ -15,10 +15,11 @@ pub enum Format {
     Icnf,
 }
 
-/// How to read the input, and how to divide the work. Neither the workers nor the split change the report of an accepted input.
+/// How to read the input, and how to divide the work. Neither the workers nor an accepted split change the report.
 #[derive(Clone, Copy, Debug)]
 pub struct Options {
     pub format: Format,
+    /// How many threads may search at the same time.
     pub workers: Workers,
     /// So many variables are split into cubes, at most 12; 0 makes none.
     pub split: u32,

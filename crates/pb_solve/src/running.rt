@@ -8,23 +8,27 @@ ghost use Rattle.pb_solve.specs.Texts.{text_refusal};
 ghost use Rattle.pb_solve.specs.Run.{Reports, Answers, IsUnfailed, IsUnread, failed_after, text_left};
 
 use crate::device::Device;
+use crate::gates::OpenGate;
 use crate::options::{Format, Options, RunFault, Status};
-use crate::preparing::{Halt, prepare};
+use crate::preparing::{Halt, Prepared, prepare};
 use crate::reading::{CubeFile, NoCubeFile};
 use crate::report::{
     report_infeasible, report_memory, report_optimum, report_refusal, report_satisfiable,
 };
-use crate::solving::solve;
+use crate::solving::{SolveFault, solve};
 use pb_inst::{Best, Instance};
 use std::alloc::Global;
 use std::io::{Read, Write};
+use std::thread::Threads;
 
 /// Reads the texts, solves the instance, and writes the report, which is flushed.
 ///
-/// The cube file is read after the input, and only where the input is not refused. Cubes and the split only divide the work.
+/// The cube file is read after the input, and only where the input is not refused. Cubes, split and workers only divide
+/// the work: those that are accepted change no byte of the report.
 /// A fault names the device that failed. After `ReadInput` and `ReadCubes` nothing was written;
 /// what was written before `Write` is not said.
-pub fn run<I: Read, C: Read, W: Write>(
+pub fn run<R: Threads + Sync, I: Read, C: Read, W: Write>(
+    rt: &R,
     alloc: Global,
     input: &mut Device<I>,
     cubes: Option<&mut Device<C>>,
@@ -51,13 +55,14 @@ pub fn run<I: Read, C: Read, W: Write>(
         → IsUnread cubes.entry cubes.exit) }
 {
     match cubes {
-        None => run_with(alloc, input, &mut NoCubeFile, options, out),
-        Some(cubes) => run_with(alloc, input, cubes, options, out),
+        None => run_with(rt, alloc, input, &mut NoCubeFile, options, out),
+        Some(cubes) => run_with(rt, alloc, input, cubes, options, out),
     }
 }
 
 /// The run with a cube file or none.
-fn run_with<I: Read, C: CubeFile, W: Write>(
+fn run_with<R: Threads + Sync, I: Read, C: CubeFile, W: Write>(
+    rt: &R,
     alloc: Global,
     input: &mut Device<I>,
     cubes: &mut C,
@@ -79,7 +84,7 @@ fn run_with<I: Read, C: CubeFile, W: Write>(
         → cubes.new ≡ cubes.old) }
 {
     match prepare(alloc, input, cubes, options.format, options.split) {
-        Ok(instance) => answer(alloc, &instance, options.format, out),
+        Ok(found) => answer(rt, alloc, &found, options, out),
         Err(Halt::Refused(refusal)) => report_refusal(out, refusal),
         Err(Halt::Memory) => report_memory(out),
         Err(Halt::ReadInput) => Err(RunFault::ReadInput),
@@ -87,23 +92,26 @@ fn run_with<I: Read, C: CubeFile, W: Write>(
     }
 }
 
-/// Solves the instance, and reports the answer.
-fn answer<W: Write>(
+/// Solves the instance by its pieces, and reports the answer.
+fn answer<R: Threads + Sync, W: Write>(
+    rt: &R,
     alloc: Global,
-    instance: &Instance,
-    format: Format,
+    found: &Prepared,
+    options: Options,
     out: &mut Device<W>,
 ) -> Result<Status, RunFault>
-    requires { out.old.failed ≡ false }
+    requires out { out.old.failed ≡ false }
+    requires same_variables { found.now.pieces.vars ≡ found.now.instance.vars }
     ensures answers { IfOk result (λ status. status ≢ Status.Unknown
-        → Answers format instance.now (W.contents out.old.held) (W.contents out.new.held) status) }
+        → Answers options.format found.now.instance (W.contents out.old.held) (W.contents out.new.held) status) }
     ensures memory { result ≡ Ok Status.Unknown → Appends (W.contents out.old.held) (W.contents out.new.held) memory_report }
     ensures fault { IfErr result (λ fault. fault ≡ RunFault.Write) }
     ensures failed { out.new.failed ≡ is_err result }
 {
-    match solve(alloc, instance) {
-        Ok(best) => report_best(out, format, instance, &best),
-        Err(_) => report_memory(out),
+    let (instance, pieces) = (&found.instance, &found.pieces);
+    match solve(rt, alloc, instance, pieces, options.workers, &OpenGate) {
+        Ok(best) => report_best(out, options.format, instance, &best),
+        Err(SolveFault::Memory) => report_memory(out),
     }
 }
 

@@ -1,32 +1,54 @@
-//! Solving: branch and bound over the whole instance as one piece.
-ghost use Rattle.std.specs.Prelude.{◌≡◌, [], IfOk};
+//! Solving with many workers, which claim pieces and lend each other what they found.
+ghost use Rattle.std.specs.Prelude.{◌≡◌, IfOk};
 ghost use Rattle.pb_solve.specs.Solving.{HoldsLeast};
 
+use crate::forking::fork;
+use crate::gates::Gate;
+use crate::gathering::gather;
+use pb_board::Board;
 use pb_cubes::Pieces;
-use pb_inst::{Best, Instance, Memory};
+use pb_inst::{Best, Instance, Memory, Workers};
 use pb_normal::normalise;
-use pb_search::{Alone, Search};
 use std::alloc::Global;
+use std::thread::Threads;
+use thiserror::Error;
 
-/// Holds the least assignment, and nothing where nothing is feasible.
-pub(crate) fn solve<'i>(alloc: Global, instance: &'i Instance) -> Result<Best<'i>, Memory>
-    ensures same_instance { IfOk result (λ best. best.problem ≡ instance.now) }
-    ensures least { IfOk result (λ best. HoldsLeast instance.now best.held) }
-{
-    let mut best = Best::none(alloc, instance)?;
-    let normal = normalise(alloc, instance)?;
-    let pieces = one_piece(alloc, instance.vars());
-    let mut search = Search::new(alloc, instance, &normal, &pieces)?;
-    search.run(0, &mut best, &mut Alone);
-    Ok(best)
+/// Why an instance was not solved.
+#[derive(Clone, Copy, Debug, PartialEq, Eq, Error)]
+pub enum SolveFault {
+    /// The memory that the call needs was refused.
+    #[error("out of memory")]
+    Memory,
 }
 
-/// The remainder of no cubes, in which every assignment lies. Takes no memory.
-fn one_piece(alloc: Global, vars: u32) -> Pieces
-    ensures { result ≡ record { vars = vars; cubes = [] } }
+impl From<Memory> for SolveFault {
+    fn from(_: Memory) -> SolveFault {
+        SolveFault::Memory
+    }
+}
+
+/// The least assignment, or none where nothing is feasible. The workers, numbered from 0, run on threads of their own
+/// where the system gives them; else some of them run one after the other, with the same answer. Asks for pieces over the
+/// instance's variables.
+pub fn solve<'i, R: Threads + Sync, G: Gate + Sync>(
+    rt: &R,
+    alloc: Global,
+    inst: &'i Instance,
+    pieces: &'i Pieces,
+    workers: Workers,
+    gate: &G,
+) -> Result<Best<'i>, SolveFault>
+    requires { pieces.now.vars ≡ inst.now.vars }
+    ensures same_instance { IfOk result (λ best. best.problem ≡ inst.now) }
+    ensures least { IfOk result (λ best. HoldsLeast inst.now best.held) }
 {
-    let Ok(pieces) = Pieces::new(vars, Vec::new(alloc)) else {
-        unreachable!()
-    };
-    pieces
+    let mut best = Best::none(alloc, inst)?;
+    let normal = normalise(alloc, inst)?;
+    let (board, seat) = Board::new(alloc, workers, inst.vars())?;
+    // A call tells that there are at most 64 workers.
+    let _workers = workers.get();
+    let (parts, seat) = fork(rt, alloc, inst, &normal, pieces, &board, seat, 0, gate)?;
+    board.close(seat);
+    gather(&mut best, &parts);
+    Ok(best)
 }

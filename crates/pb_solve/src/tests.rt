@@ -335,12 +335,13 @@ const CASES: [Case; 44] = [
 ];
 
 #[test]
-fn reports_on_texts(rt: HostRuntime) -> Result<(), Fail> {
+fn ample_memory(rt: HostRuntime) -> Result<(), Fail> {
     for case in &CASES {
         let mut input = Device::new(case.text);
         let mut written = Vec::new(rt.alloc());
         let mut out = Device::new(&mut written);
         let ended = run(
+            &rt,
             rt.alloc(),
             &mut input,
             None::<&mut Device<Empty>>,
@@ -430,7 +431,14 @@ fn reports_on_texts_with_cube_files_and_splits(rt: HostRuntime) -> Result<(), Fa
         let mut written = Vec::new(rt.alloc());
         let mut out = Device::new(&mut written);
         let options = options(&rt, case.format, case.split);
-        let ended = run(rt.alloc(), &mut input, Some(&mut cubes), options, &mut out);
+        let ended = run(
+            &rt,
+            rt.alloc(),
+            &mut input,
+            Some(&mut cubes),
+            options,
+            &mut out,
+        );
         assert_eq!(rt; ended, Ok(case.status), "case {i}");
         assert_eq!(rt; written.as_slice(), case.report, "case {i}");
     }
@@ -439,10 +447,10 @@ fn reports_on_texts_with_cube_files_and_splits(rt: HostRuntime) -> Result<(), Fa
 
 // Reads or writes at most so many bytes a call, and fails at the call after so many more.
 #[derive(Drop)]
-struct Failing<T> {
-    inner: T,
-    step: usize,
-    calls_left: usize,
+pub struct Failing<T> {
+    pub inner: T,
+    pub step: usize,
+    pub calls_left: usize,
 }
 
 impl<T> Failing<T> {
@@ -488,6 +496,7 @@ fn an_input_that_fails_at_any_read(rt: HostRuntime) -> Result<(), Fail> {
         let mut written = Vec::new(rt.alloc());
         let mut out = Device::new(&mut written);
         let ended = run(
+            &rt,
             rt.alloc(),
             &mut input,
             None::<&mut Device<Empty>>,
@@ -520,7 +529,14 @@ fn a_cube_file_that_fails_at_any_read(rt: HostRuntime) -> Result<(), Fail> {
         let mut written = Vec::new(rt.alloc());
         let mut out = Device::new(&mut written);
         let options = options(&rt, Format::Opb, 0);
-        let ended = run(rt.alloc(), &mut input, Some(&mut cubes), options, &mut out);
+        let ended = run(
+            &rt,
+            rt.alloc(),
+            &mut input,
+            Some(&mut cubes),
+            options,
+            &mut out,
+        );
         if !cubes.failed() {
             assert_eq!(rt; ended, Ok(worked.status));
             assert_eq!(rt; calls_left, file.len().div_ceil(4) + 1);
@@ -545,6 +561,7 @@ fn an_output_that_fails_at_any_call(rt: HostRuntime) -> Result<(), Fail> {
             calls_left,
         });
         let ended = run(
+            &rt,
             rt.alloc(),
             &mut input,
             None::<&mut Device<Empty>>,

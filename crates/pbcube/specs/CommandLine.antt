@@ -1,34 +1,38 @@
 -- The one command, and what a line takes from its matches.
-use Rattle.std.specs.Prelude.{◌≡◌, ℕ, List, [], ◌∷◌, Some, option_map, codes, true, Ok, IsSomeAnd}
+use Rattle.std.specs.Prelude.{◌≡◌, ◌⊎◌, ◌≤◌, ℕ, List, [], ◌∷◌, Some, option_map, codes, true, Ok, IsSomeAnd}
 use Rattle.std.specs.Str.Parse.{ParsesUnsigned}
 use Rattle.std.specs.declared.num.ParseIntError.{ParseIntError}
-use Rattle.clap.specs.Words.{App, Row, Rule, Text, first_of, one_of, new_app, new_rule, with_rule}
+use Rattle.clap.specs.Words.{App, IsAmong, Row, Rule, Text, fault_of, first_of, matches_of, one_of, new_app, new_rule, with_rule}
+use Rattle.clap.specs.declared.error.kind.ErrorKind.{ErrorKind}
+use Rattle.clap.specs.declared.error.kind.ErrorKind.TheVariants.{InvalidValue, OutOfMemory}
 use Rattle.clap.specs.declared.builder.ValueParser.TheVariants as parser
 use Rattle.pb_solve.specs.declared.options.Format.{Format}
 use Rattle.pb_solve.specs.declared.options.Format.TheVariants.{Opb, Cnf, Icnf}
 use Rattle.pbcube.specs.declared.asked.Line.{Line}
 
+-- Help has a name for the value of each, which `value_names` counts; no word is read by it.
+
 -- `--format`, by default `opb`
 abbrev pub format : Rule
-format = record (new_rule (codes "format")) { long = Some (codes "format"); defaults = codes "opb" ∷ [] }
+format = record (new_rule (codes "format")) { long = Some (codes "format"); value_names = 1; defaults = codes "opb" ∷ [] }
 
 -- `--workers`, a number from 1 to 64, by default 1
 abbrev pub workers : Rule
-workers = record (new_rule (codes "workers")) { long = Some (codes "workers"); defaults = codes "1" ∷ []; parser = Some (parser.Unsigned 1 64) }
+workers = record (new_rule (codes "workers")) { long = Some (codes "workers"); value_names = 1; defaults = codes "1" ∷ []; parser = Some (parser.Unsigned 1 64) }
 
 -- `--split`, a number from 0 to 12, by default 0
 abbrev pub split : Rule
-split = record (new_rule (codes "split")) { long = Some (codes "split"); defaults = codes "0" ∷ []; parser = Some (parser.Unsigned 0 12) }
+split = record (new_rule (codes "split")) { long = Some (codes "split"); value_names = 1; defaults = codes "0" ∷ []; parser = Some (parser.Unsigned 0 12) }
 
 -- `--cubes`
 abbrev pub cubes : Rule
-cubes = record (new_rule (codes "cubes")) { long = Some (codes "cubes") }
+cubes = record (new_rule (codes "cubes")) { long = Some (codes "cubes"); value_names = 1 }
 
 -- the file, which has to be there
 abbrev pub file : Rule
-file = record (new_rule (codes "file")) { required = true }
+file = record (new_rule (codes "file")) { required = true; value_names = 1 }
 
--- `pbcube [--format F] [--workers W] [--split K] [--cubes FILE] FILE`
+-- `pbcube [--format FORMAT] [--workers W] [--split K] [--cubes FILE] FILE`
 abbrev pub pbcube : App
 pbcube = with_rule (with_rule (with_rule (with_rule (with_rule (new_app (codes "pbcube")) format) workers) split) cubes) file
 
@@ -49,3 +53,12 @@ pub record IsLineOf (matches : List Row) (line : Line) : Type 0 where
   pub format : first_of (codes "format") matches ≡ Some (format_name line.options.format)
   pub workers : IsSomeAnd (one_of (codes "workers") matches) (λ text. Spells text line.options.workers)
   pub split : IsSomeAnd (one_of (codes "split") matches) (λ text. Spells text line.options.split)
+
+-- no line, of 1 to 64 workers, has the values of the matches
+abbrev pub HasNoLine : List Row → Type 0
+HasNoLine matches = (line : Line) → 1 ≤ line.options.workers → line.options.workers ≤ 64 → IsLineOf matches line → ⊥
+
+-- the words may have a fault of this kind: memory ran out, or clap refuses the words by it, or a value is wrong, so
+-- that no line has the values of the matches
+abbrev pub MayFailBy : List Text → ErrorKind → Type 0
+MayFailBy words kind = (kind ≡ OutOfMemory) ⊎ (IsAmong kind (fault_of pbcube words) ⊎ ((kind ≡ InvalidValue) × HasNoLine (matches_of pbcube words)))

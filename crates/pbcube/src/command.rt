@@ -1,17 +1,18 @@
 //! The one command.
-ghost use Rattle.std.specs.Prelude.{◌≡◌, false, IfOk};
-ghost use Rattle.clap.specs.Words.{app_of, rule_of};
+ghost use Rattle.std.specs.Prelude.{◌≡◌, codes, false, IfOk};
+ghost use Rattle.clap.specs.Words.{app_of, new_app, rule_of};
 ghost use Rattle.pbcube.specs.CommandLine.{pbcube, format, workers, split, cubes, file};
 
+use crate::help::{ABOUT, EXAMPLES_AND_STATUSES, LONG_ABOUT};
 use clap::builder::ValueParser;
 use clap::{Arg, Command};
 use std::alloc::{AllocError, Global};
 
-/// `pbcube [--format F] [--workers W] [--split K] [--cubes FILE] FILE`
+/// `pbcube [--format FORMAT] [--workers W] [--split K] [--cubes FILE] FILE`
 pub fn command<'a>(alloc: Global) -> Result<Command<'a>, AllocError>
     ensures { IfOk result (λ command. app_of command ≡ pbcube) }
 {
-    let command = Command::new(alloc, "pbcube")
+    let command = named(alloc)
         .arg(format_option(alloc))?
         .arg(workers_option(alloc))?
         .arg(split_option(alloc))?
@@ -20,7 +21,17 @@ pub fn command<'a>(alloc: Global) -> Result<Command<'a>, AllocError>
     Ok(command)
 }
 
-// `--format F`
+// The command's name, and what help says around its options.
+fn named<'a>(alloc: Global) -> Command<'a>
+    ensures { app_of result ≡ new_app (codes "pbcube") }
+{
+    Command::new(alloc, "pbcube")
+        .about(ABOUT)
+        .long_about(LONG_ABOUT)
+        .after_long_help(EXAMPLES_AND_STATUSES)
+}
+
+// `--format FORMAT`
 fn format_option<'a>(alloc: Global) -> Arg<'a>
     ensures rule { rule_of result ≡ format }
     ensures local { result.global ≡ false }
@@ -28,6 +39,8 @@ fn format_option<'a>(alloc: Global) -> Arg<'a>
     Arg::new(alloc, "format")
         .long("format")
         .default_value("opb")
+        .value_name("FORMAT")
+        .help("How FILE is written: opb, cnf or icnf")
 }
 
 // `--workers W`
@@ -38,6 +51,8 @@ fn workers_option<'a>(alloc: Global) -> Arg<'a>
     Arg::new(alloc, "workers")
         .long("workers")
         .default_value("1")
+        .value_name("W")
+        .help("Workers, 1 to 64: the threads that share the work")
         .value_parser(ValueParser::Unsigned(1, 64))
 }
 
@@ -49,6 +64,8 @@ fn split_option<'a>(alloc: Global) -> Arg<'a>
     Arg::new(alloc, "split")
         .long("split")
         .default_value("0")
+        .value_name("K")
+        .help("Divide the work by the K most frequent variables, 0 to 12")
         .value_parser(ValueParser::Unsigned(0, 12))
 }
 
@@ -57,7 +74,10 @@ fn cubes_option<'a>(alloc: Global) -> Arg<'a>
     ensures rule { rule_of result ≡ cubes }
     ensures local { result.global ≡ false }
 {
-    Arg::new(alloc, "cubes").long("cubes")
+    Arg::new(alloc, "cubes")
+        .long("cubes")
+        .value_name("FILE")
+        .help("A file of cubes that divide the work, lines `a LITERALS 0`; none by default")
 }
 
 // `FILE`
@@ -65,5 +85,8 @@ fn file_operand<'a>(alloc: Global) -> Arg<'a>
     ensures rule { rule_of result ≡ file }
     ensures local { result.global ≡ false }
 {
-    Arg::new(alloc, "file").required(true)
+    Arg::new(alloc, "file")
+        .required(true)
+        .value_name("FILE")
+        .help("The file that holds the instance")
 }

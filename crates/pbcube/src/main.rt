@@ -1,9 +1,12 @@
 //! `pbcube`: the least assignment of a pseudo-Boolean instance, from the command line.
 #![tactic(auto)]
 
+ghost use Rattle.std.specs.Prelude.{◌≡◌};
+
 mod asked;
 mod command;
 mod files;
+mod help;
 mod running;
 mod statuses;
 mod words;
@@ -24,6 +27,8 @@ struct SystemFiles<'a> {
 
 impl Files for SystemFiles<'_> {
     type Input = File;
+
+    ghost fetches = { λ files name opened after. after ≡ files };
 
     fn fetch(&mut self, name: &str) -> Option<File> {
         fs::open(self.rt, name).ok()
@@ -46,7 +51,7 @@ fn main(rt: HostRuntime) -> ExitCode {
     };
     let mut files = SystemFiles { rt: &rt };
     let status = match words_of(rt.alloc(), &texts) {
-        Ok(words) => program(rt.alloc(), &words, &mut files, &mut out, &mut err),
+        Ok(words) => program(&rt, rt.alloc(), &words, &mut files, &mut out, &mut err),
         Err(_) => out_of_memory(&mut out, &mut err),
     };
     ExitCode::from(status)

@@ -1,5 +1,6 @@
 //! The program over any files and any outputs.
-ghost use Rattle.std.specs.Prelude.{◌≡◌, false};
+ghost use Rattle.std.specs.Prelude.{◌≡◌, false, map};
+ghost use Rattle.pbcube.specs.Fetching.{FetchesFor, FetchesInOrder};
 ghost use Rattle.pbcube.specs.Statuses.{IsExitStatus};
 
 use crate::asked::Line;
@@ -11,23 +12,27 @@ use clap::error::ErrorKind;
 use pb_solve::{Device, Options, RunFault, Status, report_memory, run};
 use std::alloc::Global;
 use std::io::{Empty, Read, Write};
+use std::thread::Threads;
 
-/// Runs the program on its words, its own name first, and answers its exit status.
-pub fn program<'a, F: Files, W: Write, E: Write>(
+/// Runs the program on its words, its own name first, and answers its exit status. The input is fetched first, and where it
+/// can be opened the cube file, if there is one.
+pub fn program<'a, R: Threads + Sync, F: Files, W: Write, E: Write>(
+    rt: &R,
     alloc: Global,
     words: &'a [&'a str],
     files: &mut F,
     out: &mut W,
     err: &mut E,
 ) -> u8
-    ensures { IsExitStatus result }
+    ensures status { IsExitStatus result }
+    ensures fetched { FetchesInOrder F.fetches (map (λ word. word.now) words.now) files.old files.new }
 {
     let mut out = Device::new(out);
     let line = match line(alloc, words) {
         Ok(line) => line,
         Err(fault) => return end_at_line(&fault, &mut out, err),
     };
-    match run_on_files(alloc, line, files, &mut out) {
+    match run_on_files(rt, alloc, line, files, &mut out) {
         Ok(status) => exit_status(status),
         Err(fault) => end_at_fault(fault, err),
     }
@@ -41,13 +46,15 @@ pub fn out_of_memory<W: Write, E: Write>(out: &mut W, err: &mut E) -> u8
 }
 
 /// Fetches the files and runs on them, the input before the cube file.
-fn run_on_files<'a, F: Files, W: Write>(
+fn run_on_files<'a, R: Threads + Sync, F: Files, W: Write>(
+    rt: &R,
     alloc: Global,
     line: Line<'a>,
     files: &mut F,
     out: &mut Device<W>,
 ) -> Result<Status, ProgramFault<'a>>
     requires { out.old.failed ≡ false }
+    ensures { FetchesFor F.fetches line.entry files.old files.new }
 {
     let Line {
         file,
@@ -58,7 +65,7 @@ fn run_on_files<'a, F: Files, W: Write>(
         return Err(ProgramFault::CannotRead(file));
     };
     let Some(name) = cubes else {
-        return match run_alone(alloc, input, options, out) {
+        return match run_alone(rt, alloc, input, options, out) {
             Ok(status) => Ok(status),
             Err(fault) => Err(fault_on(file, file, fault)),
         };
@@ -66,13 +73,14 @@ fn run_on_files<'a, F: Files, W: Write>(
     let Some(cubes) = files.fetch(name) else {
         return Err(ProgramFault::CannotRead(name));
     };
-    match run_with_cubes(alloc, input, cubes, options, out) {
+    match run_with_cubes(rt, alloc, input, cubes, options, out) {
         Ok(status) => Ok(status),
         Err(fault) => Err(fault_on(file, name, fault)),
     }
 }
 
-fn run_alone<I: Read + Drop, W: Write>(
+fn run_alone<R: Threads + Sync, I: Read + Drop, W: Write>(
+    rt: &R,
     alloc: Global,
     input: I,
     options: Options,
@@ -81,10 +89,18 @@ fn run_alone<I: Read + Drop, W: Write>(
     requires { out.old.failed ≡ false }
 {
     let mut input = Device::new(input);
-    run(alloc, &mut input, None::<&mut Device<Empty>>, options, out)
+    run(
+        rt,
+        alloc,
+        &mut input,
+        None::<&mut Device<Empty>>,
+        options,
+        out,
+    )
 }
 
-fn run_with_cubes<I: Read + Drop, W: Write>(
+fn run_with_cubes<R: Threads + Sync, I: Read + Drop, W: Write>(
+    rt: &R,
     alloc: Global,
     input: I,
     cubes: I,
@@ -95,7 +111,7 @@ fn run_with_cubes<I: Read + Drop, W: Write>(
 {
     let mut input = Device::new(input);
     let mut cubes = Device::new(cubes);
-    run(alloc, &mut input, Some(&mut cubes), options, out)
+    run(rt, alloc, &mut input, Some(&mut cubes), options, out)
 }
 
 /// The fault of a run, with the name of the file that failed.

@@ -1,8 +1,12 @@
 //! The program over memory: its statuses, and what it writes to either output.
+ghost use Rattle.std.specs.Prelude.{⊤};
 
 use crate::files::Files;
-use crate::running::program;
+use crate::running::{out_of_memory, program};
+use std::alloc::Global;
 use std::io::{self, Error, ErrorKind, Read, Write};
+use std::process::Abort;
+use std::str;
 use std::test::Fail;
 
 const TIE: &[u8] =
@@ -31,6 +35,8 @@ struct Folder;
 impl Files for Folder {
     type Input = Text;
 
+    ghost fetches = { λ files name opened after. ⊤ };
+
     fn fetch(&mut self, name: &str) -> Option<Text> {
         let rest: &'static [u8] = match name {
             "tie.opb" | "broken.opb" => TIE,
@@ -47,6 +53,25 @@ impl Files for Folder {
             rest,
             is_broken: name.starts_with("broken"),
         })
+    }
+}
+
+// The same files, with the names under which they are fetched.
+#[derive(Drop)]
+struct NamedFolder {
+    fetched: Vec<String>,
+    alloc: Global,
+}
+
+impl Files for NamedFolder {
+    type Input = Text;
+
+    ghost fetches = { λ files name opened after. ⊤ };
+
+    fn fetch(&mut self, name: &str) -> Option<Text> {
+        let name_as_given = String::from_str(self.alloc, name).ok()?;
+        self.fetched.push(name_as_given).ok()?;
+        Folder.fetch(name)
     }
 }
 
@@ -72,7 +97,7 @@ struct Case {
     status: u8,
 }
 
-const CASES: [Case; 14] = [
+const CASES: [Case; 17] = [
     Case {
         words: &["pbcube", "tie.opb"],
         out: b"o 3\ns OPTIMUM FOUND\nv -x1 x2 -x3\n",
@@ -170,6 +195,24 @@ const CASES: [Case; 14] = [
         status: 1,
     },
     Case {
+        words: &["pbcube", "--cubes", "none.cubes", "none.opb"],
+        out: b"",
+        err: b"pbcube: cannot read none.opb\n",
+        status: 1,
+    },
+    Case {
+        words: &["pbcube", "--cubes", "none.cubes", "broken.opb"],
+        out: b"",
+        err: b"pbcube: cannot read none.cubes\n",
+        status: 1,
+    },
+    Case {
+        words: &["pbcube", "--cubes", "broken.cubes", "broken.opb"],
+        out: b"",
+        err: b"pbcube: cannot read broken.opb\n",
+        status: 1,
+    },
+    Case {
         words: &["pbcube", "--cubes", "broken.cubes", "product.opb"],
         out: b"c refused: NonLinear at line 1\ns UNSUPPORTED\n",
         err: b"",
@@ -182,7 +225,7 @@ fn outputs_and_statuses(rt: HostRuntime) -> Result<(), Fail> {
     for case in &CASES {
         let mut out = Vec::new(rt.alloc());
         let mut err = Vec::new(rt.alloc());
-        let status = program(rt.alloc(), case.words, &mut Folder, &mut out, &mut err);
+        let status = program(&rt, rt.alloc(), case.words, &mut Folder, &mut out, &mut err);
         assert_eq!(rt; status, case.status, "{:?}", case.words);
         assert_eq!(rt; out.as_slice(), case.out, "{:?}", case.words);
         assert_eq!(rt; err.as_slice(), case.err, "{:?}", case.words);
@@ -190,45 +233,123 @@ fn outputs_and_statuses(rt: HostRuntime) -> Result<(), Fail> {
     Ok(())
 }
 
-const REFUSED: [&[&str]; 7] = [
-    &["pbcube"],
-    &["pbcube", "tie.opb", "product.opb"],
-    &["pbcube", "--workers", "0", "tie.opb"],
-    &["pbcube", "--workers", "65", "tie.opb"],
-    &["pbcube", "--split", "13", "tie.opb"],
-    &["pbcube", "--format", "wbo", "tie.opb"],
-    &["pbcube", "--nothing", "tie.opb"],
+#[test]
+fn the_file_is_fetched_before_the_cube_file(rt: HostRuntime) -> Result<(), Fail> {
+    let mut files = NamedFolder {
+        fetched: Vec::new(rt.alloc()),
+        alloc: rt.alloc(),
+    };
+    let mut out = Vec::new(rt.alloc());
+    let mut err = Vec::new(rt.alloc());
+    let words = ["pbcube", "--cubes", "good.cubes", "tie.opb"];
+    let status = program(
+        &rt,
+        rt.alloc(),
+        words.as_slice(),
+        &mut files,
+        &mut out,
+        &mut err,
+    );
+    assert_eq!(rt; status, 30);
+    assert_eq!(rt; files.fetched.len(), 2);
+    assert_eq!(rt; files.fetched[0].as_str(), "tie.opb");
+    assert_eq!(rt; files.fetched[1].as_str(), "good.cubes");
+    Ok(())
+}
+
+// Words that are refused, and a part of what is written to standard error.
+const REFUSED: [(&[&str], &str); 11] = [
+    (&["pbcube"], "<FILE>"),
+    (&["pbcube", "tie.opb", "product.opb"], "'product.opb'"),
+    (
+        &["pbcube", "--workers", "0", "tie.opb"],
+        "0 is not in 1..=64",
+    ),
+    (
+        &["pbcube", "--workers", "65", "tie.opb"],
+        "65 is not in 1..=64",
+    ),
+    (&["pbcube", "--workers", "two", "tie.opb"], "'two'"),
+    (
+        &["pbcube", "--split", "13", "tie.opb"],
+        "13 is not in 0..=12",
+    ),
+    (&["pbcube", "--split", "-1", "tie.opb"], "'-1'"),
+    (
+        &["pbcube", "--split", "1", "--split", "2", "tie.opb"],
+        "multiple times",
+    ),
+    (
+        &["pbcube", "--format", "wbo", "tie.opb"],
+        "opb, cnf and icnf",
+    ),
+    (&["pbcube", "--nothing", "tie.opb"], "'--nothing'"),
+    (&["pbcube", "tie.opb", "--cubes"], "--cubes"),
 ];
 
 #[test]
 fn refused_words(rt: HostRuntime) -> Result<(), Fail> {
-    for words in &REFUSED {
+    for (words, part) in &REFUSED {
         let mut out = Vec::new(rt.alloc());
         let mut err = Vec::new(rt.alloc());
-        let status = program(rt.alloc(), *words, &mut Folder, &mut out, &mut err);
+        let status = program(&rt, rt.alloc(), *words, &mut Folder, &mut out, &mut err);
         assert_eq!(rt; status, 2, "{words:?}");
         assert_eq!(rt; out.len(), 0, "{words:?}");
-        assert!(rt; !err.is_empty(), "{words:?}");
+        assert_has(&rt, err.as_slice(), part);
     }
     Ok(())
 }
 
+const SHORT_HELP: [&str; 8] = [
+    "Usage: pbcube [OPTIONS] <FILE>",
+    "--format <FORMAT>",
+    "opb, cnf or icnf [default: opb]",
+    "1 to 64",
+    "[default: 1]",
+    "0 to 12 [default: 0]",
+    "--cubes <FILE>",
+    "`a LITERALS 0`",
+];
+
+const LONG_HELP: [&str; 6] = [
+    "Usage: pbcube [OPTIONS] <FILE>",
+    "--format <FORMAT>",
+    "--workers <W>",
+    "--split <K>",
+    "pbcube --format cnf formula.cnf",
+    "30  s OPTIMUM FOUND",
+];
+
 #[test]
 fn help_goes_to_standard_output(rt: HostRuntime) -> Result<(), Fail> {
-    let mut out = Vec::new(rt.alloc());
-    let mut err = Vec::new(rt.alloc());
-    let words = ["pbcube", "--help"];
-    let status = program(
-        rt.alloc(),
-        words.as_slice(),
-        &mut Folder,
-        &mut out,
-        &mut err,
-    );
-    assert_eq!(rt; status, 0);
-    assert!(rt; !out.is_empty());
-    assert_eq!(rt; err.len(), 0);
+    let helps: [(&str, &[&str]); 2] = [("-h", &SHORT_HELP), ("--help", &LONG_HELP)];
+    for (word, parts) in &helps {
+        let mut out = Vec::new(rt.alloc());
+        let mut err = Vec::new(rt.alloc());
+        let words = ["pbcube", *word];
+        let status = program(
+            &rt,
+            rt.alloc(),
+            words.as_slice(),
+            &mut Folder,
+            &mut out,
+            &mut err,
+        );
+        assert_eq!(rt; status, 0);
+        assert_eq!(rt; err.len(), 0);
+        for part in *parts {
+            assert_has(&rt, out.as_slice(), part);
+        }
+    }
     Ok(())
+}
+
+// The text has this part.
+fn assert_has(rt: &impl Abort, text: &[u8], part: &str) {
+    assert!(rt;
+        str::from_utf8(text).is_ok_and(|text: &str| text.contains(part)),
+        "{part}"
+    );
 }
 
 #[test]
@@ -236,6 +357,7 @@ fn an_output_that_fails(rt: HostRuntime) -> Result<(), Fail> {
     for words in [["pbcube", "tie.opb"], ["pbcube", "--help"]] {
         let mut err = Vec::new(rt.alloc());
         let status = program(
+            &rt,
             rt.alloc(),
             words.as_slice(),
             &mut Folder,
@@ -245,5 +367,50 @@ fn an_output_that_fails(rt: HostRuntime) -> Result<(), Fail> {
         assert_eq!(rt; status, 1);
         assert_eq!(rt; err.as_slice(), b"pbcube: cannot write\n".as_slice());
     }
+    Ok(())
+}
+
+#[test]
+fn a_standard_error_that_fails_is_ignored(rt: HostRuntime) -> Result<(), Fail> {
+    for (words, ended) in [(["pbcube", "none.opb"], 1), (["pbcube", "--nothing"], 2)] {
+        let mut out = Vec::new(rt.alloc());
+        let status = program(
+            &rt,
+            rt.alloc(),
+            words.as_slice(),
+            &mut Folder,
+            &mut out,
+            &mut Full,
+        );
+        assert_eq!(rt; status, ended);
+        assert_eq!(rt; out.len(), 0);
+    }
+    let words = ["pbcube", "tie.opb"];
+    let status = program(
+        &rt,
+        rt.alloc(),
+        words.as_slice(),
+        &mut Folder,
+        &mut Full,
+        &mut Full,
+    );
+    assert_eq!(rt; status, 1);
+    Ok(())
+}
+
+#[test]
+fn words_that_find_no_memory(rt: HostRuntime) -> Result<(), Fail> {
+    let mut out = Vec::new(rt.alloc());
+    let mut err = Vec::new(rt.alloc());
+    let status = out_of_memory(&mut out, &mut err);
+    assert_eq!(rt; status, 0);
+    assert_eq!(rt;
+        out.as_slice(),
+        b"c refused: Memory\ns UNKNOWN\n".as_slice()
+    );
+    assert_eq!(rt; err.len(), 0);
+    let status = out_of_memory(&mut Full, &mut err);
+    assert_eq!(rt; status, 1);
+    assert_eq!(rt; err.as_slice(), b"pbcube: cannot write\n".as_slice());
     Ok(())
 }

@@ -1,7 +1,7 @@
 //! From the words to what they ask for.
-ghost use Rattle.std.specs.Prelude.{◌≡◌, map, IfOk, IfSome, Some};
-ghost use Rattle.clap.specs.Words.{found_of, rows_of, matches_of};
-ghost use Rattle.pbcube.specs.CommandLine.{IsLineOf, pbcube, format_name};
+ghost use Rattle.std.specs.Prelude.{◌≡◌, ◌≢◌, ◌≤◌, map, IfErr, IfOk, IfSome, IsNone, Some, SomeIff, []};
+ghost use Rattle.clap.specs.Words.{fault_of, found_of, kind_of, matches_of, rows_of};
+ghost use Rattle.pbcube.specs.CommandLine.{HasNoLine, IsLineOf, MayFailBy, format_name, pbcube};
 
 use crate::asked::Line;
 use crate::command::command;
@@ -11,9 +11,12 @@ use pb_inst::Workers;
 use pb_solve::{Format, Options};
 use std::alloc::Global;
 
-/// Reads the words, the program's name first.
+/// Reads the words, the program's name first. Fails where clap refuses them, where they ask for help, where the format has
+/// another name, and for want of memory, with the kind that says which.
 pub fn line<'a>(alloc: Global, words: &'a [&'a str]) -> Result<Line<'a>, Error>
-    ensures { IfOk result (IsLineOf (matches_of pbcube (map (λ word. word.now) words.now))) }
+    ensures line { IfOk result (IsLineOf (matches_of pbcube (map (λ word. word.now) words.now))) }
+    ensures accepted { IfOk result (λ line. fault_of pbcube (map (λ word. word.now) words.now) ≡ []) }
+    ensures refused { IfErr result (λ fault. MayFailBy (map (λ word. word.now) words.now) (kind_of fault)) }
 {
     let mut command = command(alloc)?;
     let matches = command.try_get_matches_from_mut(words)?;
@@ -28,7 +31,8 @@ pub fn line<'a>(alloc: Global, words: &'a [&'a str]) -> Result<Line<'a>, Error>
 
 // What the matches ask for, unless a value is missing or the format has another name.
 fn line_of<'a>(matches: &ArgMatches<'a>) -> Option<Line<'a>>
-    ensures { IfSome result (IsLineOf (rows_of (found_of matches.now))) }
+    ensures some { IfSome result (IsLineOf (rows_of (found_of matches.now))) }
+    ensures none { IsNone result → HasNoLine (rows_of (found_of matches.now)) }
 {
     let options = Options {
         format: format_of(matches.get_str("format")?)?,
@@ -42,9 +46,10 @@ fn line_of<'a>(matches: &ArgMatches<'a>) -> Option<Line<'a>>
     })
 }
 
-// The format of this name.
+// The format of this name, where it is one's.
 fn format_of(name: &str) -> Option<Format>
-    ensures { IfSome result (λ format. name.now ≡ format_name format) }
+    ensures some { IfSome result (λ format. name.now ≡ format_name format) }
+    ensures none { IsNone result → (format : Format) → name.now ≢ format_name format }
 {
     match name {
         "opb" => Some(Format::Opb),
@@ -54,8 +59,9 @@ fn format_of(name: &str) -> Option<Format>
     }
 }
 
+// So many workers, from 1 to 64.
 fn workers_of(count: u32) -> Option<Workers>
-    ensures { IfSome result (λ workers. workers ≡ count) }
+    ensures { SomeIff result ((1 ≤ count) × (count ≤ 64)) count }
 {
     Workers::new(count).ok()
 }

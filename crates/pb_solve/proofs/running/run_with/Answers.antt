@@ -7,7 +7,7 @@ use Rattle.pb_solve.proofs.OutcomeLaws.{answers_report, refusal_reports}
 use Rattle.pb_solve.proofs.running.run_with.Goals as goal
 
 pub returns-in-Ok-clause-headline : goal.returns-in-Ok-clause-headline
-returns-in-Ok-clause-headline g c = answers_report _ _ _ _ _ _ _ _ c.in-Ok.ensures.prepared c.answer.ensures.answers
+returns-in-Ok-clause-headline g c = answers_report _ _ c.in-Ok.found _ _ _ _ _ c.in-Ok.ensures.prepared c.answer.ensures.answers
 
 pub returns-in-Err-Refused-clause-headline : goal.returns-in-Err-Refused-clause-headline
 returns-in-Err-Refused-clause-headline g c =

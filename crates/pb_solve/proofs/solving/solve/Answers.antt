@@ -1,13 +1,14 @@
-use Rattle.std.proofs.Common.{◌≡◌, List, [], ap, subst, ◌∙◌}
-use Rattle.pb_inst.specs.Literal.{Literal}
-use Rattle.pb_cubes.specs.Pieces.{CubeList}
-use Rattle.pb_search.specs.Done.{Division, IsDone}
-use Rattle.pb_solve.proofs.SolvingLaws.{whole, done_holds_least}
+use Rattle.std.proofs.Common.{List, ap, sym, subst}
+use Rattle.pb_inst.specs.Problem.{Problem}
+use Rattle.pb_inst.specs.Incumbent.{Incumbent}
+use Rattle.pb_solve.specs.Parts.{PartView, AreWhole}
+use Rattle.pb_solve.specs.Solving.{HoldsLeast}
+use Rattle.pb_solve.proofs.ClaimLaws.{all_named}
 use Rattle.pb_solve.proofs.solving.solve.Goals as goal
 
 pub returns-clause-least : goal.returns-clause-least
-returns-clause-least c =
-    let p = c.args.instance.now in
-    let no_cubes : c.one_piece-pieces.result.cubes ≡ [] = ap (λ (pieces : CubeList). pieces.cubes) c.one_piece-pieces.ensures in
-    let division : c.in_ok-search.search ≡ whole p = c.in_ok-search.ensures ∙ ap (λ (cubes : List (List Literal)). let d : Division = record { problem = p; cubes = cubes } in d) no_cubes in
-    done_holds_least p c.run.new.best.held (subst (λ (d : Division). IsDone d 0 c.run.new.best.held) division c.run.ensures.done)
+returns-clause-least g c =
+    let whole : AreWhole c.args.pieces.now c.in_ok-parts.parts.items =
+    all_named c.args.inst.now c.args.pieces.now c.in_ok-parts.parts.items c.in_ok-parts.seat.claimed c.close.result.claims c.in_ok-parts.ensures.whole c.close.ensures.count c.close.ensures.numbers in
+    subst (λ (p : Problem). HoldsLeast p c.gather.new.into.held) (ap (λ (b : Incumbent). b.problem) c.in_ok-best.ensures)
+    (c.gather.ensures.least c.args.pieces.now (subst (λ (parts : List PartView). AreWhole c.args.pieces.now parts) (sym c.deref.ensures.value) whole))

@@ -1,6 +1,6 @@
 use Rattle.std.proofs.Common.{◌≤◌, ◌^◌, arith}
 use Rattle.std.proofs.Math.Pow.{pow_mono}
-use Rattle.pb_solve.proofs.preparing.cubes_of_split.Goals as goal
+use Rattle.pb_solve.proofs.dividing.number_of_split.Goals as goal
 
 pub returns-else-split-eq0-clause-small : goal.returns-else-split-eq0-clause-small
 returns-else-split-eq0-clause-small c =

@@ -1,0 +1,66 @@
+-- The cubes of the texts are of the instance's variables, so that they make pieces.
+use Rattle.std.proofs.Common.{◌≡◌, ◌∙◌, ◌+◌, ◌++◌, length, flat_map, inl, inr, ◌⊎◌, ◌↔◌, ℕ, ◌≤◌, ◌<◌, List, [], ◌∷◌, Result, Ok, Err, All, max, min, subst, sym, ap, arith}
+use Rattle.std.specs.Prelude.{IfErr, IsErrOf}
+use Rattle.std.proofs.lemmas.List.{length-append}
+use Rattle.std.proofs.lemmas.List.Elements.{All-nil, All-cons, All-append}
+use Rattle.pb_inst.specs.Literal.{Literal}
+use Rattle.pb_inst.specs.Problem.{Problem}
+use Rattle.pb_read.specs.Clauses.{VarsUpTo, greatest_var}
+use Rattle.pb_read.proofs.Limits.{all_front, all_back, all_map, all_of}
+use Rattle.pb_read.proofs.IcnfReading.{up_to_greatest}
+use Rattle.pb_cubes.specs.declared.TheConstants.{MAX_CUBES}
+use Rattle.pb_cubes.specs.declared.faults.CubeFault.{CubeFault}
+use Rattle.pb_cubes.specs.declared.faults.CubeFault.TheVariants.{TooMany, BadVariable, Memory}
+use Rattle.pb_cubes.specs.Pieces.{AreWithin, HasVariableOver}
+use Rattle.pb_solve.specs.declared.options.Format.TheVariants.{Icnf}
+use Rattle.pb_solve.specs.Texts.{Spells, SpellsCubes}
+
+abbrev IsUpTo : ℕ → Literal → Type 0
+IsUpTo n l = l.var ≤ n
+
+within_up_to : (n : ℕ) (cubes : List (List Literal)) → VarsUpTo n cubes → AreWithin n cubes
+within_up_to n [] h = All-nil (λ (cube : List Literal). All (IsUpTo n) cube)
+within_up_to n (cube ∷ cubes) h =
+    All-cons (λ (cube : List Literal). All (IsUpTo n) cube) cube cubes
+    (all_of (IsUpTo n) cube (all_front (IsUpTo n) cube (flat_map (λ c. c) cubes) h))
+    (within_up_to n cubes (all_back (IsUpTo n) cube (flat_map (λ c. c) cubes) h))
+
+-- the cubes of a cube file are of the variables that it was read for
+pub file_within : (vars : ℕ) (text : List ℕ) (cubes : List (List Literal)) → SpellsCubes vars text cubes → AreWithin vars cubes
+file_within vars text cubes h = within_up_to vars cubes (all_map (λ (l : Literal). l.var ≤ min vars 1048576) (IsUpTo vars) (λ l below. omega (arith, below)) (flat_map (λ c. c) cubes) h.indices)
+
+-- the cubes of an input are of the instance's variables
+pub own_within : (text : List ℕ) (p : Problem) (own : List (List Literal)) → Spells Icnf text p own → AreWithin p.vars own
+own_within text p own h =
+    let vars : p.vars ≡ max (greatest_var h.clauses) (greatest_var own) = ap (λ (q : Problem). q.vars) h.instance in
+    within_up_to p.vars own (up_to_greatest p.vars own (omega (arith, vars)))
+
+over_or_within : (n : ℕ) (cubes : List (List Literal)) → AreWithin n cubes → HasVariableOver n cubes → ⊥
+over_or_within n cubes within over =
+    let (k, cube, below, same, some) = over in
+    let (j, l, below', same', greater) = some in
+    let all : All (IsUpTo n) cube = subst (All (IsUpTo n)) same (within k cube below) in
+    let small : l.var ≤ n = subst (IsUpTo n) same' (all j l below') in
+    omega (arith, greater)
+
+-- ---- all cubes together
+
+-- cubes that are few enough, and are of the instance's variables
+abbrev pub Fit : ℕ → List (List Literal) → Type 0
+Fit n cubes = (length cubes ≤ MAX_CUBES) × AreWithin n cubes
+
+within_joined : (n : ℕ) (xs ys : List (List Literal)) → AreWithin n xs → AreWithin n ys → AreWithin n (xs ++ ys)
+within_joined n xs ys h k = All-append (λ (cube : List Literal). All (IsUpTo n) cube) xs ys h k
+
+pub joined_fit : (n : ℕ) (own filed made given all : List (List Literal)) → given ≡ own ++ filed → all ≡ given ++ made → AreWithin n own → AreWithin n filed → AreWithin n made → length own + length filed + length made ≤ MAX_CUBES → Fit n all
+joined_fit n own filed made given all given_is all_is of_own of_filed of_made few =
+    let joined : all ≡ (own ++ filed) ++ made = all_is ∙ ap (λ (cubes : List (List Literal)). cubes ++ made) given_is in (
+      omega (arith, few, ap length joined, length-append (own ++ filed) made, length-append own filed),
+      subst (AreWithin n) (sym joined) (within_joined n (own ++ filed) made (within_joined n own filed of_own of_filed) of_made),
+    )
+
+-- cubes that fit are not refused
+pub makes_pieces : {T : Type 0} (r : Result T CubeFault) (n count : ℕ) (cubes : List (List Literal)) → IsErrOf r TooMany ↔ (MAX_CUBES < count) → IsErrOf r BadVariable ↔ ((count ≤ MAX_CUBES) × HasVariableOver n cubes) → IfErr r (λ fault. (fault ≡ TooMany) ⊎ (fault ≡ BadVariable)) → count ≡ length cubes → Fit n cubes → IfErr r (λ fault. fault ≡ Memory)
+makes_pieces (Ok pieces) n count cubes many over other is fit = tt
+makes_pieces (Err fault) n count cubes many over (inl is) same fit = absurd (let h : MAX_CUBES < count = many.0 (ap Err is) in let bad : ⊥ = omega (arith, h, same, fit.0) in bad)
+makes_pieces (Err fault) n count cubes many over (inr is) same fit = absurd (over_or_within n cubes fit.1 (over.0 (ap Err is)).1)

@@ -1,0 +1,40 @@
+-- What workers claim of the pieces, and which of it their parts name.
+use Rattle.std.specs.Prelude.{◌≡◌, ℕ, ◌+◌, ◌<◌, ◌≤◌, ◌⊎◌, List, [], ◌∷◌, ◌++◌, length, filter, nat_lt, All, Any, Contains}
+use Rattle.pb_inst.specs.Problem.{Problem}
+use Rattle.pb_cubes.specs.Pieces.{CubeList}
+use Rattle.pb_solve.specs.Parts.{PartView}
+
+-- how many pieces the cubes make
+abbrev pub piece_count : CubeList → ℕ
+piece_count pieces = length pieces.cubes + 1
+
+-- the claims that are the number of one of so many pieces, in order
+abbrev pub pieces_among : ℕ → List ℕ → List ℕ
+pieces_among count claimed = filter (λ n. nat_lt n count) claimed
+
+-- the last claim is the number of no piece
+pub record EndsPast (count : ℕ) (claimed : List ℕ) : Type 0 where
+  pub front : List ℕ
+  pub last : ℕ
+  pub ends : claimed ≡ front ++ last ∷ []
+  pub no_piece : count ≤ last
+
+-- One worker's whole work: its part names those of its claims that are pieces, in order. It has at most one claim more
+-- than there are pieces, and its last claim is no piece, or it has that many.
+pub record IsWholeWork (p : Problem) (pieces : CubeList) (part : PartView) (claimed : List ℕ) : Type 0 where
+  pub of_instance : part.best.problem ≡ p
+  pub of_pieces : part.pieces ≡ pieces
+  pub named : part.named ≡ pieces_among (piece_count pieces) claimed
+  pub most : length claimed ≤ piece_count pieces + 1
+  pub ends : EndsPast (piece_count pieces) claimed ⊎ (length claimed ≡ piece_count pieces + 1)
+
+-- some claim is the number of no piece, or there are more claims than pieces
+abbrev pub GoesPast : ℕ → List ℕ → Type 0
+GoesPast count claimed = Any (λ n. count ≤ n) claimed ⊎ (count < length claimed)
+
+-- The work of several workers: each claim that is a piece is named by some part, and the claims go past the pieces.
+pub record AreWholeWork (p : Problem) (pieces : CubeList) (parts : List PartView) (claimed : List ℕ) : Type 0 where
+  pub of_instance : All (λ part. part.best.problem ≡ p) parts
+  pub of_pieces : All (λ part. part.pieces ≡ pieces) parts
+  pub named : (i : ℕ) → i < piece_count pieces → Contains claimed i → Any (λ part. Contains part.named i) parts
+  pub past : GoesPast (piece_count pieces) claimed

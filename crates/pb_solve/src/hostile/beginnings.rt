@@ -1,0 +1,113 @@
+//! Each beginning of a text has the report that the format gives it.
+
+use super::cases::{CLAUSE_AND_CUBE, CONTRADICTION, Case};
+use super::{Ended, WORKERS, options, run_on};
+use crate::Status;
+use std::io::Empty;
+use std::test::Fail;
+
+/// The report on the beginnings up to this length that are longer than those before.
+struct Beginnings {
+    most: usize,
+    report: &'static [u8],
+    status: Status,
+}
+
+const CONTRADICTION_CUT: [Beginnings; 5] = [
+    Beginnings {
+        most: 0,
+        report: b"s SATISFIABLE\nv\n",
+        status: Status::Satisfiable,
+    },
+    Beginnings {
+        most: 10,
+        report: b"c refused: Unfinished at line 1\ns UNSUPPORTED\n",
+        status: Status::Unsupported,
+    },
+    Beginnings {
+        most: 12,
+        report: b"s SATISFIABLE\nv x1\n",
+        status: Status::Satisfiable,
+    },
+    Beginnings {
+        most: 21,
+        report: b"c refused: Unfinished at line 2\ns UNSUPPORTED\n",
+        status: Status::Unsupported,
+    },
+    Beginnings {
+        most: 23,
+        report: b"s UNSATISFIABLE\n",
+        status: Status::Unsatisfiable,
+    },
+];
+
+const CLAUSE_AND_CUBE_CUT: [Beginnings; 6] = [
+    Beginnings {
+        most: 7,
+        report: b"c refused: BadHeader at line 1\ns UNSUPPORTED\n",
+        status: Status::Unsupported,
+    },
+    Beginnings {
+        most: 9,
+        report: b"s SATISFIABLE\nv 0\n",
+        status: Status::Satisfiable,
+    },
+    Beginnings {
+        most: 13,
+        report: b"c refused: Unfinished at line 2\ns UNSUPPORTED\n",
+        status: Status::Unsupported,
+    },
+    Beginnings {
+        most: 15,
+        report: b"s SATISFIABLE\nv -1 2 0\n",
+        status: Status::Satisfiable,
+    },
+    Beginnings {
+        most: 19,
+        report: b"c refused: Unfinished at line 3\ns UNSUPPORTED\n",
+        status: Status::Unsupported,
+    },
+    Beginnings {
+        most: 21,
+        report: b"s SATISFIABLE\nv -1 2 0\n",
+        status: Status::Satisfiable,
+    },
+];
+
+/// A text, and the reports on its beginnings.
+const CUTS: [(Case, &[Beginnings]); 2] = [
+    (CONTRADICTION, &CONTRADICTION_CUT),
+    (CLAUSE_AND_CUBE, &CLAUSE_AND_CUBE_CUT),
+];
+
+#[test]
+fn each_beginning(rt: HostRuntime) -> Result<(), Fail> {
+    for (case, cut) in &CUTS {
+        for length in 0..=case.text.len() {
+            let expected = cut.iter().find(|beginnings| length <= beginnings.most);
+            let expected = expected.expect(&rt, "a report for each length");
+            for workers in WORKERS {
+                let mut written = Vec::new(rt.alloc());
+                let ended = run_on(
+                    &rt,
+                    rt.alloc(),
+                    &case.text[..length],
+                    None::<Empty>,
+                    options(&rt, case.format, workers, 0),
+                    &mut written,
+                );
+                assert_eq!(rt;
+                    ended,
+                    Ended::reported(expected.status),
+                    "{length} bytes, {workers} workers"
+                );
+                assert_eq!(rt;
+                    written.as_slice(),
+                    expected.report,
+                    "{length} bytes, {workers} workers"
+                );
+            }
+        }
+    }
+    Ok(())
+}

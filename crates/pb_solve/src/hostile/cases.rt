@@ -1,0 +1,58 @@
+//! Texts with their reports, on which several tests run.
+
+use crate::{Format, Status};
+
+/// A text, the report on it without cubes or with such as are accepted, and its status.
+#[derive(Clone, Copy)]
+pub struct Case {
+    pub format: Format,
+    pub text: &'static [u8],
+    pub report: &'static [u8],
+    pub status: Status,
+}
+
+/// An objective and two constraints. Two assignments of three variables cost as little, and the tie decides.
+pub const COVER: Case = Case {
+    format: Format::Opb,
+    text: b"* #variable= 3 #constraint= 2\nmin: 2 x1 3 x2 1 x3 ;\n1 x1 1 x2 >= 1 ;\n1 x2 1 x3 >= 1 ;\n",
+    report: b"o 3\ns OPTIMUM FOUND\nv -x1 x2 -x3\n",
+    status: Status::Optimum,
+};
+
+pub const NEGATIVE_COST: Case = Case {
+    format: Format::Opb,
+    text: b"min: -2 x1 -2 x2 ;\n1 x1 1 x2 <= 1 ;\n",
+    report: b"o -2\ns OPTIMUM FOUND\nv -x1 x2\n",
+    status: Status::Optimum,
+};
+
+pub const CLAUSE_AND_CUBE: Case = Case {
+    format: Format::Icnf,
+    text: b"p inccnf\n1 2 0\na 1 0\n",
+    report: b"s SATISFIABLE\nv -1 2 0\n",
+    status: Status::Satisfiable,
+};
+
+pub const CONTRADICTION: Case = Case {
+    format: Format::Opb,
+    text: b"1 x1 >= 1 ;\n1 x1 = 0 ;\n",
+    report: b"s UNSATISFIABLE\n",
+    status: Status::Unsatisfiable,
+};
+
+pub const PRODUCT: Case = Case {
+    format: Format::Opb,
+    text: b"1 x1 x2 >= 1 ;\n",
+    report: b"c refused: NonLinear at line 1\ns UNSUPPORTED\n",
+    status: Status::Unsupported,
+};
+
+pub const NO_HEADER: Case = Case {
+    format: Format::Cnf,
+    text: b"1 2 0\n",
+    report: b"c refused: BadHeader at line 1\ns UNSUPPORTED\n",
+    status: Status::Unsupported,
+};
+
+/// A case of each status that a run with ample memory has.
+pub const CASES: [Case; 5] = [COVER, CLAUSE_AND_CUBE, CONTRADICTION, PRODUCT, NO_HEADER];

@@ -1,0 +1,48 @@
+//! Devices that fail or that behave oddly. One that fails at any call is `Failing`, of the tests over memory.
+
+use std::io::{self, Error, ErrorKind, Read, Write};
+
+pub const KINDS: [ErrorKind; 4] = [
+    ErrorKind::Interrupted,
+    ErrorKind::WouldBlock,
+    ErrorKind::UnexpectedEof,
+    ErrorKind::OutOfMemory,
+];
+
+/// Fails at each call, with a fault of this kind.
+#[derive(Clone, Copy)]
+pub struct Broken(pub ErrorKind);
+
+impl Read for Broken {
+    fn read(&mut self, _: &mut [u8]) -> io::Result<usize> {
+        Err(Error::from(self.0))
+    }
+}
+
+impl Write for Broken {
+    fn write(&mut self, _: &[u8]) -> io::Result<usize> {
+        Err(Error::from(self.0))
+    }
+
+    fn flush(&mut self) -> io::Result<()> {
+        Err(Error::from(self.0))
+    }
+}
+
+/// Gives a text, says that it has ended, and then gives more.
+#[derive(Drop)]
+pub struct Resumed {
+    pub text: &'static [u8],
+    pub more: &'static [u8],
+    pub has_ended: bool,
+}
+
+impl Read for Resumed {
+    fn read(&mut self, buf: &mut [u8]) -> io::Result<usize> {
+        if self.has_ended {
+            return self.more.read(buf);
+        }
+        self.has_ended = self.text.is_empty();
+        self.text.read(buf)
+    }
+}

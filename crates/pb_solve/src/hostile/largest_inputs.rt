@@ -1,0 +1,179 @@
+//! Texts and cube files as large as the limits allow, and one beyond.
+
+use super::cases::COVER;
+use super::oracle::value_line;
+use super::{Ended, options, run_on};
+use crate::{Format, Status};
+use pb_inst::Assignment;
+use std::alloc::{AllocError, Global};
+use std::io::Empty;
+use std::process::Abort;
+use std::test::Fail;
+use std::thread::Threads;
+
+/// A text of a part that is repeated and an end, with its report.
+struct Long {
+    name: &'static str,
+    part: &'static [u8],
+    times: usize,
+    end: &'static [u8],
+    report: &'static [u8],
+    status: Status,
+}
+
+const MANY_CONSTRAINTS: [Long; 2] = [
+    Long {
+        name: "as many constraints as there may be, in one line",
+        part: b">=0;",
+        times: 4_194_304,
+        end: b"",
+        report: b"s SATISFIABLE\nv\n",
+        status: Status::Satisfiable,
+    },
+    Long {
+        name: "one constraint more",
+        part: b">=0;",
+        times: 4_194_305,
+        end: b"",
+        report: b"c refused: TooMany at line 1\ns UNSUPPORTED\n",
+        status: Status::Unsupported,
+    },
+];
+
+const LONG_NUMBERS: [Long; 2] = [
+    Long {
+        name: "a coefficient of a million digits",
+        part: b"9",
+        times: 1_000_000,
+        end: b" x1 >= 1 ;",
+        report: b"c refused: TooLarge at line 1\ns UNSUPPORTED\n",
+        status: Status::Unsupported,
+    },
+    Long {
+        name: "a million zeros before a coefficient",
+        part: b"0",
+        times: 1_000_000,
+        end: b"1 x1 >= 1 ;",
+        report: b"s SATISFIABLE\nv x1\n",
+        status: Status::Satisfiable,
+    },
+];
+
+/// The part so many times, and the end.
+fn repeated(alloc: Global, part: &[u8], times: usize, end: &[u8]) -> Result<Vec<u8>, AllocError> {
+    let mut text = part.repeat(alloc, times)?;
+    text.extend_from_slice(end)?;
+    Ok(text)
+}
+
+fn assert_long<R: Abort + Threads + Sync>(
+    rt: &R,
+    alloc: Global,
+    long: &Long,
+) -> Result<(), AllocError> {
+    let text = repeated(alloc, long.part, long.times, long.end)?;
+    let mut written = Vec::new(alloc);
+    let options = options(rt, Format::Opb, 2, 0);
+    let ended = run_on(
+        rt,
+        alloc,
+        text.as_slice(),
+        None::<Empty>,
+        options,
+        &mut written,
+    );
+    assert_eq!(rt; ended, Ended::reported(long.status), "{}", long.name);
+    assert_eq!(rt; written.as_slice(), long.report, "{}", long.name);
+    Ok(())
+}
+
+#[test]
+fn as_many_constraints_as_there_may_be(rt: HostRuntime) -> Result<(), Fail> {
+    for long in &MANY_CONSTRAINTS {
+        assert_long(&rt, rt.alloc(), long)?;
+    }
+    Ok(())
+}
+
+#[test]
+fn numbers_of_a_million_digits(rt: HostRuntime) -> Result<(), Fail> {
+    for long in &LONG_NUMBERS {
+        assert_long(&rt, rt.alloc(), long)?;
+    }
+    Ok(())
+}
+
+#[test]
+fn ten_thousand_variables_of_the_header_alone(rt: HostRuntime) -> Result<(), Fail> {
+    let text = b"* #variable= 10000 #constraint= 0\n".as_slice();
+    let mut written = Vec::new(rt.alloc());
+    let options = options(&rt, Format::Opb, 2, 0);
+    let ended = run_on(&rt, rt.alloc(), text, None::<Empty>, options, &mut written);
+    assert_eq!(rt; ended, Ended::reported(Status::Satisfiable));
+    let all_false = Assignment::new(rt.alloc(), 10_000)?;
+    let values = value_line(rt.alloc(), Format::Opb, &all_false)?;
+    assert_eq!(rt; values.len(), 68_896);
+    let report = format!(in rt.alloc(); "s SATISFIABLE\n{values}")?;
+    assert_eq!(rt; written.as_slice(), report.as_bytes());
+    Ok(())
+}
+
+/// How many empty cubes the file has, how many variables are split, and the report.
+struct Divided {
+    cubes: usize,
+    split: u32,
+    report: &'static [u8],
+    status: Status,
+}
+
+const DIVIDED: [Divided; 3] = [
+    Divided {
+        cubes: 1_048_575,
+        split: 0,
+        report: b"o 3\ns OPTIMUM FOUND\nv -x1 x2 -x3\n",
+        status: Status::Optimum,
+    },
+    Divided {
+        cubes: 1_048_575,
+        split: 1,
+        report: b"c refused cubes: TooMany\ns UNSUPPORTED\n",
+        status: Status::Unsupported,
+    },
+    Divided {
+        cubes: 1_048_576,
+        split: 0,
+        report: b"c refused cubes: TooMany at line 1048576\ns UNSUPPORTED\n",
+        status: Status::Unsupported,
+    },
+];
+
+#[test]
+fn as_many_cubes_as_there_may_be(rt: HostRuntime) -> Result<(), Fail> {
+    for case in &DIVIDED {
+        let file = repeated(rt.alloc(), b"a 0\n", case.cubes, b"")?;
+        let mut written = Vec::new(rt.alloc());
+        let ended = run_on(
+            &rt,
+            rt.alloc(),
+            COVER.text,
+            Some(file.as_slice()),
+            options(&rt, Format::Opb, 2, case.split),
+            &mut written,
+        );
+        assert_eq!(rt;
+            ended,
+            Ended::reported(case.status),
+            "{} cubes, split {}",
+            case.cubes,
+            case.split
+        );
+        assert_eq!(rt;
+            written.as_slice(),
+            case.report,
+            "{} cubes, split {}",
+            case.cubes,
+            case.split
+        );
+    }
+    Ok(())
+}

@@ -1,0 +1,148 @@
+//! The report on a text by listing all assignments. It shares the reader and the check of an assignment with the run, and
+//! neither its normal form nor its search nor its writing.
+
+ghost use Rattle.std.specs.Prelude.{◌≡◌, length, IfOk};
+
+use crate::{Format, Status};
+use pb_inst::{Assignment, Instance, Memory, Number, precedes};
+use pb_read::{ReadFault, read_cnf, read_cubes, read_icnf, read_opb};
+use std::alloc::{AllocError, Global};
+use std::process::Abort;
+use std::test::Fail;
+
+/// The most variables of an instance whose assignments are listed.
+const MOST_VARS: u32 = 3;
+
+/// What a run is asked for.
+#[derive(Clone, Copy, Debug)]
+pub struct Asked<'a> {
+    pub format: Format,
+    pub text: &'a [u8],
+    pub cubes: Option<&'a [u8]>,
+    pub split: u32,
+}
+
+/// The least cost, and the first assignment of this cost as the bits of its variables, the first variable in the lowest bit.
+#[derive(Clone, Copy)]
+struct Least {
+    cost: Number,
+    bits: u64,
+}
+
+/// The report and the status of a run.
+pub fn expected_report(
+    rt: &impl Abort,
+    alloc: Global,
+    asked: Asked<'_>,
+) -> Result<(String, Status), Fail> {
+    let instance = match read(alloc, asked.format, asked.text) {
+        Ok(instance) => instance,
+        Err(fault) => return refusal(format!(in alloc; "c refused: {fault}")?),
+    };
+    assert!(rt; instance.vars() <= MOST_VARS, "{asked:?}");
+    if let Some(cubes) = asked.cubes {
+        if let Err(fault) = read_cubes(alloc, cubes, instance.vars()) {
+            return refusal(format!(in alloc; "c refused cubes: {fault}")?);
+        }
+    }
+    if asked.split > instance.vars() {
+        return refusal(String::from_str(alloc, "c refused split: BadSplit")?);
+    }
+    answer(alloc, asked.format, &instance)
+}
+
+/// The report with this line in front.
+fn refusal(mut report: String) -> Result<(String, Status), Fail> {
+    report.push_str("\ns UNSUPPORTED\n")?;
+    Ok((report, Status::Unsupported))
+}
+
+/// The report of the least assignment.
+fn answer(alloc: Global, format: Format, instance: &Instance) -> Result<(String, Status), Fail> {
+    let Some(least) = list_least(alloc, instance)? else {
+        let report = String::from_str(alloc, "s UNSATISFIABLE\n")?;
+        return Ok((report, Status::Unsatisfiable));
+    };
+    let values = spelled(alloc, instance.vars(), least.bits)?;
+    let values = value_line(alloc, format, &values)?;
+    if instance.has_objective() {
+        let cost = least.cost;
+        let report = format!(in alloc; "o {cost}\ns OPTIMUM FOUND\n{values}")?;
+        return Ok((report, Status::Optimum));
+    }
+    let report = format!(in alloc; "s SATISFIABLE\n{values}")?;
+    Ok((report, Status::Satisfiable))
+}
+
+fn read(alloc: Global, format: Format, text: &[u8]) -> Result<Instance, ReadFault> {
+    match format {
+        Format::Opb => read_opb(alloc, text),
+        Format::Cnf => read_cnf(alloc, text),
+        Format::Icnf => {
+            let (instance, _) = read_icnf(alloc, text)?;
+            Ok(instance)
+        }
+    }
+}
+
+/// The least of all assignments, where one is feasible.
+fn list_least(alloc: Global, instance: &Instance) -> Result<Option<Least>, Memory> {
+    let mut least = None;
+    for bits in 0..1u64 << MOST_VARS {
+        let values = spelled(alloc, instance.vars(), bits)?;
+        let Some(cost) = instance.check(&values) else {
+            continue;
+        };
+        let found = Least { cost, bits };
+        if comes_first(alloc, instance.vars(), found, least)? {
+            least = Some(found);
+        }
+    }
+    Ok(least)
+}
+
+/// Whether nothing is held, or this comes before it.
+fn comes_first(
+    alloc: Global,
+    vars: u32,
+    found: Least,
+    held: Option<Least>,
+) -> Result<bool, Memory> {
+    let Some(held) = held else {
+        return Ok(true);
+    };
+    let values = spelled(alloc, vars, found.bits)?;
+    let held_values = spelled(alloc, vars, held.bits)?;
+    Ok(precedes(found.cost, &values, held.cost, &held_values))
+}
+
+/// The assignment with these bits, of which those past the last variable are dropped.
+fn spelled(alloc: Global, vars: u32, bits: u64) -> Result<Assignment, Memory>
+    ensures { IfOk result (λ values. length values ≡ vars) }
+{
+    let mut values = Assignment::new(alloc, vars)?;
+    if vars > 0 {
+        values.set_word(0, bits);
+    }
+    Ok(values)
+}
+
+/// The line of values with its LF.
+pub fn value_line(
+    alloc: Global,
+    format: Format,
+    values: &Assignment,
+) -> Result<String, AllocError> {
+    let (letter, end) = match format {
+        Format::Opb => ("x", "\n"),
+        Format::Cnf | Format::Icnf => ("", " 0\n"),
+    };
+    let mut line = String::from_str(alloc, "v")?;
+    for var in 1..=values.len() {
+        let sign = if values.get(var) { "" } else { "-" };
+        let literal = format!(in alloc; " {sign}{letter}{var}")?;
+        line.push_str(literal.as_str())?;
+    }
+    line.push_str(end)?;
+    Ok(line)
+}

@@ -1,0 +1,56 @@
+//! Runs in which memory may be refused. Nothing but the run takes memory here, so with any one request refused
+//! (`rt try --test --fail-alloc N`) the run answers as it would with ample memory, or reports that memory was refused.
+
+use super::cases::{CLAUSE_AND_CUBE, COVER, Case, NEGATIVE_COST};
+use super::{Ended, options, run_on};
+use crate::Status;
+use std::alloc::Global;
+use std::io::Empty;
+use std::process::Abort;
+use std::thread::Threads;
+
+const MEMORY_REPORT: &[u8] = b"c refused: Memory\ns UNKNOWN\n";
+
+/// More bytes than any report of these tests has.
+const ROOM: usize = 64;
+
+fn assert_answered_or_refused<R: Abort + Threads + Sync>(
+    rt: &R,
+    alloc: Global,
+    case: &Case,
+    cubes: Option<&[u8]>,
+) {
+    let mut room = [0u8; ROOM];
+    let options = options(rt, case.format, 2, 1);
+    let ended = run_on(rt, alloc, case.text, cubes, options, room.as_mut_slice());
+    let written = room.iter().take_while(|byte| **byte != 0).count();
+    let written = room.get(..written).unwrap_or(&[]);
+    if ended == Ended::reported(Status::Unknown) {
+        assert_eq!(rt; written, MEMORY_REPORT);
+    } else {
+        assert_eq!(rt; ended, Ended::reported(case.status));
+        assert_eq!(rt; written, case.report);
+    }
+}
+
+#[test]
+fn an_objective_and_constraints(rt: HostRuntime) {
+    assert_answered_or_refused(&rt, rt.alloc(), &COVER, None);
+}
+
+#[test]
+fn a_negative_cost(rt: HostRuntime) {
+    assert_answered_or_refused(&rt, rt.alloc(), &NEGATIVE_COST, None);
+}
+
+#[test]
+fn a_clause_and_a_cube(rt: HostRuntime) {
+    assert_answered_or_refused(&rt, rt.alloc(), &CLAUSE_AND_CUBE, None);
+}
+
+#[test]
+fn a_cube_file_with_a_long_cube(rt: HostRuntime) {
+    // Seventeen literals, so the cube takes memory of its own.
+    let file = b"a 1 1 1 1 1 1 1 1 1 1 1 1 1 1 1 1 -2 0\na 0\n".as_slice();
+    assert_answered_or_refused(&rt, rt.alloc(), &COVER, Some(file));
+}

@@ -1,0 +1,32 @@
+//! What `-h` and `--help` say. Lines are broken here, since clap's help is not wrapped.
+
+/// What the program does, for `-h`.
+pub const ABOUT: &str = "Finds the least assignment of a pseudo-Boolean instance";
+
+/// What the program does, for `--help`.
+pub const LONG_ABOUT: &str = "\
+Finds the least assignment of a pseudo-Boolean instance: among the assignments
+that meet every constraint those of the least cost, and among these the
+lexicographically first one (x1 first, 0 before 1). It writes the cost and the
+assignment, or that nothing is feasible, or which fault the input has.";
+
+/// The end of `--help`: examples and exit statuses.
+pub const EXAMPLES_AND_STATUSES: &str = "\
+Cubes and the split divide the work into pieces among the workers, which are
+threads. Where they are accepted, neither they nor the number of workers change
+a byte of the answer.
+
+Examples:
+  pbcube instance.opb                          an OPB instance, by one worker
+  pbcube --format cnf formula.cnf              a DIMACS CNF formula
+  pbcube --workers 4 --split 3 instance.opb    four workers on nine pieces
+  pbcube --cubes cubes.txt instance.opb        pieces from a file of cubes
+
+Exit status:
+  30  s OPTIMUM FOUND: the least cost, and the first assignment of that cost
+  20  s UNSATISFIABLE: nothing is feasible
+  10  s SATISFIABLE: there is no objective; the first feasible assignment
+   0  s UNSUPPORTED: the input, the cubes or the split are refused;
+      s UNKNOWN: memory ran out; also after help
+   1  a file cannot be opened or read, or the output cannot be written
+   2  the command line is refused";
