@@ -7,7 +7,7 @@ use Rattle.std.proofs.lemmas.List.{same_lists, length-replicate, get_or-replicat
 use Rattle.std.proofs.lemmas.List.FromFn.{length-map-range_with_len, get_or-map-range_with_len}
 use Rattle.std.proofs.lemmas.Nat.Bits.{bit_at-zero, bit_at-trailing_zeros, bit_at_above}
 use Rattle.pb_engine.specs.Bits.{is_set, bits_of}
-use Rattle.pb_engine.specs.RowSet.{HasNoneBetween}
+use Rattle.pb_engine.specs.RowSet.{HasMember, HasNoneBetween}
 
 pub length-bits_of : (words : List ℕ) (count : ℕ) → length (bits_of words count) ≡ count
 unfolding bits_of
@@ -26,12 +26,32 @@ zeros zero i = refl
 zeros (suc n) zero = refl
 zeros (suc n) (suc i) = zeros n i
 
+-- no bit of a word of none is set
+zero_word : (words : List ℕ) (i : ℕ) → get_or words (i / 64) 0 ≡ 0 → is_set words i ≡ false
+zero_word words i none = ap (λ (w : ℕ). eqb (bit_at w (i % 64)) 1) none ∙ ap (λ (b : ℕ). eqb b 1) (bit_at-zero (i % 64))
+
+pub none_is_set : (words : List ℕ) (n i : ℕ) → words ≡ replicate {A = ℕ} n 0 → is_set words i ≡ false
+none_is_set words n i is = zero_word words i (ap (λ (ws : List ℕ). get_or ws (i / 64) 0) is ∙ zeros n (i / 64))
+
 pub none_set : (words : List ℕ) (count n : ℕ) → words ≡ replicate {A = ℕ} n 0 → bits_of words count ≡ replicate count false
 none_set words count n is = same_lists (bits_of words count) (replicate count false) (length-bits_of words count ∙ sym (length-replicate count false)) (λ i d h.
     (let low : i < count = omega (arith, length-bits_of words count) in
-    let word : get_or words (i / 64) 0 ≡ 0 = ap (λ (ws : List ℕ). get_or ws (i / 64) 0) is ∙ zeros n (i / 64) in
-    let off : is_set words i ≡ false = ap (λ (w : ℕ). eqb (bit_at w (i % 64)) 1) word ∙ ap (λ (b : ℕ). eqb b 1) (bit_at-zero (i % 64)) in
-    bit-is words count i d low ∙ (off ∙ sym (get_or-replicate count i false d low))))
+    bit-is words count i d low ∙ (none_is_set words n i is ∙ sym (get_or-replicate count i false d low))))
+
+-- a change of one bit leaves the others
+other_stays : (words : List ℕ) (i v j : ℕ) → i / 64 < length words → ((k : ℕ) → k < 64 → k ≢ i % 64 → bit_at v k ≡ bit_at (get_or words (i / 64) 0) k) → j ≢ i → is_set (set words (i / 64) v) j ≡ is_set words j
+other_stays words i v j within others other = elim (cases_eq (j / 64) (i / 64)) [
+  | inl word ↦
+      (let read : get_or (set words (i / 64) v) (i / 64) 0 ≡ v = rw get_or-set_same refl in
+      let there : get_or (set words (i / 64) v) (j / 64) 0 ≡ v = ap (λ (k : ℕ). get_or (set words (i / 64) v) k 0) word ∙ read in
+      let apart : j % 64 ≢ i % 64 = λ e. other (omega arith) in
+      let was : get_or words (i / 64) 0 ≡ get_or words (j / 64) 0 = ap (λ (k : ℕ). get_or words k 0) (sym word) in
+      ap (λ (w : ℕ). eqb (bit_at w (j % 64)) 1) there ∙ ap (λ (n : ℕ). eqb n 1) (others (j % 64) (omega arith) apart ∙ ap (λ (w : ℕ). bit_at w (j % 64)) was))
+  | inr away ↦ (let there : get_or (set words (i / 64) v) (j / 64) 0 ≡ get_or words (j / 64) 0 = rw get_or-set_other refl in ap (λ (w : ℕ). eqb (bit_at w (j % 64)) 1) there)
+]
+
+pub clean-put : (words : List ℕ) (count i v : ℕ) → ((j : ℕ) → count ≤ j → is_set words j ≡ false) → count < 64 * length words → i < count → ((k : ℕ) → k < 64 → k ≢ i % 64 → bit_at v k ≡ bit_at (get_or words (i / 64) 0) k) → (j : ℕ) → count ≤ j → is_set (set words (i / 64) v) j ≡ false
+clean-put words count i v clean room low others j past = other_stays words i v j (omega arith) others (λ same. absurd (omega arith)) ∙ clean j past
 
 -- one flag is changed
 pub bits-put : (words : List ℕ) (count i v : ℕ) (b : Bool) → count < 64 * length words → i < count → eqb (bit_at v (i % 64)) 1 ≡ b → ((k : ℕ) → k < 64 → k ≢ i % 64 → bit_at v k ≡ bit_at (get_or words (i / 64) 0) k) → bits_of (set words (i / 64) v) count ≡ set (bits_of words count) i b
@@ -48,16 +68,7 @@ bits-put words count i v b room low own others =
           subst (λ (k : ℕ). is_set (set words (i / 64) v) k ≡ get_or (set (bits_of words count) i b) k d) (sym same) (value ∙ sym here))
       | inr other ↦
           (let kept : get_or (set (bits_of words count) i b) j d ≡ get_or (bits_of words count) j d = rw get_or-set_other refl in
-          let stays : is_set (set words (i / 64) v) j ≡ is_set words j = elim (cases_eq (j / 64) (i / 64)) [
-            | inl word ↦
-                (let read : get_or (set words (i / 64) v) (i / 64) 0 ≡ v = rw get_or-set_same refl in
-                let there : get_or (set words (i / 64) v) (j / 64) 0 ≡ v = ap (λ (k : ℕ). get_or (set words (i / 64) v) k 0) word ∙ read in
-                let apart : j % 64 ≢ i % 64 = λ e. other (omega arith) in
-                let was : get_or words (i / 64) 0 ≡ get_or words (j / 64) 0 = ap (λ (k : ℕ). get_or words k 0) (sym word) in
-                ap (λ (w : ℕ). eqb (bit_at w (j % 64)) 1) there ∙ ap (λ (n : ℕ). eqb n 1) (others (j % 64) (omega arith) apart ∙ ap (λ (w : ℕ). bit_at w (j % 64)) was))
-            | inr away ↦ (let there : get_or (set words (i / 64) v) (j / 64) 0 ≡ get_or words (j / 64) 0 = rw get_or-set_other refl in ap (λ (w : ℕ). eqb (bit_at w (j % 64)) 1) there)
-          ] in
-          stays ∙ (sym (bit-is words count j d short) ∙ sym kept))
+          other_stays words i v j within others other ∙ (sym (bit-is words count j d short) ∙ sym kept))
     ]))
 
 shifted : (n a k : ℕ) → bit_at (n / 2 ^ a) k ≡ bit_at n (a + k)
@@ -78,13 +89,25 @@ none_up_to words count from to rest is high off i low below = elim (cases_lt i c
   | inr past ↦ bit-past words count i past
 ]
 
-pub found : (words : List ℕ) (count from k : ℕ) (rest : ℕ) → rest ≡ get_or words (from / 64) 0 / 2 ^ (from % 64) → from % 64 + k < 64 → from + k < count → bit_at rest k ≡ 1 → get_or (bits_of words count) (from + k) false ≡ true
-found words count from k rest is high within on =
+place_is_set : (words : List ℕ) (from k : ℕ) (rest : ℕ) → rest ≡ get_or words (from / 64) 0 / 2 ^ (from % 64) → from % 64 + k < 64 → bit_at rest k ≡ 1 → is_set words (from + k) ≡ true
+place_is_set words from k rest is high on =
     let word : (from + k) / 64 ≡ from / 64 = omega arith in
     let place : from % 64 + k ≡ (from + k) % 64 = omega arith in
     let bit : bit_at (get_or words ((from + k) / 64) 0) ((from + k) % 64) ≡ 1 =
     ap (λ (j : ℕ). bit_at (get_or words j 0) ((from + k) % 64)) word ∙ (ap (bit_at (get_or words (from / 64) 0)) (sym place) ∙ (sym (shifted (get_or words (from / 64) 0) (from % 64) k) ∙ (ap (λ (n : ℕ). bit_at n k) (sym is) ∙ on))) in
-    bit-is words count (from + k) false within ∙ ap (λ (n : ℕ). eqb n 1) bit
+    ap (λ (n : ℕ). eqb n 1) bit
+
+-- a bit that is set is a flag
+is_within : (words : List ℕ) (count i : ℕ) → ((j : ℕ) → count ≤ j → is_set words j ≡ false) → is_set words i ≡ true → i < count
+is_within words count i clean on = elim (cases_lt i count) [
+  | inl within ↦ within
+  | inr past ↦ absurd (let e : true ≡ false = sym on ∙ clean i past in let nothing : ⊥ = cc in nothing)
+]
+
+pub found : (words : List ℕ) (count from k : ℕ) (rest : ℕ) → ((j : ℕ) → count ≤ j → is_set words j ≡ false) → rest ≡ get_or words (from / 64) 0 / 2 ^ (from % 64) → from % 64 + k < 64 → bit_at rest k ≡ 1 → (from + k < count) × (get_or (bits_of words count) (from + k) false ≡ true)
+found words count from k rest clean is high on =
+    let flag = place_is_set words from k rest is high on in
+    let within = is_within words count (from + k) clean flag in (within, bit-is words count (from + k) false within ∙ flag)
 
 -- the lowest bit that is set from a place on lies in the word
 pub lowest_place : (n a : ℕ) → n < 2 ^ 64 → a < 64 → (n / 2 ^ a ≡ 0 → ⊥) → (a + trailing_zeros w64 (n / 2 ^ a) < 64) × (bit_at (n / 2 ^ a) (trailing_zeros w64 (n / 2 ^ a)) ≡ 1) × ((k : ℕ) → k < trailing_zeros w64 (n / 2 ^ a) → bit_at (n / 2 ^ a) k ≡ 0)
@@ -104,6 +127,18 @@ lowest_place n a fits low some =
 
 pub word_is_zero : (words : List ℕ) (count i : ℕ) → get_or words (i / 64) 0 ≡ 0 → get_or (bits_of words count) i false ≡ false
 word_is_zero words count i none = elim (cases_lt i count) [
-  | inl within ↦ bit-is words count i false within ∙ (ap (λ (w : ℕ). eqb (bit_at w (i % 64)) 1) none ∙ ap (λ (b : ℕ). eqb b 1) (bit_at-zero (i % 64)))
+  | inl within ↦ bit-is words count i false within ∙ zero_word words i none
   | inr past ↦ bit-past words count i past
 ]
+
+pub word_is_not_zero : (words : List ℕ) (count i : ℕ) → ((j : ℕ) → count ≤ j → is_set words j ≡ false) → get_or words (i / 64) 0 < 2 ^ 64 → (get_or words (i / 64) 0 ≡ 0 → ⊥) → HasMember (bits_of words count) (i / 64)
+word_is_not_zero words count i clean fits some =
+    let word = get_or words (i / 64) 0 in
+    let positive : 0 < word = elim (cases_lt 0 word) [ inl yes' ↦ yes' | inr isnt ↦ absurd (some (omega arith)) ] in
+    let lowest = bit_at-trailing_zeros w64 word positive fits in
+    let t = trailing_zeros w64 word in
+    let j = 64 * (i / 64) + t in
+    let small : t < 64 = lowest.0 in
+    let group : j / 64 ≡ i / 64 = omega arith in
+    let place : j % 64 ≡ t = omega arith in
+    let on : is_set words j ≡ true = ap (λ (n : ℕ). eqb n 1) (ap (λ (k : ℕ). bit_at (get_or words k 0) (j % 64)) group ∙ (ap (bit_at word) place ∙ lowest.1)) in (j, group, bit-is words count j false (is_within words count j clean on) ∙ on)

@@ -6,8 +6,7 @@ use Rattle.std.proofs.lemmas.List.Elements.{All-nil, All-cons, All-head, All-tai
 use Rattle.pb_inst.specs.Literal.{Literal}
 use Rattle.pb_normal.specs.declared.terms.PositiveTerm.{PositiveTerm}
 use Rattle.pb_normal.specs.NormalForm.{PositiveRow}
-use Rattle.pb_engine.specs.declared.occurrences.Occurrence.{Occurrence}
-use Rattle.pb_engine.specs.declared.occurrences.Entry.{Entry}
+use Rattle.pb_engine.specs.Occurrences.{Occurrence, Entry}
 use Rattle.pb_engine.specs.Constraints.{row_at}
 use Rattle.pb_engine.specs.Clauses.{unit_term, clause_row}
 use Rattle.pb_engine.specs.Index.{literal_place, items_at, entries_of_row, entries_from, unit_occurrence, IsIndexed}

@@ -22,19 +22,6 @@ pub record IsCutTo (before now : Tracked) (n : ℕ) : Type 0 where
   pub same_rows : now ≡ record before { trail = now.trail }
   pub front : take n now.trail ≡ take n before.trail
 
-pub cut_step : (before now after : Tracked) (n : ℕ) → IsCutTo before now n → n < length now.trail → after ≡ record now { trail = take (length now.trail - 1) now.trail } → IsCutTo before after n
-cut_step before now after n is long popped =
-    let trail : after.trail ≡ take (length now.trail - 1) now.trail = ap (λ (k : Tracked). k.trail) popped in
-    record {
-      same_rows = popped ∙ (ap (λ (k : Tracked). let k' : Tracked = record k { trail = take (length now.trail - 1) now.trail } in k') is.same_rows ∙ ap (λ (t : List Literal). let k' : Tracked = record before { trail = t } in k') (sym trail));
-      front = ap (take n) trail ∙ (take-take n (length now.trail - 1) now.trail (omega arith) ∙ is.front);
-    }
-
-pub cut_done : (before now : Tracked) (n : ℕ) → IsCutTo before now n → length now.trail ≤ n → now ≡ record before { trail = take n before.trail }
-cut_done before now n is short =
-    let whole : now.trail ≡ take n before.trail = sym (take_all n now.trail short) ∙ is.front in
-    is.same_rows ∙ ap (λ (t : List Literal). let k' : Tracked = record before { trail = t } in k') whole
-
 pub length-starts_of : (levels : List Level) → length (starts_of levels) ≡ length levels
 unfolding starts_of
 length-starts_of levels = length-map levels (λ (l : Level). l.start)
@@ -215,10 +202,10 @@ IsEngine-undo vars rows trail levels until conflict capacity n level is low read
 
 -- the rows of a broken trail
 pub negative_since : (rows : List PositiveRow) (trail : List Literal) → IsBroken rows trail → HasNegativeSlack rows trail
-negative_since rows trail (r, exists, low) = (r, exists, slack-negative (reachable trail (row_at rows r).terms) (row_at rows r).degree low)
+negative_since rows trail (r, (exists, low)) = (r, exists, slack-negative (reachable trail (row_at rows r).terms) (row_at rows r).degree low)
 
 pub none_since_broken : (rows : List PositiveRow) (trail : List Literal) → IsBroken rows trail → HasNoCompletion rows trail
-none_since_broken rows trail (r, exists, low) = no_completion rows trail r exists low
+none_since_broken rows trail (r, (exists, low)) = no_completion rows trail r exists low
 
 places_of : (rows : List PositiveRow) (trail : List Literal) (levels : List Level) → AreLevels rows trail levels → ArePlaces trail (starts_of levels)
 places_of rows trail levels are =

@@ -7,8 +7,7 @@ use Rattle.std.proofs.lemmas.List.Sums.{sum_by-cons, sum_by-append}
 use Rattle.pb_inst.specs.Literal.{Literal}
 use Rattle.pb_normal.specs.declared.terms.PositiveTerm.{PositiveTerm}
 use Rattle.pb_normal.specs.NormalForm.{PositiveRow, NormalForm, IsNormal}
-use Rattle.pb_engine.specs.declared.occurrences.Occurrence.{Occurrence}
-use Rattle.pb_engine.specs.declared.occurrences.Entry.{Entry}
+use Rattle.pb_engine.specs.Occurrences.{Occurrence, Entry}
 use Rattle.pb_engine.specs.Constraints.{AreRowsOver, row_at}
 use Rattle.pb_engine.specs.Trail.{same_literal, weight_of}
 use Rattle.pb_engine.specs.Index.{literal_place, items_at, total_for, occurrences_of, entries_of_row, entries_from, IsIndexed, IsIndexOf}

@@ -21,8 +21,10 @@ pub mod DisjointLemmas
 pub mod DisjointBound
 pub mod SpareLemmas
 mod IndexLemmas
+mod LimitLemmas
 mod EntryLemmas
 mod LiteralListLemmas
 mod NegatedLemmas
 mod ClauseEntryLemmas
 mod TablesLemmas
+mod TallyLemmas

@@ -1,13 +1,12 @@
 -- How what rows lack is kept up to date.
-use Rattle.std.proofs.Common.{◌≡◌, ℕ, ◌+◌, ◌-◌, ◌<◌, ◌≤◌, List, [], ◌∷◌, ◌++◌, length, get_or, set, map, take, replicate, refl, sym, ◌∙◌, ap, arith, Bool, false, cond, get_or-set_same, length-append, suc, None, eqb, inl, inr, ◌^◌}
+use Rattle.std.proofs.Common.{◌≡◌, ℕ, ◌+◌, ◌-◌, ◌<◌, ◌≤◌, List, [], ◌∷◌, ◌++◌, length, get_or, set, map, take, replicate, refl, sym, ◌∙◌, ap, arith, Bool, false, get_or-set_same, length-append, suc, None, ◌^◌}
 use Rattle.std.specs.Prelude.{nat_lt}
 use Rattle.std.proofs.lemmas.List.{map-set, length-map, take_more, take_all, map_push, length-take-le, length-replicate}
-use Rattle.std.proofs.lemmas.Bool.{cases_lt, lt-ltb, le-ltb, eq-eqb, ne_eqb}
 use Rattle.pb_inst.specs.Literal.{Literal}
 use Rattle.pb_normal.specs.declared.terms.PositiveTerm.{PositiveTerm}
 use Rattle.pb_normal.specs.NormalForm.{PositiveRow, HasSmallSums}
 use Rattle.pb_engine.specs.DisjointRows.{gain, loss}
-use Rattle.pb_engine.specs.Trail.{negation, value_on, weight_of}
+use Rattle.pb_engine.specs.Trail.{negation, value_on}
 use Rattle.pb_engine.proofs.SpareLemmas.{spare-push}
 use Rattle.pb_engine.specs.declared.needs.TheConstants.{MET}
 use Rattle.pb_engine.specs.Needs.{wants, IsLackOf}
@@ -21,10 +20,11 @@ unfolding wants
 length-wants lacks = length-map lacks (λ (n : ℕ). nat_lt MET n)
 
 -- the row of a changed lack is a member where it lacks more than 2^63
-pub wants-put : (old new : List Bool) (lacks : List ℕ) (r lack : ℕ) → old ≡ wants lacks → r < length lacks → new ≡ set old r (nat_lt MET (get_or (set lacks r lack) r 0)) → new ≡ wants (set lacks r lack)
-wants-put old new lacks r lack was within is =
-    let read : get_or (set lacks r lack) r 0 ≡ lack = rw get_or-set_same refl in
-    is ∙ (ap (λ (ms : List Bool). set ms r (nat_lt MET (get_or (set lacks r lack) r 0))) was ∙ (ap (λ (n : ℕ). set (wants lacks) r (nat_lt MET n)) read ∙ sym (wants-set lacks r lack)))
+pub wants-put : (old new : List Bool) (lacks : List ℕ) (r lack met read : ℕ) (wanted : Bool) → old ≡ wants lacks → r < length lacks → met ≡ MET → read ≡ get_or (set lacks r lack) r read → wanted ≡ nat_lt met read → new ≡ set old r wanted → new ≡ wants (set lacks r lack)
+wants-put old new lacks r lack met read wanted was within met_is read_is tested is =
+    let written : get_or (set lacks r lack) r read ≡ lack = rw get_or-set_same refl in
+    let test : wanted ≡ nat_lt MET lack = tested ∙ (ap (λ (n : ℕ). nat_lt n read) met_is ∙ ap (λ (n : ℕ). nat_lt MET n) (read_is ∙ written)) in
+    is ∙ (ap (λ (ms : List Bool). set ms r wanted) was ∙ (ap (λ (b : Bool). set (wants lacks) r b) test ∙ sym (wants-set lacks r lack)))
 
 -- there is a place for each row
 pub wants-room : (members : List Bool) (lacks : List ℕ) → members ≡ wants lacks → length members ≡ length lacks
@@ -66,20 +66,6 @@ wants_all members lacks i late is =
 pub wants_so_far : (members : List Bool) (lacks : List ℕ) (i : ℕ) → i ≤ length lacks → members ≡ wants (take i lacks) ++ replicate (length lacks - i) false → length members ≡ length lacks
 wants_so_far members lacks i h is =
     omega (arith, ap (λ (ms : List Bool). length ms) is, length-append (wants (take i lacks)) (replicate (length lacks - i) false), length-wants (take i lacks), length-take-le i lacks h, length-replicate (length lacks - i) false)
-
--- what a test of the cost chooses
-pub gain-is : (objective terms : List PositiveTerm) (l : Literal) (cost : ℕ) → cost ≡ weight_of l objective → cond (nat_lt 0 cost) (weight_of l terms) 0 ≡ gain objective l terms
-gain-is objective terms l cost is = ap (λ (n : ℕ). cond (nat_lt 0 n) (weight_of l terms) 0) is
-
-pub loss-is : (objective terms : List PositiveTerm) (l m : Literal) (cost : ℕ) → m ≡ l → cost ≡ weight_of m objective → cond (eqb cost 0) (weight_of m terms) 0 ≡ loss objective l terms
-loss-is objective terms l m cost same is =
-    ap (λ (k : Literal). cond (eqb cost 0) (weight_of k terms) 0) same ∙ (by_case cost (weight_of l terms) ∙ ap (λ (n : ℕ). cond (nat_lt 0 n) 0 (weight_of l terms)) (is ∙ ap (λ (k : Literal). weight_of k objective) same))
-  where
-    by_case : (n w : ℕ) → cond (eqb n 0) w 0 ≡ cond (nat_lt 0 n) 0 w
-    by_case n w = elim (cases_lt 0 n) [
-      | inl some ↦ rw (lt-ltb 0 n some, ne_eqb n 0 (λ e. omega arith)) refl
-      | inr none ↦ rw (le-ltb 0 n none, eq-eqb n 0 (omega arith)) refl
-    ]
 
 -- a literal joins the trail: what its rows can lose, can lack, and lack then
 pub lack-joined : (objective : List PositiveTerm) (trail : List Literal) (l : Literal) (row : PositiveRow) (lack : ℕ) → value_on trail l.var ≡ None → HasSmallSums row → IsLackOf objective trail row lack → (gain objective l row.terms ≤ lack) × (lack + loss objective (negation l) row.terms < 2 ^ 64 + gain objective l row.terms)

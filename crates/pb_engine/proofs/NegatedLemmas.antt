@@ -4,7 +4,7 @@ use Rattle.std.specs.Prelude.{AllPairs, Any, Contains, IsPermutation}
 use Rattle.std.specs.List.Sorted.{IsNonDecreasingBy}
 use Rattle.std.proofs.lemmas.Bool.{cases_lt}
 use Rattle.std.proofs.lemmas.List.{take_more, length-map, get_or-map, get_or_default, take_all, map_push, get_or_append_left}
-use Rattle.std.proofs.lemmas.List.Elements.{All-nil, All-push, All-weaker, All-map, All-contains, All-contains_itself, Contains-push, Contains-append_left, Contains-get_or}
+use Rattle.std.proofs.lemmas.List.Elements.{All-push, All-weaker, All-map, All-contains, All-contains_itself, Contains-push, Contains-append_left, Contains-get_or}
 use Rattle.std.proofs.lemmas.List.Quantifiers.{all_pairs_push, Any-push}
 use Rattle.std.proofs.lemmas.List.Sorted.{All-permutation, IsPermutation-sym}
 use Rattle.pb_inst.specs.Literal.{Literal}
@@ -23,14 +23,6 @@ pub record IsClauseSoFar (cube : List Literal) (i : ℕ) (clause : List Literal)
   pub whole : All (λ l. Contains clause (negation l)) (take i cube)
   pub rising : AllPairs (λ l m. l.var < m.var) clause
   pub low : (k : ℕ) (d : Literal) → i ≤ k → k < length cube → All (λ m. m.var ≤ (get_or cube k d).var) clause
-
-pub so_far_none : (cube clause : List Literal) → clause ≡ [] → IsClauseSoFar cube 0 clause
-so_far_none cube clause empty = rw empty (record {
-  from_cube = All-nil (λ (m : Literal). Contains cube (negation m));
-  whole = All-nil (λ (l : Literal). Contains [] (negation l));
-  rising = λ i j d before less. absurd (omega arith);
-  low = λ k d from upto. All-nil (λ (m : Literal). m.var ≤ (get_or cube k d).var);
-})
 
 double_negation : (l : Literal) → negation (negation l) ≡ l
 double_negation l = by_sign l.positive refl

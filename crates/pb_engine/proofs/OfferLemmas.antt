@@ -1,7 +1,9 @@
 -- Going through the terms of a row for its costly literals, and marking its variables.
-use Rattle.std.proofs.Common.{◌≡◌, ◌≢◌, ℕ, ◌+◌, ◌-◌, ◌*◌, ◌<◌, ◌≤◌, ◌++◌, List, [], ◌∷◌, length, get_or, set, take, fold, max, min, refl, sym, ◌∙◌, ap, subst, arith, Bool, true, false, not, ◌&&◌, ◌||◌, cond, sum_by, Some, None, Option, inl, inr}
+use Rattle.std.proofs.Common.{◌≡◌, ◌≢◌, ℕ, zero, suc, ◌+◌, ◌-◌, ◌*◌, ◌<◌, ◌≤◌, ◌++◌, List, [], ◌∷◌, length, get_or, set, take, fold, max, min, refl, sym, ◌∙◌, ap, subst, arith, Bool, true, false, not, ◌&&◌, ◌||◌, cond, sum_by, Some, None, Option, inl, inr}
 use Rattle.std.specs.Prelude.{nat_lt}
-use Rattle.std.proofs.lemmas.Bool.{cases_Bool, ltb-true, ltb-false, lt-ltb}
+use Rattle.std.proofs.lemmas.Grind.{div_ceil_times}
+use Rattle.std.specs.Int.{div_ceil}
+use Rattle.std.proofs.lemmas.Bool.{cases_Bool, ltb-true, ltb-false, lt-ltb, le-ltb}
 use Rattle.std.proofs.lemmas.List.Elements.{filter_more}
 use Rattle.std.proofs.lemmas.List.Folds.{list_any_more, list_any_at}
 use Rattle.std.proofs.lemmas.List.Sums.{sum_by-cons, sum_by_push, sum_by_more_le, fold_push, fold_more, sum_by-le-sum_by}
@@ -9,7 +11,7 @@ use Rattle.pb_inst.specs.Literal.{Literal}
 use Rattle.pb_normal.specs.declared.terms.PositiveTerm.{PositiveTerm}
 use Rattle.pb_normal.specs.NormalForm.{PositiveRow}
 use Rattle.pb_normal.proofs.LiteralLemmas.{AreRising}
-use Rattle.pb_engine.specs.declared.extras.Offer.{Offer}
+use Rattle.pb_engine.specs.Offers.{Offer}
 use Rattle.pb_engine.specs.DisjointRows.{has_cost, is_free, is_costly, costly, greatest, cheapest, top_cost, extra, need, is_marked, meets_marks, marked_by, is_picked}
 use Rattle.pb_engine.specs.Needs.{IsLackOf}
 use Rattle.pb_engine.specs.declared.needs.TheConstants.{MET}
@@ -139,6 +141,17 @@ marked_by-none trail marks terms = refl
 pub need-is : (objective : List PositiveTerm) (trail : List Literal) (row : PositiveRow) (lack : ℕ) → IsLackOf objective trail row lack → lack - MET ≡ need objective trail row
 need-is objective trail row lack is = omega arith
 
+one_times : (q n g : ℕ) → 0 < n → n ≤ g → n ≤ q * g → q * g < n + g → q ≡ 1
+one_times zero n g some fits low high = omega (arith, some, low)
+one_times (suc zero) n g some fits low high = refl
+one_times (suc (suc k)) n g some fits low high = omega (arith, fits, high)
+
+pub one_is_enough : (offer : Offer) (n : ℕ) → 0 < n → n ≤ offer.total → n ≤ offer.greatest → offer.cheapest ≡ extra_in offer n
+one_is_enough offer n some reach enough =
+    let times = div_ceil_times n offer.greatest (omega (arith, some, enough)) in
+    let one : div_ceil n offer.greatest ≡ 1 = one_times (div_ceil n offer.greatest) n offer.greatest some enough times.0 times.1 in
+    rw (lt-ltb 0 n some, le-ltb offer.total n reach, one) (omega arith)
+
 pub extra-is : (objective : List PositiveTerm) (trail : List Literal) (row : PositiveRow) (offer : Offer) (n : ℕ) → offer ≡ offer_of objective trail row.terms → n ≡ need objective trail row → extra_in offer n ≡ extra objective trail row
 unfolding extra
 extra-is objective trail row offer n is needed = ap (λ (o : Offer). extra_in o n) is ∙ ap (extra_in (offer_of objective trail row.terms)) needed
@@ -148,10 +161,3 @@ not_picked objective trail marks row none = ap (λ (n : ℕ). nat_lt 0 n && not 
 
 pub is-picked : (objective : List PositiveTerm) (trail : List Literal) (marks : List Bool) (row : PositiveRow) → extra objective trail row ≢ 0 → meets_marks trail marks row.terms ≡ false → is_picked objective trail marks row ≡ true
 is-picked objective trail marks row some unmet = rw (lt-ltb 0 (extra objective trail row) (omega arith), unmet) refl
-
-pub met-passed : (objective : List PositiveTerm) (trail : List Literal) (marks : List Bool) (row : PositiveRow) → meets_marks trail marks row.terms ≡ true → is_picked objective trail marks row ≡ false
-met-passed objective trail marks row met = rw met (and_false (nat_lt 0 (extra objective trail row)))
-  where
-    and_false : (b : Bool) → (b && false) ≡ false
-    and_false true = refl
-    and_false false = refl

@@ -1,6 +1,6 @@
 -- The rows over which an engine works.
 use Rattle.std.specs.Prelude.{ℕ, ◌<◌, ◌≤◌, List, [], All, AllPairs, slice_index_or}
-use Rattle.pb_engine.specs.declared.occurrences.Occurrence.{Occurrence}
+use Rattle.pb_engine.specs.Occurrences.{Occurrence}
 use Rattle.pb_normal.specs.NormalForm.{PositiveRow, NormalForm}
 
 -- rows over the variables 1 to `vars`, the first of them those of the normal form, and the occurrences of their literals with where each literal's begin:

@@ -1,6 +1,7 @@
 pub mod Trail
 pub mod Completion
 pub mod Index
+pub mod Occurrences
 pub mod DisjointRows
 pub mod Constraints
 pub mod Costs

@@ -26,11 +26,11 @@ pub record AreCounters (form : NormalForm) (rows : List PositiveRow) (trail : Li
   pub wanting_are : wanting ≡ wants lacks
 
 -- the first literals of the trail are counted
-pub record AreNeeds (s : Tracked) (needs : Needs) : Type 0 where
+pub record AreNeeds {C : Type 0} (s : Tracked) (needs : Needs C) : Type 0 where
   pub within : needs.counted ≤ length s.trail
   pub counters : AreCounters s.form s.rows (take needs.counted s.trail) needs.paid needs.lacks.items needs.wanting
 
 -- the counters are those of the trail, and there is a mark for each variable
-pub record HasCounters (s : Tracked) (needs : Needs) (marks : List Bool) : Type 0 where
+pub record HasCounters {C : Type 0} (s : Tracked) (needs : Needs C) (marks : List Bool) : Type 0 where
   pub needs_are : AreNeeds s needs
   pub room : length marks ≡ s.vars

@@ -4,9 +4,14 @@ use Rattle.std.specs.Int.{div_ceil}
 use Rattle.pb_inst.specs.Literal.{Literal}
 use Rattle.pb_normal.specs.declared.terms.PositiveTerm.{PositiveTerm}
 use Rattle.pb_normal.specs.NormalForm.{total_coefficient}
-use Rattle.pb_engine.specs.declared.extras.Offer.{Offer}
 use Rattle.pb_engine.specs.DisjointRows.{has_cost, is_free, costly, greatest, cheapest, top_cost, is_marked}
 use Rattle.pb_engine.specs.Trail.{weight_of}
+
+-- the sum and the greatest of the coefficients of costly literals, and the least cost of one of them
+pub record Offer : Type 0 where
+  pub total : ℕ
+  pub greatest : ℕ
+  pub cheapest : ℕ
 
 abbrev pub no_offer : Offer
 no_offer = record { total = 0; greatest = 0; cheapest = top_cost }

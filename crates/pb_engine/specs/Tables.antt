@@ -9,11 +9,11 @@ use Rattle.pb_engine.specs.declared.tables.Source.TheVariants.{Lent, Own}
 use Rattle.pb_engine.specs.Constraints.{Constraints}
 use Rattle.pb_engine.specs.Table.{FormRows, ClauseRows}
 
-abbrev pub rows_of : Source → FormRows
+abbrev pub rows_of : {C : Type 0} → Source C → FormRows
 rows_of (Lent rows clauses) = rows.now
 rows_of (Own rows clauses) = rows
 
-abbrev pub clauses_of : Source → ClauseRows
+abbrev pub clauses_of : {C : Type 0} → Source C → ClauseRows
 clauses_of (Lent rows clauses) = clauses.now
 clauses_of (Own rows clauses) = clauses
 

@@ -1,7 +1,7 @@
 -- A trail with the sums and values that are kept up to date beside it.
 use Rattle.std.specs.Prelude.{◌≡◌, ℕ, ◌-◌, ◌<◌, ◌≤◌, ◌^◌, Bool, List, length, take, All, Option, None, is_some, count_by, slice_index, slice_index_or, sum_by}
 use Rattle.pb_inst.specs.Literal.{Literal}
-use Rattle.pb_engine.specs.declared.occurrences.Occurrence.{Occurrence}
+use Rattle.pb_engine.specs.Occurrences.{Occurrence}
 use Rattle.pb_normal.specs.NormalForm.{PositiveRow, NormalForm}
 use Rattle.pb_engine.specs.Trail.{value_on, reachable}
 use Rattle.pb_engine.specs.Constraints.{AreRowsOver, Constraints, row_at}

@@ -2,8 +2,9 @@
 
 ghost use Rattle.std.specs.Prelude.{◌≡◌, ℕ, ◌+◌, ◌*◌, ◌/◌, ◌^◌, ◌<◌, ◌≤◌, None, true, false, length, min, replicate, slice_index_or, slice_set, IfOk};
 ghost use Rattle.std.specs.Option.{ForSome};
-ghost use Rattle.pb_engine.specs.RowSet.{HasNoneBetween};
+ghost use Rattle.pb_engine.specs.RowSet.{HasMember, HasNoneBetween};
 
+use crate::flags::Flags;
 use pb_inst::Memory;
 use std::alloc::Global;
 use std::marker::Model;
@@ -27,34 +28,11 @@ impl Model for Bits {
 }
 
 impl Bits {
-    /// As many flags, none of them set.
-    pub fn new(alloc: Global, count: usize) -> Result<Bits, Memory>
-        requires { count < 2 ^ 63 }
-        ensures { IfOk result (λ bits. bits ≡ replicate count false) }
+    pub fn get(&self, index: usize) -> bool
+        requires { index < length self.now }
+        ensures { result ≡ slice_index_or self.now index false }
     {
-        let words = vec![in alloc; 0; count / 64 + 1]?;
-        Ok(Bits { words, count })
-    }
-
-    pub fn len(&self) -> usize
-        ensures value { result ≡ length self.now }
-        ensures small { result < 2 ^ 63 }
-    {
-        self.count
-    }
-
-    pub fn set(&mut self, index: usize)
-        requires { index < length self.old }
-        ensures { self.new ≡ slice_set self.old index true }
-    {
-        self.words[index / 64] |= 1 << (index % 64);
-    }
-
-    pub fn clear(&mut self, index: usize)
-        requires { index < length self.old }
-        ensures { self.new ≡ slice_set self.old index false }
-    {
-        self.words[index / 64] &= !(1 << (index % 64));
+        self.words[index / 64] >> (index % 64) & 1 == 1
     }
 
     /// The first flag that is set from a place on within the place's word, or none.
@@ -68,26 +46,40 @@ impl Bits {
         if rest == 0 {
             return None;
         }
-        let index = from + rest.trailing_zeros() as usize;
-        if index < self.count {
-            Some(index)
-        } else {
-            None
-        }
+        Some(from + rest.trailing_zeros() as usize)
     }
+
     /// Whether no flag of the place's word is set.
     pub fn has_none_in_word(&self, index: usize) -> bool
         requires { index < length self.now }
-        ensures { result ≡ true → (i : ℕ) → i / 64 ≡ index / 64 → slice_index_or self.now i false ≡ false }
+        ensures none { result ≡ true → (i : ℕ) → i / 64 ≡ index / 64 → slice_index_or self.now i false ≡ false }
+        ensures some { result ≡ false → HasMember self.now (index / 64) }
     {
         self.words[index / 64] == 0
     }
+}
 
-    /// The first flag that is set from a place on, or none.
-    pub fn next(&self, from: usize) -> Option<usize>
-        ensures some { ForSome result (λ index. (from ≤ index) × (index < length self.now) × (slice_index_or self.now index false ≡ true) × HasNoneBetween self.now from index) }
-        ensures none { result ≡ None → HasNoneBetween self.now from (length self.now) }
-    {
+impl Flags for Bits {
+    ghost flags = { λ b. b };
+
+    fn new(alloc: Global, count: usize) -> Result<Bits, Memory> {
+        let words = vec![in alloc; 0; count / 64 + 1]?;
+        Ok(Bits { words, count })
+    }
+
+    fn len(&self) -> usize {
+        self.count
+    }
+
+    fn set(&mut self, index: usize) {
+        self.words[index / 64] |= 1 << (index % 64);
+    }
+
+    fn clear(&mut self, index: usize) {
+        self.words[index / 64] &= !(1 << (index % 64));
+    }
+
+    fn next(&self, from: usize) -> Option<usize> {
         let mut place = from;
         while place < self.len() {
             if let Some(index) = self.next_in_word(place) {

@@ -1,26 +1,28 @@
 //! A trail with assumptions, and what follows from them.
 
-ghost use Rattle.std.specs.Prelude.{◌≡◌, ℕ, ◌+◌, ◌<◌, ◌≤◌, [], ◌∷◌, ◌++◌, false, true, length, take, None, Some, All, replicate, IfOk, ◌≤ℤ◌, pos, neg_ℤ, List};
+ghost use Rattle.std.specs.Prelude.{◌≡◌, ℕ, ◌+◌, ◌<◌, ◌≤◌, [], ◌∷◌, ◌++◌, false, true, length, take, None, Some, All, replicate, IfOk, IfSome, slice_index_or, ◌≤ℤ◌, pos, neg_ℤ, List};
 ghost use Rattle.pb_inst.specs.declared.TheConstants.{SUM_BOUND};
 ghost use Rattle.std.specs.Option.{ForSome};
 ghost use Rattle.pb_normal.specs.NormalForm.{PositiveRow, total_coefficient};
 ghost use Rattle.pb_engine.specs.Clauses.{AreClausesOf};
-ghost use Rattle.pb_engine.specs.Tables.{AreBeside};
+ghost use Rattle.pb_engine.specs.Constraints.{row_at};
+ghost use Rattle.pb_engine.specs.Tables.{AreBeside, terms_in};
 ghost use Rattle.pb_engine.specs.Trail.{value_on, reached};
 ghost use Rattle.pb_engine.specs.DisjointRows.{extras, disjoint_bound};
 ghost use Rattle.pb_engine.specs.Completion.{HasNoCompletion, IsLowerBound, IsSettled};
-ghost use Rattle.pb_engine.specs.Propagation.{AddsForced};
+ghost use Rattle.pb_engine.specs.Propagation.{AddsForced, IsBrokenAt};
 ghost use Rattle.pb_engine.specs.EngineState.{trail_before, is_conflict, HasNegativeSlack};
 ghost use Rattle.pb_engine.specs.Soundness.{IsFull, IsSolved, IsSoundTrail};
 
 use crate::clauses::Clauses;
+use crate::count::Count;
 use crate::extras::extras;
 use crate::marks::Marks;
 use crate::needs::Needs;
 use crate::propagation::{Step, propagate_all};
 use crate::rows::Rows;
 use crate::slacks::{Slacks, cut};
-use crate::tables::Tables;
+use crate::tables::{RowTerms, Tables};
 use pb_inst::{Cube, Lit, Magnitude, Memory, Number};
 use pb_normal::Normal;
 use std::alloc::Global;
@@ -35,16 +37,16 @@ struct Level {
 
 /// Rows, a trail over their variables with some literals assumed, and whether a conflict stands.
 #[derive(Debug, Drop)]
-pub struct Engine<'a> {
-    slacks: Slacks<'a>,
-    needs: Needs,
+pub struct Engine<'a, C: Count = u64> {
+    slacks: Slacks<'a, C>,
+    needs: Needs<C>,
     marks: Marks,
     levels: Vec<Level>,
     settled_until: Option<usize>,
     conflict: bool,
 }
 
-impl<'a> Model for Engine<'a> {
+impl<'a, C: Count> Model for Engine<'a, C> {
     ghost use Rattle.std.specs.Vec.{vec_capacity};
     ghost use Rattle.pb_engine.specs.EngineState.{EngineState};
 
@@ -58,10 +60,14 @@ impl<'a> Model for Engine<'a> {
     ghost invariant = { λ e. IsEngine e.slacks.vars e.slacks.rows e.slacks.trail e.levels.items e.settled_until e.conflict (vec_capacity e.levels) × HasCounters e.slacks e.needs e.marks };
 }
 
-impl<'a> Engine<'a> {
+impl<'a, C: Count> Engine<'a, C> {
     /// The empty trail over the rows of the normal form and, for each cube, the clause that some literal of it is false.
     /// It builds tables of its own; `Rows`, `Clauses` and `over` share them among engines. Nothing after it takes memory.
-    pub fn new(alloc: Global, form: &'a Normal, negated: &'a [Cube]) -> Result<Engine<'a>, Memory>
+    pub fn new(
+        alloc: Global,
+        form: &'a Normal,
+        negated: &'a [Cube],
+    ) -> Result<Engine<'a, C>, Memory>
         requires variables { All (λ cube. All (λ l. l.var ≤ form.now.vars) cube) negated.now }
         ensures form { IfOk result (λ e. (e.form ≡ form.now) × (e.vars ≡ form.now.vars)) }
         ensures rows { IfOk result (λ e. (clauses : List PositiveRow) × (e.rows ≡ form.now.rows ++ clauses) × AreClausesOf negated.now clauses) }
@@ -74,9 +80,9 @@ impl<'a> Engine<'a> {
     /// The empty trail over rows and clauses that are lent. Nothing after it takes memory.
     pub fn over(
         alloc: Global,
-        rows: &'a Rows<'a>,
+        rows: &'a Rows<'a, C>,
         clauses: &'a Clauses,
-    ) -> Result<Engine<'a>, Memory>
+    ) -> Result<Engine<'a, C>, Memory>
         requires beside { AreBeside rows.now clauses.now }
         ensures form { IfOk result (λ e. (e.form ≡ rows.now.form) × (e.vars ≡ rows.now.form.vars)) }
         ensures rows { IfOk result (λ e. e.rows ≡ rows.now.form.rows ++ clauses.now.rows) }
@@ -86,7 +92,7 @@ impl<'a> Engine<'a> {
     }
 
     /// The empty trail.
-    fn start(alloc: Global, tables: Tables<'a>) -> Result<Engine<'a>, Memory>
+    fn start(alloc: Global, tables: Tables<'a, C>) -> Result<Engine<'a, C>, Memory>
         ensures { IfOk result (λ e. e ≡ record { form = tables.entry.form; vars = tables.entry.vars; rows = tables.entry.rows; trail = []; levels = []; conflict = false }) }
     {
         let vars = tables.vars() as usize;
@@ -137,6 +143,42 @@ impl<'a> Engine<'a> {
         ensures sound { IsSoundTrail self.now }
     {
         self.conflict
+    }
+
+    /// The number of literals on the trail.
+    pub fn trail_len(&self) -> usize
+        ensures { result ≡ length self.now.trail }
+    {
+        self.slacks.len()
+    }
+
+    /// The literal at a place of the trail, from 0 on.
+    pub fn literal(&self, place: usize) -> Lit
+        requires { place < length self.now.trail }
+        ensures value { result ≡ slice_index_or self.now.trail place result }
+        ensures within { result.var ≤ self.now.vars }
+    {
+        self.slacks.literal(place)
+    }
+
+    /// Where a conflict stands: the row at which it was found, which can't be met under the trail.
+    pub fn conflict_row(&self) -> Option<usize>
+        ensures stands { IfSome result (λ _. self.now.conflict ≡ true) }
+        ensures broken { IfSome result (λ row. IsBrokenAt self.now.rows self.now.trail row) }
+    {
+        if self.conflict {
+            self.slacks.broken_row()
+        } else {
+            None
+        }
+    }
+
+    /// The terms of a row.
+    pub fn row_terms(&self, row: usize) -> RowTerms<'_>
+        requires { row < length self.now.rows }
+        ensures { terms_in result ≡ (row_at self.now.rows row).terms }
+    {
+        self.slacks.tables().terms(row)
     }
 
     /// Puts a literal without a value on the trail, as an assumption.
@@ -201,7 +243,7 @@ impl<'a> Engine<'a> {
         }
         self.needs.count(&self.slacks);
         let extras = extras(&self.needs, &mut self.marks, &self.slacks);
-        self.needs.paid() + extras
+        (self.needs.paid() + extras).number()
     }
 
     /// Takes back every assumption above the level, and what was added since.
@@ -242,6 +284,8 @@ fn known_if(known: bool, settled_until: Option<usize>) -> Option<usize>
     if known { settled_until } else { None }
 }
 
+#[cfg(test)]
+mod count_tests;
 #[cfg(test)]
 mod propagation_tests;
 #[cfg(test)]

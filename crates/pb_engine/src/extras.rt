@@ -9,35 +9,48 @@ ghost use Rattle.pb_engine.specs.Needs.{AreNeeds};
 ghost use Rattle.pb_engine.specs.Offers.{no_offer, offer_with, offer_of, offer_joined, extra_in};
 ghost use Rattle.pb_engine.specs.Tables.{terms_in};
 
+use crate::count::Count;
 use crate::marks::Marks;
 use crate::needs::Needs;
 use crate::slacks::Slacks;
 use crate::tables::RowTerms;
+use crate::tally::Tally;
 use pb_inst::{Lit, Magnitude};
 use pb_normal::PositiveTerm;
+use std::marker::Model;
 
 /// The sum and the greatest of the coefficients of costly literals, and the least cost of one of them.
 #[derive(Clone, Copy, Debug)]
-struct Offer {
-    total: Magnitude,
-    greatest: Magnitude,
-    cheapest: Magnitude,
+struct Offer<C: Count> {
+    total: Tally<C>,
+    greatest: Tally<C>,
+    cheapest: Tally<C>,
 }
 
-impl Offer {
+impl<C: Count> Model for Offer<C> {
+    ghost use Rattle.pb_engine.specs.Offers.{Offer as Offered};
+
+    ghost Value = { Offered };
+
+    ghost view = { λ o. record { total = o.total; greatest = o.greatest; cheapest = o.cheapest } };
+
+    ghost inverse = { λ o. record { total = o.total; greatest = o.greatest; cheapest = o.cheapest } };
+}
+
+impl<C: Count> Offer<C> {
     /// No literal.
-    fn none() -> Offer
+    fn none() -> Offer<C>
         ensures { result ≡ no_offer }
     {
         Offer {
-            total: 0,
-            greatest: 0,
-            cheapest: Magnitude::MAX,
+            total: Tally::of(0),
+            greatest: Tally::of(0),
+            cheapest: Tally::of(Magnitude::MAX),
         }
     }
 
     /// With one more literal.
-    fn with(self, coef: Magnitude, cost: Magnitude) -> Offer
+    fn with(self, coef: Tally<C>, cost: Tally<C>) -> Offer<C>
         requires { self.total + coef < 2 ^ 64 }
         ensures { result ≡ offer_with self coef cost }
     {
@@ -49,7 +62,13 @@ impl Offer {
     }
 
     /// With the term where its literal is costly, or none where its variable has no value and is marked.
-    fn joined(self, slacks: &Slacks<'_>, marks: &Marks, coef: Magnitude, lit: Lit) -> Option<Offer>
+    fn joined(
+        self,
+        slacks: &Slacks<'_, C>,
+        marks: &Marks,
+        coef: Tally<C>,
+        lit: Lit,
+    ) -> Option<Offer<C>>
         requires variable { (1 ≤ lit.var) × (lit.var ≤ slacks.now.vars) }
         requires marks { length marks.now ≡ slacks.now.vars }
         requires fits { self.total + coef < 2 ^ 64 }
@@ -62,27 +81,35 @@ impl Offer {
             return None;
         }
         let cost = slacks.tables().cost(lit);
-        if cost == 0 {
+        if cost.is_zero() {
             return Some(self);
         }
         Some(self.with(coef, cost))
     }
 
     /// The least number of literals that can reach the need, times the least cost of one.
-    fn extra(self, need: Magnitude) -> Magnitude
+    fn extra(self, need: Tally<C>) -> Tally<C>
         requires positive { 0 < need → need ≤ self.total → 0 < self.greatest }
         requires fits { extra_in self need < 2 ^ 64 }
         ensures { result ≡ extra_in self need }
     {
-        if need == 0 || self.total < need {
-            return 0;
+        if need.is_zero() || self.total.is_below(need) {
+            return Tally::of(0);
+        }
+        // For most rows one literal is enough, and a division is slow.
+        if !self.greatest.is_below(need) {
+            return self.cheapest;
         }
         need.div_ceil(self.greatest) * self.cheapest
     }
 }
 
 /// What the costly literals of the row are, or none where a variable without a value is marked.
-fn offer_in(slacks: &Slacks<'_>, marks: &Marks, terms: RowTerms<'_>) -> Option<Offer>
+fn offer_in<C: Count>(
+    slacks: &Slacks<'_, C>,
+    marks: &Marks,
+    terms: RowTerms<'_>,
+) -> Option<Offer<C>>
     requires variables { All (λ t. (1 ≤ t.lit.var) × (t.lit.var ≤ slacks.now.vars)) (terms_in terms) }
     requires marks { length marks.now ≡ slacks.now.vars }
     requires fits { sum_by (λ t. t.coef) (terms_in terms) < 2 ^ 64 }
@@ -96,7 +123,11 @@ fn offer_in(slacks: &Slacks<'_>, marks: &Marks, terms: RowTerms<'_>) -> Option<O
 }
 
 /// What the costly literals of the terms are.
-fn offer_of_terms(slacks: &Slacks<'_>, marks: &Marks, terms: &[PositiveTerm]) -> Option<Offer>
+fn offer_of_terms<C: Count>(
+    slacks: &Slacks<'_, C>,
+    marks: &Marks,
+    terms: &[PositiveTerm],
+) -> Option<Offer<C>>
     requires variables { All (λ t. (1 ≤ t.lit.var) × (t.lit.var ≤ slacks.now.vars)) terms.now }
     requires marks { length marks.now ≡ slacks.now.vars }
     requires fits { sum_by (λ t. t.coef) terms.now < 2 ^ 64 }
@@ -105,13 +136,13 @@ fn offer_of_terms(slacks: &Slacks<'_>, marks: &Marks, terms: &[PositiveTerm]) ->
 {
     let mut offer = Offer::none();
     for term in terms {
-        offer = offer.joined(slacks, marks, term.coef, term.lit)?;
+        offer = offer.joined(slacks, marks, Tally::of(term.coef), term.lit)?;
     }
     Some(offer)
 }
 
 /// What the costly literals of a clause are.
-fn offer_of_lits(slacks: &Slacks<'_>, marks: &Marks, lits: &[Lit]) -> Option<Offer>
+fn offer_of_lits<C: Count>(slacks: &Slacks<'_, C>, marks: &Marks, lits: &[Lit]) -> Option<Offer<C>>
     requires variables { All (λ t. (1 ≤ t.lit.var) × (t.lit.var ≤ slacks.now.vars)) (map unit_term lits.now) }
     requires marks { length marks.now ≡ slacks.now.vars }
     requires fits { sum_by (λ t. t.coef) (map unit_term lits.now) < 2 ^ 64 }
@@ -120,13 +151,13 @@ fn offer_of_lits(slacks: &Slacks<'_>, marks: &Marks, lits: &[Lit]) -> Option<Off
 {
     let mut offer = Offer::none();
     for lit in lits {
-        offer = offer.joined(slacks, marks, 1, *lit)?;
+        offer = offer.joined(slacks, marks, Tally::of(1), *lit)?;
     }
     Some(offer)
 }
 
 /// Marks the row's variables that have no value.
-fn mark(marks: &mut Marks, slacks: &Slacks<'_>, terms: RowTerms<'_>)
+fn mark<C: Count>(marks: &mut Marks, slacks: &Slacks<'_, C>, terms: RowTerms<'_>)
     requires variables { All (λ t. (1 ≤ t.lit.var) × (t.lit.var ≤ slacks.now.vars)) (terms_in terms) }
     requires marks { length marks.old ≡ slacks.now.vars }
     ensures { marks.new ≡ marked_by slacks.now.trail marks.old (terms_in terms.entry) }
@@ -138,7 +169,7 @@ fn mark(marks: &mut Marks, slacks: &Slacks<'_>, terms: RowTerms<'_>)
 }
 
 /// Marks the variables of the terms that have no value.
-fn mark_terms(marks: &mut Marks, slacks: &Slacks<'_>, terms: &[PositiveTerm])
+fn mark_terms<C: Count>(marks: &mut Marks, slacks: &Slacks<'_, C>, terms: &[PositiveTerm])
     requires variables { All (λ t. (1 ≤ t.lit.var) × (t.lit.var ≤ slacks.now.vars)) terms.now }
     requires marks { length marks.old ≡ slacks.now.vars }
     ensures { marks.new ≡ marked_by slacks.now.trail marks.old terms.now }
@@ -149,7 +180,7 @@ fn mark_terms(marks: &mut Marks, slacks: &Slacks<'_>, terms: &[PositiveTerm])
 }
 
 /// Marks the variables of the literals that have no value.
-fn mark_lits(marks: &mut Marks, slacks: &Slacks<'_>, lits: &[Lit])
+fn mark_lits<C: Count>(marks: &mut Marks, slacks: &Slacks<'_, C>, lits: &[Lit])
     requires variables { All (λ t. (1 ≤ t.lit.var) × (t.lit.var ≤ slacks.now.vars)) (map unit_term lits.now) }
     requires marks { length marks.old ≡ slacks.now.vars }
     ensures { marks.new ≡ marked_by slacks.now.trail marks.old (map unit_term lits.now) }
@@ -160,7 +191,7 @@ fn mark_lits(marks: &mut Marks, slacks: &Slacks<'_>, lits: &[Lit])
 }
 
 /// Marks the literal's variable where it has no value.
-fn mark_free(marks: &mut Marks, slacks: &Slacks<'_>, lit: Lit)
+fn mark_free<C: Count>(marks: &mut Marks, slacks: &Slacks<'_, C>, lit: Lit)
     requires variable { (1 ≤ lit.var) × (lit.var ≤ slacks.now.vars) }
     requires marks { length marks.old ≡ slacks.now.vars }
     ensures { marks.new ≡ (if is_free slacks.now.trail lit then slice_set marks.old (lit.var - 1) true else marks.old) }
@@ -172,7 +203,12 @@ fn mark_free(marks: &mut Marks, slacks: &Slacks<'_>, lit: Lit)
 }
 
 /// What the row adds where it is picked, else 0. A picked row's variables without a value are marked.
-fn pick(needs: &Needs, marks: &mut Marks, slacks: &Slacks<'_>, row: usize) -> Magnitude
+fn pick<C: Count>(
+    needs: &Needs<C>,
+    marks: &mut Marks,
+    slacks: &Slacks<'_, C>,
+    row: usize,
+) -> Tally<C>
     requires row { row < length slacks.now.rows }
     requires needs { AreNeeds slacks.now needs.now }
     requires counted { needs.now.counted ≡ length slacks.now.trail }
@@ -184,11 +220,11 @@ fn pick(needs: &Needs, marks: &mut Marks, slacks: &Slacks<'_>, row: usize) -> Ma
     let (_vars, _length) = (tables.vars(), slacks.len());
     let terms = tables.terms(row);
     match offer_in(slacks, marks, terms) {
-        None => 0,
+        None => Tally::of(0),
         Some(offer) => {
             let extra = offer.extra(needs.need(row));
-            if extra == 0 {
-                return 0;
+            if extra.is_zero() {
+                return Tally::of(0);
             }
             mark(marks, slacks, terms);
             extra
@@ -197,7 +233,7 @@ fn pick(needs: &Needs, marks: &mut Marks, slacks: &Slacks<'_>, row: usize) -> Ma
 }
 
 /// The extras of the rows that are picked in order.
-pub fn extras(needs: &Needs, marks: &mut Marks, slacks: &Slacks<'_>) -> Magnitude
+pub fn extras<C: Count>(needs: &Needs<C>, marks: &mut Marks, slacks: &Slacks<'_, C>) -> Tally<C>
     requires needs { AreNeeds slacks.now needs.now }
     requires counted { needs.now.counted ≡ length slacks.now.trail }
     requires marks { length marks.old ≡ slacks.now.vars }
@@ -206,7 +242,7 @@ pub fn extras(needs: &Needs, marks: &mut Marks, slacks: &Slacks<'_>) -> Magnitud
 {
     marks.clear();
     let _vars = slacks.tables().vars();
-    let mut sum = 0;
+    let mut sum = Tally::of(0);
     let mut from = 0;
     while let Some(row) = needs.next(from) {
         sum += pick(needs, marks, slacks, row);

@@ -4,8 +4,10 @@
 mod bits;
 mod clauses;
 mod costs;
+mod count;
 mod engine;
 mod extras;
+mod flags;
 mod index;
 mod literal_lists;
 mod marks;
@@ -16,9 +18,13 @@ mod propagation;
 mod row_set;
 mod rows;
 mod slacks;
+mod summary;
 mod tables;
+mod tally;
 
 pub use clauses::Clauses;
+pub use count::Count;
 pub use engine::Engine;
 pub use propagation::Step;
 pub use rows::Rows;
+pub use tables::RowTerms;

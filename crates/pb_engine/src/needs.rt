@@ -12,10 +12,12 @@ ghost use Rattle.pb_engine.specs.Needs.{AreNeeds, IsLackOf, wants};
 ghost use Rattle.pb_engine.specs.Tables.{terms_in};
 ghost use Rattle.pb_engine.specs.Trail.{negation, weight_of};
 
+use crate::count::Count;
 use crate::occurrences::{Occurrence, UnitOccurrence};
 use crate::row_set::RowSet;
 use crate::slacks::Slacks;
 use crate::tables::{RowTerms, Tables};
+use crate::tally::Tally;
 use pb_inst::{Lit, Magnitude, Memory};
 use pb_normal::PositiveTerm;
 use std::alloc::Global;
@@ -26,30 +28,30 @@ pub const MET: Magnitude = 9_223_372_036_854_775_808;
 /// What the first literals of a trail pay, and what each row lacks after them: 2^63 more than its degree less what it has at
 /// no cost, since it may have more than its degree. Rows that lack more than 2^63 stand in a set.
 #[derive(Debug, Drop)]
-pub struct Needs {
+pub struct Needs<C: Count> {
     counted: usize,
-    paid: Magnitude,
-    lacks: Vec<Magnitude>,
+    paid: Tally<C>,
+    lacks: Vec<Tally<C>>,
     wanting: RowSet,
 }
 
-impl Needs {
+impl<C: Count> Needs<C> {
     /// No literal is counted.
-    pub fn new(alloc: Global, slacks: &Slacks<'_>) -> Result<Needs, Memory>
+    pub fn new(alloc: Global, slacks: &Slacks<'_, C>) -> Result<Needs<C>, Memory>
         ensures { IfOk result (λ needs. AreNeeds slacks.now needs) }
     {
         let lacks = lacks_of(alloc, slacks.tables())?;
         let wanting = wanting_of(alloc, &lacks)?;
         Ok(Needs {
             counted: 0,
-            paid: 0,
+            paid: Tally::of(0),
             lacks,
             wanting,
         })
     }
 
     /// Counts the literals of the trail that were not counted yet.
-    pub fn count(&mut self, slacks: &Slacks<'_>)
+    pub fn count(&mut self, slacks: &Slacks<'_, C>)
         requires { AreNeeds slacks.now self.old }
         ensures needs { AreNeeds slacks.now self.new }
         ensures all { self.new.counted ≡ length slacks.now.trail }
@@ -60,7 +62,7 @@ impl Needs {
     }
 
     /// Takes back the literals of the trail from a place on.
-    pub fn take_back(&mut self, slacks: &Slacks<'_>, start: usize)
+    pub fn take_back(&mut self, slacks: &Slacks<'_, C>, start: usize)
         requires { AreNeeds slacks.now self.old }
         ensures needs { AreNeeds slacks.now self.new }
         ensures before { self.new.counted ≤ start }
@@ -71,7 +73,7 @@ impl Needs {
     }
 
     /// What the counted literals pay.
-    pub fn paid(&self) -> Magnitude
+    pub fn paid(&self) -> Tally<C>
         ensures { result ≡ self.now.paid }
     {
         self.paid
@@ -86,15 +88,15 @@ impl Needs {
     }
 
     /// What the costly literals of the row must reach.
-    pub fn need(&self, row: usize) -> Magnitude
+    pub fn need(&self, row: usize) -> Tally<C>
         requires { row < length self.now.lacks.items }
         ensures { result ≡ slice_index self.now.lacks.items row - MET }
     {
-        self.lacks[row].saturating_sub(MET)
+        self.lacks[row].above(Tally::of(MET))
     }
 
     /// Counts the next literal.
-    fn count_next(&mut self, slacks: &Slacks<'_>)
+    fn count_next(&mut self, slacks: &Slacks<'_, C>)
         requires needs { AreNeeds slacks.now self.old }
         requires next { self.old.counted < length slacks.now.trail }
         ensures needs { AreNeeds slacks.now self.new }
@@ -109,7 +111,7 @@ impl Needs {
     }
 
     /// Takes back the last literal that is counted.
-    fn take_back_last(&mut self, slacks: &Slacks<'_>)
+    fn take_back_last(&mut self, slacks: &Slacks<'_, C>)
         requires needs { AreNeeds slacks.now self.old }
         requires some { 0 < self.old.counted }
         ensures needs { AreNeeds slacks.now self.new }
@@ -125,7 +127,7 @@ impl Needs {
 }
 
 /// What the rows lack once the literal joins the trail.
-fn join(lacks: &mut [Magnitude], wanting: &mut RowSet, tables: &Tables<'_>, lit: Lit)
+fn join<C: Count>(lacks: &mut [Tally<C>], wanting: &mut RowSet, tables: &Tables<'_, C>, lit: Lit)
     requires variable { lit.var ≤ tables.now.vars }
     requires count { length lacks.old ≡ length tables.now.rows }
     requires enough { (r : ℕ) → r < length lacks.old → gain tables.now.form.objective lit (row_at tables.now.rows r).terms ≤ slice_index lacks.old r }
@@ -136,12 +138,18 @@ fn join(lacks: &mut [Magnitude], wanting: &mut RowSet, tables: &Tables<'_>, lit:
     ensures wanting { wanting.new ≡ wants lacks.new }
 {
     let negation = lit.negate();
-    lower_if(tables.cost(lit) > 0, lacks, wanting, tables, lit);
-    raise_if(tables.cost(negation) == 0, lacks, wanting, tables, negation);
+    lower_if(!tables.cost(lit).is_zero(), lacks, wanting, tables, lit);
+    raise_if(
+        tables.cost(negation).is_zero(),
+        lacks,
+        wanting,
+        tables,
+        negation,
+    );
 }
 
 /// What the rows lack once the literal leaves the trail.
-fn leave(lacks: &mut [Magnitude], wanting: &mut RowSet, tables: &Tables<'_>, lit: Lit)
+fn leave<C: Count>(lacks: &mut [Tally<C>], wanting: &mut RowSet, tables: &Tables<'_, C>, lit: Lit)
     requires variable { lit.var ≤ tables.now.vars }
     requires count { length lacks.old ≡ length tables.now.rows }
     requires enough { (r : ℕ) → r < length lacks.old → loss tables.now.form.objective (negation lit) (row_at tables.now.rows r).terms ≤ slice_index lacks.old r }
@@ -152,16 +160,22 @@ fn leave(lacks: &mut [Magnitude], wanting: &mut RowSet, tables: &Tables<'_>, lit
     ensures wanting { wanting.new ≡ wants lacks.new }
 {
     let negation = lit.negate();
-    lower_if(tables.cost(negation) == 0, lacks, wanting, tables, negation);
-    raise_if(tables.cost(lit) > 0, lacks, wanting, tables, lit);
+    lower_if(
+        tables.cost(negation).is_zero(),
+        lacks,
+        wanting,
+        tables,
+        negation,
+    );
+    raise_if(!tables.cost(lit).is_zero(), lacks, wanting, tables, lit);
 }
 
 /// Takes the literal's coefficients from what its rows lack, if it is to.
-fn lower_if(
+fn lower_if<C: Count>(
     wanted: bool,
-    lacks: &mut [Magnitude],
+    lacks: &mut [Tally<C>],
     wanting: &mut RowSet,
-    tables: &Tables<'_>,
+    tables: &Tables<'_, C>,
     lit: Lit,
 )
     requires variable { lit.var ≤ tables.now.vars }
@@ -180,11 +194,11 @@ fn lower_if(
 }
 
 /// Adds the literal's coefficients to what its rows lack, if it is to.
-fn raise_if(
+fn raise_if<C: Count>(
     wanted: bool,
-    lacks: &mut [Magnitude],
+    lacks: &mut [Tally<C>],
     wanting: &mut RowSet,
-    tables: &Tables<'_>,
+    tables: &Tables<'_, C>,
     lit: Lit,
 )
     requires variable { lit.var ≤ tables.now.vars }
@@ -203,7 +217,7 @@ fn raise_if(
 }
 
 /// Takes the coefficients of the occurrences from what their rows lack.
-fn lower(lacks: &mut [Magnitude], wanting: &mut RowSet, occurrences: &[Occurrence])
+fn lower<C: Count>(lacks: &mut [Tally<C>], wanting: &mut RowSet, occurrences: &[Occurrence<C>])
     requires rows_exist { All (λ o. o.row < length lacks.old) occurrences.now }
     requires enough { (r : ℕ) → r < length lacks.old → total_for r occurrences.now ≤ slice_index lacks.old r }
     requires wanting { wanting.old ≡ wants lacks.old }
@@ -213,12 +227,16 @@ fn lower(lacks: &mut [Magnitude], wanting: &mut RowSet, occurrences: &[Occurrenc
     for occurrence in occurrences {
         let row = occurrence.row;
         lacks[row] -= occurrence.coef;
-        wanting.put(row, lacks[row] > MET);
+        wanting.put(row, Tally::of(MET).is_below(lacks[row]));
     }
 }
 
 /// Takes 1 for each occurrence from what its row lacks.
-fn lower_units(lacks: &mut [Magnitude], wanting: &mut RowSet, occurrences: &[UnitOccurrence])
+fn lower_units<C: Count>(
+    lacks: &mut [Tally<C>],
+    wanting: &mut RowSet,
+    occurrences: &[UnitOccurrence],
+)
     requires rows_exist { All (λ o. o.row < length lacks.old) occurrences.now }
     requires enough { (r : ℕ) → r < length lacks.old → total_for r occurrences.now ≤ slice_index lacks.old r }
     requires wanting { wanting.old ≡ wants lacks.old }
@@ -227,13 +245,13 @@ fn lower_units(lacks: &mut [Magnitude], wanting: &mut RowSet, occurrences: &[Uni
 {
     for occurrence in occurrences {
         let row = occurrence.row();
-        lacks[row] -= 1;
-        wanting.put(row, lacks[row] > MET);
+        lacks[row] -= Tally::of(1);
+        wanting.put(row, Tally::of(MET).is_below(lacks[row]));
     }
 }
 
 /// Adds the coefficients of the occurrences to what their rows lack.
-fn raise(lacks: &mut [Magnitude], wanting: &mut RowSet, occurrences: &[Occurrence])
+fn raise<C: Count>(lacks: &mut [Tally<C>], wanting: &mut RowSet, occurrences: &[Occurrence<C>])
     requires rows_exist { All (λ o. o.row < length lacks.old) occurrences.now }
     requires fits { (r : ℕ) → r < length lacks.old → slice_index lacks.old r + total_for r occurrences.now < 2 ^ 64 }
     requires wanting { wanting.old ≡ wants lacks.old }
@@ -243,12 +261,16 @@ fn raise(lacks: &mut [Magnitude], wanting: &mut RowSet, occurrences: &[Occurrenc
     for occurrence in occurrences {
         let row = occurrence.row;
         lacks[row] += occurrence.coef;
-        wanting.put(row, lacks[row] > MET);
+        wanting.put(row, Tally::of(MET).is_below(lacks[row]));
     }
 }
 
 /// Adds 1 for each occurrence to what its row lacks.
-fn raise_units(lacks: &mut [Magnitude], wanting: &mut RowSet, occurrences: &[UnitOccurrence])
+fn raise_units<C: Count>(
+    lacks: &mut [Tally<C>],
+    wanting: &mut RowSet,
+    occurrences: &[UnitOccurrence],
+)
     requires rows_exist { All (λ o. o.row < length lacks.old) occurrences.now }
     requires fits { (r : ℕ) → r < length lacks.old → slice_index lacks.old r + total_for r occurrences.now < 2 ^ 64 }
     requires wanting { wanting.old ≡ wants lacks.old }
@@ -257,25 +279,25 @@ fn raise_units(lacks: &mut [Magnitude], wanting: &mut RowSet, occurrences: &[Uni
 {
     for occurrence in occurrences {
         let row = occurrence.row();
-        lacks[row] += 1;
-        wanting.put(row, lacks[row] > MET);
+        lacks[row] += Tally::of(1);
+        wanting.put(row, Tally::of(MET).is_below(lacks[row]));
     }
 }
 
 /// What each row lacks before any literal is counted.
-fn lacks_of(alloc: Global, tables: &Tables<'_>) -> Result<Vec<Magnitude>, Memory>
+fn lacks_of<C: Count>(alloc: Global, tables: &Tables<'_, C>) -> Result<Vec<Tally<C>>, Memory>
     ensures count { IfOk result (λ lacks. length lacks.items ≡ length tables.now.rows) }
     ensures each { IfOk result (λ lacks. (r : ℕ) → r < length tables.now.rows → IsLackOf tables.now.form.objective [] (row_at tables.now.rows r) (slice_index lacks.items r)) }
 {
     let mut lacks = Vec::with_capacity(alloc, tables.len())?;
     for row in 0..tables.len() {
-        lacks.push(lack_of(tables, row))?;
+        lacks.push(Tally::of(lack_of(tables, row)))?;
     }
     Ok(lacks)
 }
 
 /// What the row lacks before any literal is counted.
-fn lack_of(tables: &Tables<'_>, row: usize) -> Magnitude
+fn lack_of<C: Count>(tables: &Tables<'_, C>, row: usize) -> Magnitude
     requires { row < length tables.now.rows }
     ensures { IsLackOf tables.now.form.objective [] (row_at tables.now.rows row) result }
 {
@@ -284,7 +306,7 @@ fn lack_of(tables: &Tables<'_>, row: usize) -> Magnitude
 }
 
 /// What the row has at no cost before any literal is counted.
-fn at_no_cost(tables: &Tables<'_>, terms: RowTerms<'_>) -> Magnitude
+fn at_no_cost<C: Count>(tables: &Tables<'_, C>, terms: RowTerms<'_>) -> Magnitude
     requires variables { All (λ t. t.lit.var ≤ tables.now.vars) (terms_in terms) }
     requires fits { sum_by (λ t. t.coef) (terms_in terms) < 2 ^ 64 }
     ensures { result ≡ spare tables.now.form.objective [] (terms_in terms.entry) }
@@ -296,14 +318,14 @@ fn at_no_cost(tables: &Tables<'_>, terms: RowTerms<'_>) -> Magnitude
 }
 
 /// The sum of the coefficients of literals without cost.
-fn costless(tables: &Tables<'_>, terms: &[PositiveTerm]) -> Magnitude
+fn costless<C: Count>(tables: &Tables<'_, C>, terms: &[PositiveTerm]) -> Magnitude
     requires variables { All (λ t. t.lit.var ≤ tables.now.vars) terms.now }
     requires fits { sum_by (λ t. t.coef) terms.now < 2 ^ 64 }
     ensures { result ≡ spare tables.now.form.objective [] terms.now }
 {
     let mut sum = 0;
     for term in terms {
-        if tables.cost(term.lit) == 0 {
+        if tables.cost(term.lit).is_zero() {
             sum += term.coef;
         }
     }
@@ -311,13 +333,13 @@ fn costless(tables: &Tables<'_>, terms: &[PositiveTerm]) -> Magnitude
 }
 
 /// The number of literals without cost.
-fn costless_units(tables: &Tables<'_>, lits: &[Lit]) -> Magnitude
+fn costless_units<C: Count>(tables: &Tables<'_, C>, lits: &[Lit]) -> Magnitude
     requires variables { All (λ l. l.var ≤ tables.now.vars) lits.now }
     ensures { result ≡ spare tables.now.form.objective [] (map unit_term lits.now) }
 {
     let mut sum = 0;
     for lit in lits {
-        if tables.cost(*lit) == 0 {
+        if tables.cost(*lit).is_zero() {
             sum += 1;
         }
     }
@@ -325,13 +347,13 @@ fn costless_units(tables: &Tables<'_>, lits: &[Lit]) -> Magnitude
 }
 
 /// The rows that need costly literals.
-fn wanting_of(alloc: Global, lacks: &[Magnitude]) -> Result<RowSet, Memory>
+fn wanting_of<C: Count>(alloc: Global, lacks: &[Tally<C>]) -> Result<RowSet, Memory>
     requires { length lacks.now < 2 ^ 63 }
     ensures { IfOk result (λ wanting. wanting ≡ wants lacks.now) }
 {
     let mut wanting = RowSet::new(alloc, lacks.len())?;
     for row in 0..lacks.len() {
-        wanting.put(row, lacks[row] > MET);
+        wanting.put(row, Tally::of(MET).is_below(lacks[row]));
     }
     Ok(wanting)
 }

@@ -3,14 +3,26 @@
 ghost use Rattle.std.specs.Prelude.{◌≡◌, ◌+◌, ◌*◌, ◌<◌, ◌≤◌};
 ghost use Rattle.pb_engine.specs.Index.{literal_place};
 
-use pb_inst::{Lit, Magnitude};
+use crate::count::Count;
+use crate::tally::Tally;
+use pb_inst::Lit;
 use std::marker::Model;
 
 /// A row in which a literal occurs, and with which coefficient.
 #[derive(Clone, Copy, Debug)]
-pub struct Occurrence {
+pub struct Occurrence<C: Count> {
     pub row: usize,
-    pub coef: Magnitude,
+    pub coef: Tally<C>,
+}
+
+impl<C: Count> Model for Occurrence<C> {
+    ghost use Rattle.pb_engine.specs.Occurrences.{Occurrence as Weighted};
+
+    ghost Value = { Weighted };
+
+    ghost view = { λ o. record { row = o.row; coef = o.coef } };
+
+    ghost inverse = { λ o. record { row = o.row; coef = o.coef } };
 }
 
 /// A row in which a literal occurs with the coefficient 1, which is not stored. Contracts see an `Occurrence`.
@@ -20,7 +32,7 @@ pub struct UnitOccurrence {
 }
 
 impl Model for UnitOccurrence {
-    ghost use Rattle.pb_engine.specs.declared.occurrences.Occurrence.{Occurrence as Weighted};
+    ghost use Rattle.pb_engine.specs.Occurrences.{Occurrence as Weighted};
 
     ghost Value = { Weighted };
 
@@ -53,9 +65,19 @@ pub struct Part {
 
 /// An occurrence, and the place of its literal.
 #[derive(Clone, Copy, Debug)]
-pub struct Entry {
+pub struct Entry<C: Count> {
     pub place: usize,
-    pub occurrence: Occurrence,
+    pub occurrence: Occurrence<C>,
+}
+
+impl<C: Count> Model for Entry<C> {
+    ghost use Rattle.pb_engine.specs.Occurrences.{Entry as Placed};
+
+    ghost Value = { Placed };
+
+    ghost view = { λ e. record { place = e.place; occurrence = e.occurrence } };
+
+    ghost inverse = { λ e. record { place = e.place; occurrence = e.occurrence } };
 }
 
 /// The place of a literal: two for each variable, the negation first.

@@ -9,8 +9,10 @@ ghost use Rattle.pb_engine.specs.Propagation.{AddsForced, IsBroken, IsSettledFro
 ghost use Rattle.std.specs.Option.{ForSome};
 ghost use Rattle.pb_engine.specs.Levels.{AllSettled, AllSettledFrom};
 
+use crate::count::Count;
 use crate::slacks::Slacks;
-use pb_inst::{Lit, Magnitude};
+use crate::tally::Tally;
+use pb_inst::Lit;
 use pb_normal::PositiveTerm;
 
 /// What a step of the engine found.
@@ -21,7 +23,7 @@ pub enum Step {
 }
 
 /// Puts the literals that the row forces on the trail, or finds that the row can't be met any more.
-pub fn look_at(slacks: &mut Slacks<'_>, row: usize) -> Step
+pub fn look_at<C: Count>(slacks: &mut Slacks<'_, C>, row: usize) -> Step
     requires { row < length slacks.old.rows }
     ensures same_rows { slacks.new ≡ record slacks.old { trail = slacks.new.trail } }
     ensures forced { AddsForced slacks.old.rows slacks.old.trail slacks.new.trail }
@@ -36,7 +38,7 @@ pub fn look_at(slacks: &mut Slacks<'_>, row: usize) -> Step
 }
 
 /// Looks at a row of the form.
-fn look_at_row(slacks: &mut Slacks<'_>, row: usize) -> Step
+fn look_at_row<C: Count>(slacks: &mut Slacks<'_, C>, row: usize) -> Step
     requires { row < length slacks.old.form.rows }
     ensures same_rows { slacks.new ≡ record slacks.old { trail = slacks.new.trail } }
     ensures forced { AddsForced slacks.old.rows slacks.old.trail slacks.new.trail }
@@ -45,10 +47,11 @@ fn look_at_row(slacks: &mut Slacks<'_>, row: usize) -> Step
 {
     let limits = slacks.limits(row);
     let reachable = slacks.reachable(row);
-    if reachable >= limits.enough {
+    if !reachable.is_below(limits.enough) {
         return Step::Fixed;
     }
-    if reachable < limits.degree {
+    if reachable.is_below(limits.degree) {
+        slacks.blame(row);
         return Step::Conflict;
     }
     let terms = slacks.terms(row);
@@ -57,7 +60,7 @@ fn look_at_row(slacks: &mut Slacks<'_>, row: usize) -> Step
 }
 
 /// Looks at a clause.
-fn look_at_clause(slacks: &mut Slacks<'_>, row: usize) -> Step
+fn look_at_clause<C: Count>(slacks: &mut Slacks<'_, C>, row: usize) -> Step
     requires form { length slacks.old.form.rows ≤ row }
     requires exists { row < length slacks.old.rows }
     ensures same_rows { slacks.new ≡ record slacks.old { trail = slacks.new.trail } }
@@ -66,16 +69,20 @@ fn look_at_clause(slacks: &mut Slacks<'_>, row: usize) -> Step
     ensures broken { result ≡ Step.Conflict → reachable slacks.new.trail (row_at slacks.old.rows row).terms < (row_at slacks.old.rows row).degree }
 {
     let _clause = slacks.clause(row);
-    match slacks.reachable(row) {
-        0 => return Step::Conflict,
-        1 => add_last(slacks, row),
-        _ => {}
+    let reachable = slacks.reachable(row);
+    if !reachable.is_below(Tally::of(2)) {
+        return Step::Fixed;
     }
+    if reachable.is_zero() {
+        slacks.blame(row);
+        return Step::Conflict;
+    }
+    add_last(slacks, row);
     Step::Fixed
 }
 
 /// Adds what is forced, where the rows are known to be settled but for the literals from a place on, or nothing is known.
-pub fn propagate_all(slacks: &mut Slacks<'_>, settled_until: Option<usize>) -> Step
+pub fn propagate_all<C: Count>(slacks: &mut Slacks<'_, C>, settled_until: Option<usize>) -> Step
     requires { ForSome settled_until (λ from. AllSettledFrom slacks.old.rows slacks.old.trail from) }
     ensures same_rows { slacks.new ≡ record slacks.old { trail = slacks.new.trail } }
     ensures forced { AddsForced slacks.old.rows slacks.old.trail slacks.new.trail }
@@ -95,7 +102,7 @@ pub fn propagate_all(slacks: &mut Slacks<'_>, settled_until: Option<usize>) -> S
 }
 
 /// Looks at every row.
-pub fn look_at_all(slacks: &mut Slacks<'_>) -> Step
+pub fn look_at_all<C: Count>(slacks: &mut Slacks<'_, C>) -> Step
     ensures same_rows { slacks.new ≡ record slacks.old { trail = slacks.new.trail } }
     ensures forced { AddsForced slacks.old.rows slacks.old.trail slacks.new.trail }
     ensures settled { result ≡ Step.Fixed → (r head : ℕ) → r < length slacks.old.rows → head ≤ length slacks.old.trail → IsSettledFrom head slacks.new.trail (row_at slacks.old.rows r) }
@@ -110,7 +117,7 @@ pub fn look_at_all(slacks: &mut Slacks<'_>) -> Step
 }
 
 /// Looks at every row in which the literal occurs.
-pub fn look_at_occurrences(slacks: &mut Slacks<'_>, lit: Lit) -> Step
+pub fn look_at_occurrences<C: Count>(slacks: &mut Slacks<'_, C>, lit: Lit) -> Step
     requires { lit.var ≤ slacks.old.vars }
     ensures same_rows { slacks.new ≡ record slacks.old { trail = slacks.new.trail } }
     ensures forced { AddsForced slacks.old.rows slacks.old.trail slacks.new.trail }
@@ -124,7 +131,7 @@ pub fn look_at_occurrences(slacks: &mut Slacks<'_>, lit: Lit) -> Step
 }
 
 /// Looks at every row of the form in which the literal occurs.
-fn look_at_form(slacks: &mut Slacks<'_>, lit: Lit) -> Step
+fn look_at_form<C: Count>(slacks: &mut Slacks<'_, C>, lit: Lit) -> Step
     requires { lit.var ≤ slacks.old.vars }
     ensures same_rows { slacks.new ≡ record slacks.old { trail = slacks.new.trail } }
     ensures forced { AddsForced slacks.old.rows slacks.old.trail slacks.new.trail }
@@ -143,7 +150,7 @@ fn look_at_form(slacks: &mut Slacks<'_>, lit: Lit) -> Step
 }
 
 /// Looks at every clause in which the literal occurs.
-fn look_at_clauses(slacks: &mut Slacks<'_>, lit: Lit) -> Step
+fn look_at_clauses<C: Count>(slacks: &mut Slacks<'_, C>, lit: Lit) -> Step
     requires { lit.var ≤ slacks.old.vars }
     ensures same_rows { slacks.new ≡ record slacks.old { trail = slacks.new.trail } }
     ensures forced { AddsForced slacks.old.rows slacks.old.trail slacks.new.trail }
@@ -161,7 +168,7 @@ fn look_at_clauses(slacks: &mut Slacks<'_>, lit: Lit) -> Step
 }
 
 /// Looks at the rows that the literals from `start` on touch, and at those that their own literals touch in turn.
-pub fn propagate_from(slacks: &mut Slacks<'_>, start: usize) -> Step
+pub fn propagate_from<C: Count>(slacks: &mut Slacks<'_, C>, start: usize) -> Step
     requires within { start ≤ length slacks.old.trail }
     requires settled { (r : ℕ) → r < length slacks.old.rows → IsSettledFrom start slacks.old.trail (row_at slacks.old.rows r) }
     ensures same_rows { slacks.new ≡ record slacks.old { trail = slacks.new.trail } }
@@ -181,7 +188,12 @@ pub fn propagate_from(slacks: &mut Slacks<'_>, start: usize) -> Step
 }
 
 /// Puts the literals of a row of the form that have no value and a coefficient greater than the slack on the trail.
-fn add_forced(slacks: &mut Slacks<'_>, row: usize, terms: &[PositiveTerm], slack: Magnitude)
+fn add_forced<C: Count>(
+    slacks: &mut Slacks<'_, C>,
+    row: usize,
+    terms: &[PositiveTerm],
+    slack: Tally<C>,
+)
     requires exists { row < length slacks.old.rows }
     requires terms { terms.now ≡ (row_at slacks.old.rows row).terms }
     requires variables { All (λ t. (1 ≤ t.lit.var) × (t.lit.var ≤ slacks.old.vars)) terms.now }
@@ -191,14 +203,14 @@ fn add_forced(slacks: &mut Slacks<'_>, row: usize, terms: &[PositiveTerm], slack
     ensures settled { (head : ℕ) → head ≤ length slacks.old.trail → IsSettledFrom head slacks.new.trail (row_at slacks.old.rows row) }
 {
     for term in terms {
-        if term.coef > slack && slacks.value(term.lit.var()).is_none() {
+        if slack.is_below(Tally::of(term.coef)) && slacks.value(term.lit.var()).is_none() {
             slacks.push(term.lit);
         }
     }
 }
 
 /// Puts the literal of a clause that is not false yet on the trail, if it has no value.
-fn add_last(slacks: &mut Slacks<'_>, row: usize)
+fn add_last<C: Count>(slacks: &mut Slacks<'_, C>, row: usize)
     requires form { length slacks.old.form.rows ≤ row }
     requires exists { row < length slacks.old.rows }
     requires slack { reachable slacks.old.trail (row_at slacks.old.rows row).terms ≡ 1 }

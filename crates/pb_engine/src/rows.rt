@@ -4,13 +4,15 @@ ghost use Rattle.std.specs.Prelude.{◌≡◌, ℕ, ◌+◌, ◌*◌, ◌^◌, �
 ghost use Rattle.pb_normal.specs.NormalForm.{IsNormal};
 ghost use Rattle.pb_engine.specs.Constraints.{AreRowsOver, row_at};
 ghost use Rattle.pb_engine.specs.Index.{IsPartOf, occurrences_of, total_for, entries_of_row, entries_from};
-ghost use Rattle.pb_engine.specs.declared.occurrences.Occurrence.{Occurrence as Weighted};
+ghost use Rattle.pb_engine.specs.Occurrences.{Occurrence as Weighted};
 ghost use Rattle.pb_engine.specs.Table.{AreLimits, AreLimitsOf};
 ghost use Rattle.pb_engine.specs.Trail.{weight_of};
 
 use crate::costs::costs_of;
+use crate::count::Count;
 use crate::index::{Index, part};
 use crate::occurrences::{Entry, Occurrence, Part, place_of};
+use crate::tally::Tally;
 use pb_inst::{Lit, Magnitude, Memory};
 use pb_normal::{Normal, PositiveTerm};
 use std::alloc::Global;
@@ -18,22 +20,22 @@ use std::marker::Model;
 
 /// The degree of a row, and what it must be able to reach so that it forces no literal, side by side for the test of its sum.
 #[derive(Clone, Copy, Debug)]
-pub struct Limits {
-    pub degree: Magnitude,
-    pub enough: Magnitude,
+pub struct Limits<C: Count> {
+    pub degree: Tally<C>,
+    pub enough: Tally<C>,
 }
 
 /// The rows of a normal form, with the rows in which each literal occurs and what the objective says of it. They are built
 /// once and lent to engines.
 #[derive(Debug, Drop)]
-pub struct Rows<'a> {
+pub struct Rows<'a, C: Count = u64> {
     form: &'a Normal,
-    limits: Vec<Limits>,
-    index: Index,
-    costs: Vec<Magnitude>,
+    limits: Vec<Limits<C>>,
+    index: Index<C>,
+    costs: Vec<Tally<C>>,
 }
 
-impl<'a> Model for Rows<'a> {
+impl<'a, C: Count> Model for Rows<'a, C> {
     ghost use Rattle.pb_engine.specs.Table.{FormRows, AreFormRows};
 
     ghost Value = { FormRows };
@@ -43,9 +45,9 @@ impl<'a> Model for Rows<'a> {
     ghost invariant = { λ r. AreFormRows r.form.now r.limits.items r.index.occurrences.items r.index.starts.items r.costs.items };
 }
 
-impl<'a> Rows<'a> {
+impl<'a, C: Count> Rows<'a, C> {
     /// The rows of the normal form.
-    pub fn new(alloc: Global, form: &'a Normal) -> Result<Rows<'a>, Memory>
+    pub fn new(alloc: Global, form: &'a Normal) -> Result<Rows<'a, C>, Memory>
         ensures { IfOk result (λ rows. rows.form ≡ form.now) }
     {
         let entries = entries_of(alloc, form)?;
@@ -87,11 +89,11 @@ impl<'a> Rows<'a> {
         requires { row < length self.now.form.rows }
         ensures { result ≡ (row_at self.now.form.rows row).degree }
     {
-        self.limits[row].degree
+        self.form.degree(row)
     }
 
     /// The degree of the row, and at least what it and any coefficient of the row add up to.
-    pub fn limits(&self, row: usize) -> Limits
+    pub fn limits(&self, row: usize) -> Limits<C>
         requires { row < length self.now.form.rows }
         ensures { AreLimits (row_at self.now.form.rows row) result }
     {
@@ -107,7 +109,7 @@ impl<'a> Rows<'a> {
     }
 
     /// The rows in which the literal occurs.
-    pub fn occurrences(&self, lit: Lit) -> &[Occurrence]
+    pub fn occurrences(&self, lit: Lit) -> &[Occurrence<C>]
         requires { lit.var ≤ self.now.form.vars }
         ensures value { result.now ≡ occurrences_of self.now.occurrences self.now.starts lit }
         ensures rows_exist { All (λ o. o.row < length self.now.form.rows) result.now }
@@ -140,7 +142,7 @@ impl<'a> Rows<'a> {
     }
 
     /// The objective's coefficient of the literal, 0 where it has none.
-    pub fn cost(&self, lit: Lit) -> Magnitude
+    pub fn cost(&self, lit: Lit) -> Tally<C>
         requires { lit.var ≤ self.now.form.vars }
         ensures { result ≡ weight_of lit self.now.form.objective }
     {
@@ -149,7 +151,7 @@ impl<'a> Rows<'a> {
 }
 
 /// Where each literal of the rows occurs, row by row.
-fn entries_of(alloc: Global, form: &Normal) -> Result<Vec<Entry>, Memory>
+fn entries_of<C: Count>(alloc: Global, form: &Normal) -> Result<Vec<Entry<C>>, Memory>
     ensures { IfOk result (λ entries. entries.items ≡ entries_from 0 form.now.rows (length form.now.rows)) }
 {
     let mut entries = Vec::with_capacity(alloc, room(form))?;
@@ -169,12 +171,16 @@ fn room(form: &Normal) -> usize {
 }
 
 /// Adds where the literals of the terms occur.
-fn push_row(entries: &mut Vec<Entry>, row: usize, terms: &[PositiveTerm]) -> Result<(), Memory>
+fn push_row<C: Count>(
+    entries: &mut Vec<Entry<C>>,
+    row: usize,
+    terms: &[PositiveTerm],
+) -> Result<(), Memory>
     ensures { OnOk result (entries.new.items ≡ entries.old.items ++ entries_of_row row terms.now) }
 {
     for term in terms {
         let place = place_of(term.lit);
-        let coef = term.coef;
+        let coef = Tally::of(term.coef);
         entries.push(Entry {
             place,
             occurrence: Occurrence { row, coef },
@@ -184,16 +190,28 @@ fn push_row(entries: &mut Vec<Entry>, row: usize, terms: &[PositiveTerm]) -> Res
 }
 
 /// The limits of each row.
-fn limits_of(alloc: Global, form: &Normal) -> Result<Vec<Limits>, Memory>
+fn limits_of<C: Count>(alloc: Global, form: &Normal) -> Result<Vec<Limits<C>>, Memory>
     ensures { IfOk result (λ limits. AreLimitsOf form.now.rows (length form.now.rows) limits.items) }
 {
     let mut limits = Vec::with_capacity(alloc, form.len())?;
     for row in 0..form.len() {
-        let degree = form.degree(row);
-        let enough = enough(degree, form.terms(row));
-        limits.push(Limits { degree, enough })?;
+        limits.push(limits_at(form, row))?;
     }
     Ok(limits)
+}
+
+/// The limits of one row.
+fn limits_at<C: Count>(form: &Normal, row: usize) -> Limits<C>
+    requires { row < length form.now.rows }
+    ensures { AreLimits (row_at form.now.rows row) result }
+{
+    let _vars = form.vars();
+    let degree = form.degree(row);
+    let enough = enough(degree, form.terms(row));
+    Limits {
+        degree: Tally::of(degree),
+        enough: Tally::of(enough),
+    }
 }
 
 /// The degree and the greatest coefficient together.

@@ -1,18 +1,21 @@
 //! A trail, with what it leaves each row to reach.
 
-ghost use Rattle.std.specs.Prelude.{◌≡◌, ℕ, ◌+◌, ◌-◌, ◌^◌, ◌<◌, ◌≤◌, [], ◌∷◌, ◌++◌, length, take, All, None, slice_index, slice_index_or, IfOk, sum_by, sum, map};
+ghost use Rattle.std.specs.Prelude.{◌≡◌, ℕ, ◌+◌, ◌-◌, ◌^◌, ◌<◌, ◌≤◌, [], ◌∷◌, ◌++◌, length, take, All, None, slice_index, slice_index_or, IfOk, IfSome, sum_by, sum, map};
 ghost use Rattle.pb_engine.specs.Clauses.{clause_row};
-ghost use Rattle.pb_engine.specs.declared.occurrences.Occurrence.{Occurrence as Weighted};
+ghost use Rattle.pb_engine.specs.Occurrences.{Occurrence as Weighted};
 ghost use Rattle.pb_engine.specs.Constraints.{AreRowsOver, row_at};
 ghost use Rattle.pb_engine.specs.Table.{AreLimits};
 ghost use Rattle.pb_engine.specs.Tracked.{tracked_of};
 ghost use Rattle.pb_engine.specs.Index.{IsPartOf, occurrences_of, total_for};
 ghost use Rattle.pb_engine.specs.Trail.{value_on, reachable, weight_of};
 ghost use Rattle.pb_engine.specs.Soundness.{IsProperTrail};
+ghost use Rattle.pb_engine.specs.Propagation.{IsBrokenAt};
 
+use crate::count::Count;
 use crate::occurrences::{Occurrence, Part, UnitOccurrence};
 use crate::rows::Limits;
 use crate::tables::Tables;
+use crate::tally::Tally;
 use pb_inst::{Lit, Magnitude, Memory};
 use pb_normal::{Normal, PositiveTerm};
 use std::alloc::Global;
@@ -20,14 +23,16 @@ use std::marker::Model;
 
 /// A trail over the variables of rows that are lent, with the sum that each row can still reach and the value of each variable.
 #[derive(Debug, Drop)]
-pub struct Slacks<'a> {
-    tables: Tables<'a>,
-    sums: Vec<Magnitude>,
+pub struct Slacks<'a, C: Count> {
+    tables: Tables<'a, C>,
+    sums: Vec<Tally<C>>,
     values: Vec<Option<bool>>,
     trail: Vec<Lit>,
+    /// The row at which a conflict was found last. No more than a hint: the view leaves it out.
+    blamed: usize,
 }
 
-impl<'a> Model for Slacks<'a> {
+impl<'a, C: Count> Model for Slacks<'a, C> {
     ghost use Rattle.std.specs.Vec.{vec_capacity};
     ghost use Rattle.pb_engine.specs.Tracked.{Tracked, tracked_of, IsUpToDate};
 
@@ -38,9 +43,9 @@ impl<'a> Model for Slacks<'a> {
     ghost invariant = { λ s. IsUpToDate s.tables s.sums.items s.values.items s.trail.items (vec_capacity s.trail) };
 }
 
-impl<'a> Slacks<'a> {
+impl<'a, C: Count> Slacks<'a, C> {
     /// The empty trail over the rows. It makes room for all variables.
-    pub fn new(alloc: Global, tables: Tables<'a>) -> Result<Slacks<'a>, Memory>
+    pub fn new(alloc: Global, tables: Tables<'a, C>) -> Result<Slacks<'a, C>, Memory>
         ensures { IfOk result (λ s. s ≡ tracked_of tables.entry []) }
     {
         let vars = tables.vars() as usize;
@@ -52,6 +57,7 @@ impl<'a> Slacks<'a> {
             sums,
             values,
             trail,
+            blamed: 0,
         })
     }
 
@@ -81,9 +87,10 @@ impl<'a> Slacks<'a> {
     }
 
     /// What the row can still reach: the coefficients of its literals that are not false.
-    pub fn reachable(&self, row: usize) -> Magnitude
+    pub fn reachable(&self, row: usize) -> Tally<C>
         requires { row < length self.now.rows }
-        ensures { result ≡ reachable self.now.trail (row_at self.now.rows row).terms }
+        ensures value { result ≡ reachable self.now.trail (row_at self.now.rows row).terms }
+        ensures fits { result < 2 ^ 64 }
     {
         self.sums[row]
     }
@@ -111,6 +118,25 @@ impl<'a> Slacks<'a> {
         self.tables.degree(row)
     }
 
+    /// Notes the row at which a conflict was found.
+    pub fn blame(&mut self, row: usize)
+        ensures { self.new ≡ self.old }
+    {
+        self.blamed = row;
+    }
+
+    /// The row that was noted last, where it can't be met under the trail.
+    pub fn broken_row(&self) -> Option<usize>
+        ensures { IfSome result (λ row. IsBrokenAt self.now.rows self.now.trail row) }
+    {
+        let row = self.blamed;
+        if row < self.rows() && self.reachable(row).is_below(Tally::of(self.degree(row))) {
+            Some(row)
+        } else {
+            None
+        }
+    }
+
     /// The number of rows of the form; the clauses come after them.
     pub fn form_rows(&self) -> usize
         ensures value { result ≡ length self.now.form.rows }
@@ -120,7 +146,7 @@ impl<'a> Slacks<'a> {
     }
 
     /// The degree of a row of the form, and at least what it and any coefficient of the row add up to.
-    pub fn limits(&self, row: usize) -> Limits
+    pub fn limits(&self, row: usize) -> Limits<C>
         requires { row < length self.now.form.rows }
         ensures limits { AreLimits (row_at self.now.rows row) result }
         ensures exists { row < length self.now.rows }
@@ -157,7 +183,7 @@ impl<'a> Slacks<'a> {
     }
 
     /// The rows, with the occurrences of their literals.
-    pub fn tables(&self) -> &Tables<'a>
+    pub fn tables(&self) -> &Tables<'a, C>
         ensures { tracked_of result.now self.now.trail ≡ self.now }
     {
         &self.tables
@@ -230,18 +256,18 @@ impl<'a> Slacks<'a> {
 }
 
 /// The sum of all coefficients, for each row.
-fn totals(alloc: Global, tables: &Tables<'_>) -> Result<Vec<Magnitude>, Memory>
+fn totals<C: Count>(alloc: Global, tables: &Tables<'_, C>) -> Result<Vec<Tally<C>>, Memory>
     ensures { IfOk result (λ sums. (length sums.items ≡ length tables.now.rows) × ((r : ℕ) → r < length tables.now.rows → (slice_index sums.items r ≡ reachable [] (row_at tables.now.rows r).terms) × (sum_by (λ t. t.coef) (row_at tables.now.rows r).terms < 2 ^ 64))) }
 {
     let mut sums = Vec::with_capacity(alloc, tables.len())?;
     for row in 0..tables.len() {
-        sums.push(tables.total(row))?;
+        sums.push(Tally::of(tables.total(row)))?;
     }
     Ok(sums)
 }
 
 /// Takes literals off the trail until `length` are left.
-pub fn cut(slacks: &mut Slacks<'_>, length: usize)
+pub fn cut<C: Count>(slacks: &mut Slacks<'_, C>, length: usize)
     ensures { slacks.new ≡ record slacks.old { trail = take length slacks.old.trail } }
 {
     while slacks.len() > length {
@@ -250,7 +276,7 @@ pub fn cut(slacks: &mut Slacks<'_>, length: usize)
 }
 
 /// Takes the coefficients of the occurrences from the sums of their rows.
-fn lower(sums: &mut [Magnitude], occurrences: &[Occurrence])
+fn lower<C: Count>(sums: &mut [Tally<C>], occurrences: &[Occurrence<C>])
     requires rows_exist { All (λ o. o.row < length sums.old) occurrences.now }
     requires enough { (r : ℕ) → r < length sums.old → total_for r occurrences.now ≤ slice_index sums.old r }
     ensures { (r : ℕ) → r < length sums.old → slice_index sums.new r + total_for r occurrences.now ≡ slice_index sums.old r }
@@ -261,18 +287,18 @@ fn lower(sums: &mut [Magnitude], occurrences: &[Occurrence])
 }
 
 /// Takes 1 for each occurrence from the sum of its row.
-fn lower_units(sums: &mut [Magnitude], occurrences: &[UnitOccurrence])
+fn lower_units<C: Count>(sums: &mut [Tally<C>], occurrences: &[UnitOccurrence])
     requires rows_exist { All (λ o. o.row < length sums.old) occurrences.now }
     requires enough { (r : ℕ) → r < length sums.old → total_for r occurrences.now ≤ slice_index sums.old r }
     ensures { (r : ℕ) → r < length sums.old → slice_index sums.new r + total_for r occurrences.now ≡ slice_index sums.old r }
 {
     for occurrence in occurrences {
-        sums[occurrence.row()] -= 1;
+        sums[occurrence.row()] -= Tally::of(1);
     }
 }
 
 /// Adds the coefficients of the occurrences to the sums of their rows.
-fn raise(sums: &mut [Magnitude], occurrences: &[Occurrence])
+fn raise<C: Count>(sums: &mut [Tally<C>], occurrences: &[Occurrence<C>])
     requires rows_exist { All (λ o. o.row < length sums.old) occurrences.now }
     requires fits { (r : ℕ) → r < length sums.old → slice_index sums.old r + total_for r occurrences.now < 2 ^ 64 }
     ensures { (r : ℕ) → r < length sums.old → slice_index sums.new r ≡ slice_index sums.old r + total_for r occurrences.now }
@@ -283,12 +309,12 @@ fn raise(sums: &mut [Magnitude], occurrences: &[Occurrence])
 }
 
 /// Adds 1 for each occurrence to the sum of its row.
-fn raise_units(sums: &mut [Magnitude], occurrences: &[UnitOccurrence])
+fn raise_units<C: Count>(sums: &mut [Tally<C>], occurrences: &[UnitOccurrence])
     requires rows_exist { All (λ o. o.row < length sums.old) occurrences.now }
     requires fits { (r : ℕ) → r < length sums.old → slice_index sums.old r + total_for r occurrences.now < 2 ^ 64 }
     ensures { (r : ℕ) → r < length sums.old → slice_index sums.new r ≡ slice_index sums.old r + total_for r occurrences.now }
 {
     for occurrence in occurrences {
-        sums[occurrence.row()] += 1;
+        sums[occurrence.row()] += Tally::of(1);
     }
 }

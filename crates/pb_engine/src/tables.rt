@@ -2,7 +2,7 @@
 
 ghost use Rattle.std.specs.Prelude.{◌≡◌, ℕ, List, ◌+◌, ◌^◌, ◌<◌, ◌≤◌, [], ◌++◌, length, All, IfOk, slice_index_or, sum_by, sum, map};
 ghost use Rattle.pb_normal.specs.NormalForm.{PositiveRow, IsNormal, HasSmallSums};
-ghost use Rattle.pb_engine.specs.declared.occurrences.Occurrence.{Occurrence as Weighted};
+ghost use Rattle.pb_engine.specs.Occurrences.{Occurrence as Weighted};
 ghost use Rattle.pb_engine.specs.Constraints.{AreRowsOver, row_at, HaveRisingVariables};
 ghost use Rattle.pb_engine.specs.Clauses.{AreClausesOf, clause_row};
 ghost use Rattle.pb_engine.specs.Index.{IsPartOf, occurrences_of, total_for};
@@ -11,8 +11,10 @@ ghost use Rattle.pb_engine.specs.Tables.{rows_of, clauses_of, constraints_of, Ar
 ghost use Rattle.pb_engine.specs.Trail.{reachable, weight_of};
 
 use crate::clauses::Clauses;
+use crate::count::Count;
 use crate::occurrences::{Occurrence, Part, UnitOccurrence};
 use crate::rows::{Limits, Rows};
+use crate::tally::Tally;
 use pb_inst::{Cube, Lit, Magnitude, Memory};
 use pb_normal::{Normal, PositiveTerm};
 use std::alloc::Global;
@@ -27,13 +29,13 @@ pub enum RowTerms<'a> {
 
 /// Rows and clauses that are lent, or that one engine has for itself.
 #[derive(Debug, Drop)]
-enum Source<'a> {
-    Lent(&'a Rows<'a>, &'a Clauses),
-    Own(Rows<'a>, Clauses),
+enum Source<'a, C: Count> {
+    Lent(&'a Rows<'a, C>, &'a Clauses),
+    Own(Rows<'a, C>, Clauses),
 }
 
-impl<'a> Source<'a> {
-    fn rows(&self) -> &Rows<'a>
+impl<'a, C: Count> Source<'a, C> {
+    fn rows(&self) -> &Rows<'a, C>
         ensures { result.now ≡ rows_of self.now }
     {
         match self {
@@ -54,11 +56,11 @@ impl<'a> Source<'a> {
 
 /// The rows of a normal form, and the clauses of cubes numbered on from them.
 #[derive(Debug, Drop)]
-pub struct Tables<'a> {
-    source: Source<'a>,
+pub struct Tables<'a, C: Count> {
+    source: Source<'a, C>,
 }
 
-impl<'a> Model for Tables<'a> {
+impl<'a, C: Count> Model for Tables<'a, C> {
     ghost use Rattle.pb_engine.specs.Constraints.{Constraints};
     ghost use Rattle.pb_engine.specs.Tables.{rows_of, clauses_of, constraints_of, AreBeside};
 
@@ -69,9 +71,9 @@ impl<'a> Model for Tables<'a> {
     ghost invariant = { λ t. AreBeside (rows_of t.source) (clauses_of t.source) };
 }
 
-impl<'a> Tables<'a> {
+impl<'a, C: Count> Tables<'a, C> {
     /// Rows and clauses that were built before.
-    pub fn lent(rows: &'a Rows<'a>, clauses: &'a Clauses) -> Tables<'a>
+    pub fn lent(rows: &'a Rows<'a, C>, clauses: &'a Clauses) -> Tables<'a, C>
         requires beside { AreBeside rows.now clauses.now }
         ensures { result ≡ constraints_of rows.now clauses.now }
     {
@@ -81,7 +83,7 @@ impl<'a> Tables<'a> {
     }
 
     /// The rows of the form, and the clauses of cubes that are to be false.
-    pub fn new(alloc: Global, form: &'a Normal, negated: &[Cube]) -> Result<Tables<'a>, Memory>
+    pub fn new(alloc: Global, form: &'a Normal, negated: &[Cube]) -> Result<Tables<'a, C>, Memory>
         requires variables { All (λ cube. All (λ l. l.var ≤ form.now.vars) cube) negated.now }
         ensures form { IfOk result (λ tables. tables.form ≡ form.now) }
         ensures vars { IfOk result (λ tables. tables.vars ≡ form.now.vars) }
@@ -142,7 +144,7 @@ impl<'a> Tables<'a> {
     }
 
     /// The degree of a row of the form, and at least what it and any coefficient of the row add up to.
-    pub fn limits(&self, row: usize) -> Limits
+    pub fn limits(&self, row: usize) -> Limits<C>
         requires { row < length self.now.form.rows }
         ensures limits { AreLimits (row_at self.now.rows row) result }
         ensures exists { row < length self.now.rows }
@@ -197,7 +199,7 @@ impl<'a> Tables<'a> {
     }
 
     /// The rows of the form in which the literal occurs.
-    pub fn occurrences(&self, lit: Lit) -> &[Occurrence]
+    pub fn occurrences(&self, lit: Lit) -> &[Occurrence<C>]
         requires { lit.var ≤ self.now.vars }
         ensures value { result.now ≡ occurrences_of self.now.occurrences self.now.starts lit }
         ensures rows_exist { All (λ o. o.row < length self.now.rows) result.now }
@@ -208,7 +210,7 @@ impl<'a> Tables<'a> {
     }
 
     /// The objective's coefficient of the literal, 0 where it has none.
-    pub fn cost(&self, lit: Lit) -> Magnitude
+    pub fn cost(&self, lit: Lit) -> Tally<C>
         requires { lit.var ≤ self.now.vars }
         ensures { result ≡ weight_of lit self.now.form.objective }
     {

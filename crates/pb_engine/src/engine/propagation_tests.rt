@@ -3,7 +3,7 @@
 ghost use Rattle.std.specs.Prelude.{◌≡◌, ◌≤◌, true, All};
 
 use crate::engine::tests::{assume, form, lit, propagate, slack, undo_to};
-use crate::{Engine, Step};
+use crate::{Engine, RowTerms, Step};
 use pb_inst::{Cube, Lit, Number};
 use pb_normal::Normal;
 use std::alloc::Global;
@@ -123,4 +123,80 @@ fn the_last_of_a_million_literals_is_forced(rt: HostRuntime) {
     assert_eq!(rt; engine.value(1_000_000), Some(true));
     undo_to(&rt, &mut engine, 999_998);
     assert_eq!(rt; engine.value(1_000_000), None);
+}
+
+/// The literals of the row.
+fn lits_of(rt: &impl Abort, alloc: Global, engine: &Engine<'_>, row: usize) -> Vec<Lit> {
+    assert!(rt; row < engine.slacks.rows());
+    let mut lits = Vec::new(alloc);
+    match engine.row_terms(row) {
+        RowTerms::Weighted(terms) => {
+            for term in terms {
+                lits.push(term.lit).expect(rt, "memory");
+            }
+        }
+        RowTerms::Units(units) => {
+            for lit in units {
+                lits.push(*lit).expect(rt, "memory");
+            }
+        }
+    }
+    lits
+}
+
+/// Two rows, and a clause that conflicts where the first variable is false.
+fn conflicting<'a>(
+    rt: &impl Abort,
+    alloc: Global,
+    form: &'a Normal,
+    cubes: &'a [Cube],
+) -> Engine<'a> {
+    let mut engine = engine(rt, alloc, form, cubes);
+    assert!(rt; assume(rt, &mut engine, -1) == Step::Fixed);
+    assert_eq!(rt; engine.conflict_row(), None);
+    assert!(rt; propagate(rt, &mut engine) == Step::Conflict);
+    engine
+}
+
+/// `x1 or x2`, and `x1 or x3`.
+fn two_rows(rt: &impl Abort, alloc: Global) -> Normal {
+    let rows: &[(&[(Number, i32)], Number)] = &[(&[(1, 1), (1, 2)], 1), (&[(1, 1), (1, 3)], 1)];
+    form(rt, alloc, 3, &[], rows)
+}
+
+#[test]
+fn tells_the_row_of_a_conflict(rt: HostRuntime) {
+    let form = two_rows(&rt, rt.alloc());
+    let cubes = [cube(&rt, rt.alloc(), &[2, 3])];
+    let mut engine = conflicting(&rt, rt.alloc(), &form, &cubes);
+    assert_eq!(rt; engine.conflict_row(), Some(2));
+    undo_to(&rt, &mut engine, 0);
+    assert_eq!(rt; engine.conflict_row(), None);
+}
+
+#[test]
+fn lends_the_terms_of_rows(rt: HostRuntime) {
+    let form = two_rows(&rt, rt.alloc());
+    let cubes = [cube(&rt, rt.alloc(), &[2, 3])];
+    let engine = engine(&rt, rt.alloc(), &form, &cubes);
+    let clause = [lit(&rt, -2), lit(&rt, -3)];
+    assert_eq!(rt;
+        lits_of(&rt, rt.alloc(), &engine, 2).as_slice(),
+        clause.as_slice()
+    );
+    let row = [lit(&rt, 1), lit(&rt, 3)];
+    assert_eq!(rt;
+        lits_of(&rt, rt.alloc(), &engine, 1).as_slice(),
+        row.as_slice()
+    );
+}
+
+#[test]
+fn the_trail_is_read_by_place(rt: HostRuntime) {
+    let form = free(&rt, rt.alloc());
+    let mut engine = engine(&rt, rt.alloc(), &form, &[]);
+    assert!(rt; assume(&rt, &mut engine, 2) == Step::Fixed);
+    assert!(rt; assume(&rt, &mut engine, -1) == Step::Fixed);
+    assert!(rt; engine.trail_len() == 2);
+    assert_eq!(rt; engine.literal(1), lit(&rt, -1));
 }

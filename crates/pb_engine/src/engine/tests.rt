@@ -1,6 +1,6 @@
 //! Worked rows: slacks, what is propagated, conflicts and bounds.
 
-use crate::{Engine, Step};
+use crate::{Count, Engine, Step};
 use pb_inst::{InstanceBuilder, Lit, Magnitude, Number, Relation, Term};
 use pb_normal::{Normal, normalise};
 use std::alloc::Global;
@@ -45,15 +45,16 @@ pub fn form(
 }
 
 /// The slack of a row by its counter, or none where it is negative.
-pub fn slack(rt: &impl Abort, engine: &Engine<'_>, row: usize) -> Option<Magnitude> {
+pub fn slack<C: Count>(rt: &impl Abort, engine: &Engine<'_, C>, row: usize) -> Option<Magnitude> {
     assert!(rt; row < engine.slacks.rows());
     engine
         .slacks
         .reachable(row)
+        .number()
         .checked_sub(engine.slacks.degree(row))
 }
 
-pub fn assume(rt: &impl Abort, engine: &mut Engine<'_>, number: i32) -> Step {
+pub fn assume<C: Count>(rt: &impl Abort, engine: &mut Engine<'_, C>, number: i32) -> Step {
     let lit = lit(rt, number);
     assert!(rt; lit.var() <= engine.vars());
     assert!(rt; engine.value(lit.var()).is_none());
@@ -61,12 +62,12 @@ pub fn assume(rt: &impl Abort, engine: &mut Engine<'_>, number: i32) -> Step {
     engine.assume(lit)
 }
 
-pub fn propagate(rt: &impl Abort, engine: &mut Engine<'_>) -> Step {
+pub fn propagate<C: Count>(rt: &impl Abort, engine: &mut Engine<'_, C>) -> Step {
     assert!(rt; !engine.conflict());
     engine.propagate()
 }
 
-pub fn undo_to(rt: &impl Abort, engine: &mut Engine<'_>, level: u32) {
+pub fn undo_to<C: Count>(rt: &impl Abort, engine: &mut Engine<'_, C>, level: u32) {
     assert!(rt; level <= engine.level());
     engine.undo_to(level);
 }
@@ -77,7 +78,7 @@ const THREE: &[(Number, i32)] = &[(3, 1), (2, 2), (1, 3)];
 #[test]
 fn forces_what_is_greater_than_the_slack(rt: HostRuntime) {
     let form = form(&rt, rt.alloc(), 3, &[], &[(THREE, 4)]);
-    let mut engine = Engine::new(rt.alloc(), &form, &[]).expect(&rt, "memory");
+    let mut engine: Engine<'_> = Engine::new(rt.alloc(), &form, &[]).expect(&rt, "memory");
     assert_eq!(rt; slack(&rt, &engine, 0), Some(2));
     assert!(rt; propagate(&rt, &mut engine) == Step::Fixed);
     assert_eq!(rt; engine.value(1), Some(true));
@@ -99,7 +100,7 @@ fn forces_what_is_greater_than_the_slack(rt: HostRuntime) {
 #[test]
 fn puts_a_slack_back_after_undo(rt: HostRuntime) {
     let form = form(&rt, rt.alloc(), 3, &[], &[(THREE, 4)]);
-    let mut engine = Engine::new(rt.alloc(), &form, &[]).expect(&rt, "memory");
+    let mut engine: Engine<'_> = Engine::new(rt.alloc(), &form, &[]).expect(&rt, "memory");
     assert!(rt; propagate(&rt, &mut engine) == Step::Fixed);
     assert!(rt; assume(&rt, &mut engine, 2) == Step::Fixed);
     assert!(rt; propagate(&rt, &mut engine) == Step::Fixed);
@@ -116,7 +117,7 @@ fn puts_a_slack_back_after_undo(rt: HostRuntime) {
 fn a_conflict_leaves_no_slack_behind(rt: HostRuntime) {
     let rows: &[(&[(Number, i32)], Number)] = &[(&[(1, 1), (1, 2)], 1), (&[(1, 1), (1, -2)], 1)];
     let form = form(&rt, rt.alloc(), 2, &[], rows);
-    let mut engine = Engine::new(rt.alloc(), &form, &[]).expect(&rt, "memory");
+    let mut engine: Engine<'_> = Engine::new(rt.alloc(), &form, &[]).expect(&rt, "memory");
     assert!(rt; propagate(&rt, &mut engine) == Step::Fixed);
     assert!(rt; assume(&rt, &mut engine, -1) == Step::Fixed);
     assert!(rt; propagate(&rt, &mut engine) == Step::Conflict);
@@ -135,10 +136,10 @@ fn rows_that_cannot_be_met_are_conflicts(rt: HostRuntime) {
     let two: &[(Number, i32)] = &[(2, 1), (2, 2)];
     let rows: &[(&[(Number, i32)], Number)] = &[(two, 3), (&[(-2, 1), (-2, 2)], -3)];
     let form_of_two = form(&rt, rt.alloc(), 2, &[], rows);
-    let mut engine = Engine::new(rt.alloc(), &form_of_two, &[]).expect(&rt, "memory");
+    let mut engine: Engine<'_> = Engine::new(rt.alloc(), &form_of_two, &[]).expect(&rt, "memory");
     assert!(rt; propagate(&rt, &mut engine) == Step::Conflict);
     let empty = form(&rt, rt.alloc(), 1, &[], &[(&[(0, 1)], 1)]);
-    let mut engine = Engine::new(rt.alloc(), &empty, &[]).expect(&rt, "memory");
+    let mut engine: Engine<'_> = Engine::new(rt.alloc(), &empty, &[]).expect(&rt, "memory");
     assert!(rt; propagate(&rt, &mut engine) == Step::Conflict);
 }
 
@@ -146,7 +147,7 @@ fn rows_that_cannot_be_met_are_conflicts(rt: HostRuntime) {
 fn bounds_by_what_is_paid(rt: HostRuntime) {
     let rows: &[(&[(Number, i32)], Number)] = &[(&[(1, 1), (1, 2)], 1)];
     let form = form(&rt, rt.alloc(), 2, &[(-2, 1), (3, 2)], rows);
-    let mut engine = Engine::new(rt.alloc(), &form, &[]).expect(&rt, "memory");
+    let mut engine: Engine<'_> = Engine::new(rt.alloc(), &form, &[]).expect(&rt, "memory");
     assert_eq!(rt; engine.bound(), -2);
     assert!(rt; assume(&rt, &mut engine, -1) == Step::Fixed);
     assert!(rt; propagate(&rt, &mut engine) == Step::Fixed);
@@ -162,7 +163,7 @@ fn two_rows_that_share(rt: &impl Abort, alloc: Global) -> Normal {
 #[test]
 fn counts_only_one_of_two_rows_that_share_a_variable(rt: HostRuntime) {
     let form = two_rows_that_share(&rt, rt.alloc());
-    let mut engine = Engine::new(rt.alloc(), &form, &[]).expect(&rt, "memory");
+    let mut engine: Engine<'_> = Engine::new(rt.alloc(), &form, &[]).expect(&rt, "memory");
     assert_eq!(rt; engine.bound(), 2);
     assert!(rt; assume(&rt, &mut engine, 1) == Step::Fixed);
     assert_eq!(rt; engine.bound(), 3);
@@ -180,7 +181,7 @@ fn adds_up_rows_that_share_no_variable(rt: HostRuntime) {
     let rows: &[(&[(Number, i32)], Number)] = &[(&[(1, 1), (1, 2)], 1), (&[(1, 3), (1, 4)], 1)];
     let costs: &[(Number, i32)] = &[(2, 1), (3, 2), (4, 3), (5, 4)];
     let form = form(&rt, rt.alloc(), 4, costs, rows);
-    let mut engine = Engine::new(rt.alloc(), &form, &[]).expect(&rt, "memory");
+    let mut engine: Engine<'_> = Engine::new(rt.alloc(), &form, &[]).expect(&rt, "memory");
     assert_eq!(rt; engine.bound(), 6);
     assert_eq!(rt; engine.bound(), 6);
 }
@@ -189,7 +190,7 @@ fn adds_up_rows_that_share_no_variable(rt: HostRuntime) {
 fn counts_as_many_literals_as_the_need_takes(rt: HostRuntime) {
     let rows: &[(&[(Number, i32)], Number)] = &[(&[(1, 1), (1, 2), (1, 3)], 2)];
     let form = form(&rt, rt.alloc(), 3, &[(1, 1), (2, 2), (4, 3)], rows);
-    let mut engine = Engine::new(rt.alloc(), &form, &[]).expect(&rt, "memory");
+    let mut engine: Engine<'_> = Engine::new(rt.alloc(), &form, &[]).expect(&rt, "memory");
     assert_eq!(rt; engine.bound(), 2);
 }
 
@@ -198,6 +199,6 @@ fn bounds_by_great_costs(rt: HostRuntime) {
     let rows: &[(&[(Number, i32)], Number)] = &[(&[(1, 1), (1, 2)], 2)];
     let costs: &[(Number, i32)] = &[(4611686018427387903, 1), (4611686018427387904, 2)];
     let form = form(&rt, rt.alloc(), 2, costs, rows);
-    let mut engine = Engine::new(rt.alloc(), &form, &[]).expect(&rt, "memory");
+    let mut engine: Engine<'_> = Engine::new(rt.alloc(), &form, &[]).expect(&rt, "memory");
     assert_eq!(rt; engine.bound(), 9223372036854775806);
 }

@@ -10,7 +10,7 @@ abbrev IsFromOne : Literal → Type 0
 IsFromOne m = 1 ≤ m.var
 
 pub loop-i-preserved : goal.loop-i-preserved
-loop-i-preserved c = (
+loop-i-preserved g c = (
   clause_entries_from-next c.args.first c.args.clauses.now c.loop-i.i c.list.result.now c.loop-i.entries.items _ (omega arith) c.list.ensures c.loop-i.invariant.0 c.in_ok-push_clause.ensures.entries,
   λ k h. elim (cases_lt k c.loop-i.i) [
     | inl early ↦ c.loop-i.invariant.1 k early
@@ -22,9 +22,9 @@ loop-i-preserved c = (
 )
 
 pub returns-clause-entries : goal.returns-clause-entries
-returns-clause-entries c =
+returns-clause-entries g c =
     let all : c.loop-i.i ≡ length c.args.clauses.now = omega (arith, c.len-i-end.ensures.value) in
     c.loop-i.invariant.0 ∙ ap (entries_from c.args.first (map clause_row c.args.clauses.now)) all
 
 pub returns-clause-from_one : goal.returns-clause-from_one
-returns-clause-from_one c = λ k h. c.loop-i.invariant.1 k (omega (arith, c.len-i-end.ensures.value))
+returns-clause-from_one g c = λ k h. c.loop-i.invariant.1 k (omega (arith, c.len-i-end.ensures.value))

@@ -2,7 +2,7 @@ use Rattle.std.proofs.Common.{◌≡◌, ℕ, ◌++◌, ◌∷◌, [], List, tak
 use Rattle.std.proofs.lemmas.List.{append-nil, append_assoc, take_more}
 use Rattle.std.proofs.lemmas.List.Elements.{All-push}
 use Rattle.pb_inst.specs.Literal.{Literal}
-use Rattle.pb_engine.specs.declared.occurrences.Entry.{Entry}
+use Rattle.pb_engine.specs.Occurrences.{Entry}
 use Rattle.pb_engine.specs.Index.{entries_of_row, literal_place}
 use Rattle.pb_engine.specs.Clauses.{clause_row}
 use Rattle.pb_engine.proofs.EntryLemmas.{entries_of_row-nil}
@@ -13,16 +13,16 @@ abbrev IsFromOne : Literal → Type 0
 IsFromOne m = 1 ≤ m.var
 
 pub loop-lit-init : goal.loop-lit-init
-loop-lit-init c = (sym (ap (λ (es : List Entry). c.args.entries.now.items ++ es) (entries_of_row-nil c.args.row) ∙ append-nil c.args.entries.now.items), λ k d h. absurd (omega arith))
+loop-lit-init g c = (sym (ap (λ (es : List Entry). c.args.entries.now.items ++ es) (entries_of_row-nil c.args.row) ∙ append-nil c.args.entries.now.items), λ k d h. absurd (omega arith))
 
 pub loop-lit-preserved : goal.loop-lit-preserved
-loop-lit-preserved c =
+loop-lit-preserved g c =
     let l = c.lit-item.result in
     let i = c.loop-lit.lit-index in
     let old = c.args.entries.now.items in
     let front = entries_of_row c.args.row (clause_row (take i c.args.lits.now)).terms in
     let at : Literal → Entry = λ m. record { place = literal_place m; occurrence = record { row = c.args.row; coef = 1 } } in
-    let one : ◌≡◌ {A = Entry} (record { place = c.place_of-place.result; occurrence = record { row = c.args.row; coef = 1 } }) (at l) = ap (λ (p : ℕ). let e : Entry = record { place = p; occurrence = record { row = c.args.row; coef = 1 } } in e) c.place_of-place.ensures.place in
+    let one : ◌≡◌ {A = Entry} (record { place = c.place_of-place.result; occurrence = record { row = c.args.row; coef = c.of-coef.result } }) (at l) = ap (λ (p : ℕ). let e : Entry = record { place = p; occurrence = record { row = c.args.row; coef = c.of-coef.result } } in e) c.place_of-place.ensures.place ∙ ap (λ (k : ℕ). let e : Entry = record { place = literal_place l; occurrence = record { row = c.args.row; coef = k } } in e) c.of-coef.ensures in
     let same : at l ≡ at (get_or c.args.lits.now i l) = ap at c.lit-item.is in (
       c.in_ok-push.ensures.items
           ∙ (ap (λ (e : Entry). c.loop-lit.entries.items ++ e ∷ []) (one ∙ same)

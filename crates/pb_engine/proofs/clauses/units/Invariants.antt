@@ -3,4 +3,4 @@ use Rattle.pb_engine.specs.Index.{unit_occurrence}
 use Rattle.pb_engine.proofs.clauses.units.Given as goal
 
 abbrev pub invariant-loop-occurrence : goal.invariant-loop-occurrence
-invariant-loop-occurrence l = l.units.items ≡ map unit_occurrence (take l.occurrence-index l.occurrences)
+invariant-loop-occurrence g l = l.units.items ≡ map unit_occurrence (take l.occurrence-index l.occurrences)

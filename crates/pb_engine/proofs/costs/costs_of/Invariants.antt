@@ -3,4 +3,4 @@ use Rattle.std.proofs.Common.{take}
 use Rattle.pb_engine.proofs.costs.costs_of.Given as goal
 
 abbrev pub invariant-loop-term : goal.invariant-loop-term
-invariant-loop-term l = AreCosts l.vars (take l.term-index l.objective) l.costs.items
+invariant-loop-term g l = AreCosts l.vars (take l.term-index l.objective) l.costs.items

@@ -14,7 +14,7 @@ use Rattle.pb_engine.proofs.ExtrasLemmas.{extras-next, extras-step, extras-end, 
 use Rattle.pb_engine.proofs.extras.extras.Goals as goal
 
 pub loop-row-init : goal.loop-row-init
-loop-row-init c =
+loop-row-init g c =
     let s = c.args.slacks.now in
     let same : c.clear.new.self ≡ replicate s.vars false = c.clear.ensures ∙ ap (λ (n : ℕ). replicate n false) c.requires.marks in
     record {
@@ -23,8 +23,8 @@ loop-row-init c =
       within = omega arith;
     }
 
-pub pick-sum-requires-clause-row : goal.pick-sum-requires-clause-row
-pick-sum-requires-clause-row c =
+pub pick-requires-clause-row : goal.pick-requires-clause-row
+pick-requires-clause-row g c =
     let s = c.args.slacks.now in
     let objective = s.form.objective in
     let needs = c.args.needs.now in
@@ -36,8 +36,8 @@ pick-sum-requires-clause-row c =
     let marks = c.loop-row.marks in
     omega arith
 
-pub overflow_add-sum : goal.overflow_add-sum
-overflow_add-sum c =
+pub add_assign-requires : goal.add_assign-requires
+add_assign-requires g c =
     let s = c.args.slacks.now in
     let objective = s.form.objective in
     let needs = c.args.needs.now in
@@ -48,7 +48,7 @@ overflow_add-sum c =
     let row = c.in-Some.row in
     let marks = c.loop-row.marks in
     let passed = extras-next objective s.trail marks s.rows c.loop-row.from row there.0 (omega arith) (none-needed s.form s.rows s.trail needs.paid needs.lacks.items needs.wanting c.loop-row.from row counters (omega arith) there.2) in
-    let step = extras-step objective s.trail marks c.pick-sum.new.marks s.rows row c.pick-sum.result (omega arith) c.pick-sum.ensures.extra c.pick-sum.ensures.marks in
+    let step = extras-step objective s.trail marks c.pick.new.marks s.rows row c.pick.result (omega arith) c.pick.ensures.extra c.pick.ensures.marks in
     let P : Tracked → Type 0 = λ k. ArePickable k.form k.rows × (k.vars ≡ k.form.vars) × (sum_by (λ (t : PositiveTerm). t.coef) k.form.objective ≤ SUM_BOUND) in
     let tables = c.tables.result.now in
     let facts : P s = subst P c.tables.ensures (pickable tables.form tables.vars tables.rows c.vars-vars.ensures.normal c.vars-vars.ensures.form c.vars-vars.ensures.rising c.vars-vars.ensures.rows, c.vars-vars.ensures.form, c.vars-vars.ensures.normal.limits.coefficients) in
@@ -56,7 +56,7 @@ overflow_add-sum c =
     omega (arith, c.loop-row.invariant.left, extras_in_total s.form s.rows s.trail facts.0, facts.2)
 
 pub overflow_add-from : goal.overflow_add-from
-overflow_add-from c =
+overflow_add-from g c =
     let s = c.args.slacks.now in
     let objective = s.form.objective in
     let needs = c.args.needs.now in
@@ -69,7 +69,7 @@ overflow_add-from c =
     omega (arith, c.args.needs.now.lacks.small, c.args.needs.now.lacks.ok.0, counters.count)
 
 pub loop-row-smaller : goal.loop-row-smaller
-loop-row-smaller c =
+loop-row-smaller g c =
     let s = c.args.slacks.now in
     let objective = s.form.objective in
     let needs = c.args.needs.now in
@@ -82,7 +82,7 @@ loop-row-smaller c =
     omega arith
 
 pub loop-row-preserved : goal.loop-row-preserved
-loop-row-preserved c =
+loop-row-preserved g c =
     let s = c.args.slacks.now in
     let objective = s.form.objective in
     let needs = c.args.needs.now in
@@ -93,8 +93,8 @@ loop-row-preserved c =
     let row = c.in-Some.row in
     let marks = c.loop-row.marks in
     let passed = extras-next objective s.trail marks s.rows c.loop-row.from row there.0 (omega arith) (none-needed s.form s.rows s.trail needs.paid needs.lacks.items needs.wanting c.loop-row.from row counters (omega arith) there.2) in
-    let step = extras-step objective s.trail marks c.pick-sum.new.marks s.rows row c.pick-sum.result (omega arith) c.pick-sum.ensures.extra c.pick-sum.ensures.marks in
-    let long : length c.pick-sum.new.marks ≡ length marks = ap (λ (ms : List Bool). length ms) c.pick-sum.ensures.marks ∙ by_case (is_picked objective s.trail marks (row_at s.rows row)) s.trail marks (row_at s.rows row).terms in
+    let step = extras-step objective s.trail marks c.pick.new.marks s.rows row c.pick.result (omega arith) c.pick.ensures.extra c.pick.ensures.marks in
+    let long : length c.pick.new.marks ≡ length marks = ap (λ (ms : List Bool). length ms) c.pick.ensures.marks ∙ by_case (is_picked objective s.trail marks (row_at s.rows row)) s.trail marks (row_at s.rows row).terms in
     record {
       left = omega (arith, c.loop-row.invariant.left);
       count = long ∙ c.loop-row.invariant.count;
@@ -106,7 +106,7 @@ loop-row-preserved c =
     by_case false trail marks terms = refl
 
 pub returns-clause-extras : goal.returns-clause-extras
-returns-clause-extras c =
+returns-clause-extras g c =
     let s = c.args.slacks.now in
     let objective = s.form.objective in
     let needs = c.args.needs.now in

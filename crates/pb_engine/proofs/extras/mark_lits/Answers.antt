@@ -7,10 +7,10 @@ use Rattle.pb_engine.proofs.OfferLemmas.{marked_by-none, marked_by-next}
 use Rattle.pb_engine.proofs.extras.mark_lits.Goals as goal
 
 pub loop-lit-init : goal.loop-lit-init
-loop-lit-init c = marked_by-none c.args.slacks.now.trail c.args.marks.now (map unit_term c.args.lits.now)
+loop-lit-init g c = marked_by-none c.args.slacks.now.trail c.args.marks.now (map unit_term c.args.lits.now)
 
 pub mark_free-requires-clause-variable : goal.mark_free-requires-clause-variable
-mark_free-requires-clause-variable c =
+mark_free-requires-clause-variable g c =
     let lits = c.args.lits.now in
     let count = length-map lits unit_term in
     let within : c.loop-lit.lit-index < length (map unit_term c.args.lits.now) = omega (arith, c.loop-lit-test.true) in
@@ -18,10 +18,10 @@ mark_free-requires-clause-variable c =
     subst (λ (u : PositiveTerm). (1 ≤ u.lit.var) × (u.lit.var ≤ c.args.slacks.now.vars)) (sym read) (c.requires.variables c.loop-lit.lit-index (unit_term c.lit-item.result) within)
 
 pub mark_free-requires-clause-marks : goal.mark_free-requires-clause-marks
-mark_free-requires-clause-marks c = ap (λ (ms : List Bool). length ms) c.loop-lit.invariant ∙ (length-marked_by c.args.slacks.now.trail (take c.loop-lit.lit-index (map unit_term c.args.lits.now)) c.args.marks.now ∙ c.requires.marks)
+mark_free-requires-clause-marks g c = ap (λ (ms : List Bool). length ms) c.loop-lit.invariant ∙ (length-marked_by c.args.slacks.now.trail (take c.loop-lit.lit-index (map unit_term c.args.lits.now)) c.args.marks.now ∙ c.requires.marks)
 
 pub loop-lit-preserved : goal.loop-lit-preserved
-loop-lit-preserved c =
+loop-lit-preserved g c =
     let lits = c.args.lits.now in
     let count = length-map lits unit_term in
     let within : c.loop-lit.lit-index < length (map unit_term c.args.lits.now) = omega (arith, c.loop-lit-test.true) in

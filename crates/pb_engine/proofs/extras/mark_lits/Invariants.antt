@@ -4,4 +4,4 @@ use Rattle.pb_engine.specs.DisjointRows.{marked_by}
 use Rattle.pb_engine.proofs.extras.mark_lits.Given as goal
 
 abbrev pub invariant-loop-lit : goal.invariant-loop-lit
-invariant-loop-lit l = l.marks ≡ marked_by l.slacks.trail l.initial.marks (take l.lit-index (map unit_term l.lits))
+invariant-loop-lit g l = l.marks ≡ marked_by l.slacks.trail l.initial.marks (take l.lit-index (map unit_term l.lits))

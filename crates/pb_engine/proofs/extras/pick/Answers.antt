@@ -3,19 +3,19 @@ use Rattle.std.proofs.lemmas.List.{take_all}
 use Rattle.pb_inst.specs.declared.TheConstants.{SUM_BOUND}
 use Rattle.pb_inst.specs.Literal.{Literal}
 use Rattle.pb_normal.specs.declared.terms.PositiveTerm.{PositiveTerm}
-use Rattle.pb_engine.specs.declared.extras.Offer.{Offer}
 use Rattle.pb_engine.specs.Constraints.{row_at, AreRowsOver, HaveRisingVariables}
 use Rattle.pb_engine.specs.DisjointRows.{need, extra, meets_marks, marked_by}
 use Rattle.pb_engine.specs.Needs.{IsLackOf}
-use Rattle.pb_engine.specs.Offers.{offer_of, extra_in}
+use Rattle.pb_engine.specs.Offers.{Offer, offer_of, extra_in}
 use Rattle.pb_engine.specs.Tables.{terms_in}
 use Rattle.pb_engine.specs.Tracked.{Tracked}
 use Rattle.pb_engine.proofs.DisjointLemmas.{AreWithin}
+use Rattle.pb_engine.proofs.TallyLemmas.{is_zero-true, is_zero-false}
 use Rattle.pb_engine.proofs.OfferLemmas.{need-is, extra-is, extra-within, some-greatest, not_picked, is-picked}
 use Rattle.pb_engine.proofs.extras.pick.Goals as goal
 
 pub extra-extra-requires-clause-positive : goal.extra-extra-requires-clause-positive
-extra-extra-requires-clause-positive c = λ some reach.
+extra-extra-requires-clause-positive g c = λ some reach.
     let s = c.args.slacks.now in
     let objective = s.form.objective in
     let row = row_at s.rows c.args.row in
@@ -33,7 +33,7 @@ extra-extra-requires-clause-positive c = λ some reach.
     omega (arith, some-greatest objective s.trail row.terms c.need.result some (omega arith))
 
 pub extra-extra-requires-clause-fits : goal.extra-extra-requires-clause-fits
-extra-extra-requires-clause-fits c =
+extra-extra-requires-clause-fits g c =
     let s = c.args.slacks.now in
     let objective = s.form.objective in
     let row = row_at s.rows c.args.row in
@@ -51,8 +51,8 @@ extra-extra-requires-clause-fits c =
     let within : AreWithin (length c.args.marks.now) row.terms = subst (λ (n : ℕ). AreWithin n row.terms) (sym c.requires.marks) (facts.1 c.args.row (record { terms = []; degree = 0 }) c.requires.row) in
     omega (arith, facts.2, extra-within objective s.trail c.args.marks.now row (facts.0 c.args.row (record { terms = []; degree = 0 }) c.requires.row) within unmet)
 
-pub returns-then-extra-eq0-clause-extra : goal.returns-then-extra-eq0-clause-extra
-returns-then-extra-eq0-clause-extra c =
+pub returns-then-is_zero-clause-extra : goal.returns-then-is_zero-clause-extra
+returns-then-is_zero-clause-extra g c =
     let s = c.args.slacks.now in
     let objective = s.form.objective in
     let row = row_at s.rows c.args.row in
@@ -65,11 +65,11 @@ returns-then-extra-eq0-clause-extra c =
     let offer : c.in-Some.offer ≡ offer_of objective s.trail row.terms = told.0 ∙ ap (offer_of objective s.trail) terms in
     let unmet : meets_marks s.trail c.args.marks.now row.terms ≡ false = ap (meets_marks s.trail c.args.marks.now) (sym terms) ∙ told.1 in
     let value : extra_in c.in-Some.offer c.need.result ≡ extra objective s.trail row = extra-is objective s.trail row c.in-Some.offer c.need.result offer needed in
-    let off = not_picked objective s.trail c.args.marks.now row (sym value ∙ (sym c.extra-extra.ensures ∙ c.if-extra-eq0.true)) in
-    sym (ap (λ (b : Bool). cond b (extra objective s.trail row) 0) off)
+    let off = not_picked objective s.trail c.args.marks.now row (sym value ∙ (sym c.extra-extra.ensures ∙ is_zero-true c.is_zero.result c.extra-extra.result c.is_zero.ensures c.if-is_zero.true)) in
+    c.of-then-is_zero.ensures ∙ sym (ap (λ (b : Bool). cond b (extra objective s.trail row) 0) off)
 
-pub returns-then-extra-eq0-clause-marks : goal.returns-then-extra-eq0-clause-marks
-returns-then-extra-eq0-clause-marks c =
+pub returns-then-is_zero-clause-marks : goal.returns-then-is_zero-clause-marks
+returns-then-is_zero-clause-marks g c =
     let s = c.args.slacks.now in
     let objective = s.form.objective in
     let row = row_at s.rows c.args.row in
@@ -82,11 +82,11 @@ returns-then-extra-eq0-clause-marks c =
     let offer : c.in-Some.offer ≡ offer_of objective s.trail row.terms = told.0 ∙ ap (offer_of objective s.trail) terms in
     let unmet : meets_marks s.trail c.args.marks.now row.terms ≡ false = ap (meets_marks s.trail c.args.marks.now) (sym terms) ∙ told.1 in
     let value : extra_in c.in-Some.offer c.need.result ≡ extra objective s.trail row = extra-is objective s.trail row c.in-Some.offer c.need.result offer needed in
-    let off = not_picked objective s.trail c.args.marks.now row (sym value ∙ (sym c.extra-extra.ensures ∙ c.if-extra-eq0.true)) in
+    let off = not_picked objective s.trail c.args.marks.now row (sym value ∙ (sym c.extra-extra.ensures ∙ is_zero-true c.is_zero.result c.extra-extra.result c.is_zero.ensures c.if-is_zero.true)) in
     sym (ap (λ (b : Bool). cond b (marked_by s.trail c.args.marks.now row.terms) c.args.marks.now) off)
 
-pub returns-else-extra-eq0-clause-extra : goal.returns-else-extra-eq0-clause-extra
-returns-else-extra-eq0-clause-extra c =
+pub returns-else-is_zero-clause-extra : goal.returns-else-is_zero-clause-extra
+returns-else-is_zero-clause-extra g c =
     let s = c.args.slacks.now in
     let objective = s.form.objective in
     let row = row_at s.rows c.args.row in
@@ -99,11 +99,11 @@ returns-else-extra-eq0-clause-extra c =
     let offer : c.in-Some.offer ≡ offer_of objective s.trail row.terms = told.0 ∙ ap (offer_of objective s.trail) terms in
     let unmet : meets_marks s.trail c.args.marks.now row.terms ≡ false = ap (meets_marks s.trail c.args.marks.now) (sym terms) ∙ told.1 in
     let value : extra_in c.in-Some.offer c.need.result ≡ extra objective s.trail row = extra-is objective s.trail row c.in-Some.offer c.need.result offer needed in
-    let on = is-picked objective s.trail c.args.marks.now row (λ none. c.if-extra-eq0.false (c.extra-extra.ensures ∙ (value ∙ none))) unmet in
+    let on = is-picked objective s.trail c.args.marks.now row (λ none. is_zero-false c.is_zero.result c.extra-extra.result c.is_zero.ensures c.if-is_zero.false (c.extra-extra.ensures ∙ (value ∙ none))) unmet in
     c.extra-extra.ensures ∙ (value ∙ sym (ap (λ (b : Bool). cond b (extra objective s.trail row) 0) on))
 
-pub returns-else-extra-eq0-clause-marks : goal.returns-else-extra-eq0-clause-marks
-returns-else-extra-eq0-clause-marks c =
+pub returns-else-is_zero-clause-marks : goal.returns-else-is_zero-clause-marks
+returns-else-is_zero-clause-marks g c =
     let s = c.args.slacks.now in
     let objective = s.form.objective in
     let row = row_at s.rows c.args.row in
@@ -116,5 +116,5 @@ returns-else-extra-eq0-clause-marks c =
     let offer : c.in-Some.offer ≡ offer_of objective s.trail row.terms = told.0 ∙ ap (offer_of objective s.trail) terms in
     let unmet : meets_marks s.trail c.args.marks.now row.terms ≡ false = ap (meets_marks s.trail c.args.marks.now) (sym terms) ∙ told.1 in
     let value : extra_in c.in-Some.offer c.need.result ≡ extra objective s.trail row = extra-is objective s.trail row c.in-Some.offer c.need.result offer needed in
-    let on = is-picked objective s.trail c.args.marks.now row (λ none. c.if-extra-eq0.false (c.extra-extra.ensures ∙ (value ∙ none))) unmet in
+    let on = is-picked objective s.trail c.args.marks.now row (λ none. is_zero-false c.is_zero.result c.extra-extra.result c.is_zero.ensures c.if-is_zero.false (c.extra-extra.ensures ∙ (value ∙ none))) unmet in
     c.mark.ensures ∙ (ap (marked_by s.trail c.args.marks.now) terms ∙ sym (ap (λ (b : Bool). cond b (marked_by s.trail c.args.marks.now row.terms) c.args.marks.now) on))

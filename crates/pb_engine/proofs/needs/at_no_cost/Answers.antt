@@ -7,7 +7,7 @@ use Rattle.pb_engine.specs.Tables.{terms_in}
 use Rattle.pb_engine.proofs.needs.at_no_cost.Goals as goal
 
 pub costless_units-requires : goal.costless_units-requires
-costless_units-requires c = record {
+costless_units-requires g c = record {
   variables = λ k d h.
       (let lits = c.in-Units.lits.now in
       let all = subst (λ (r : RowTerms). All (λ (t : PositiveTerm). t.lit.var ≤ c.args.tables.now.vars) (terms_in r)) c.in-Units.is c.requires.variables in

@@ -3,4 +3,4 @@ use Rattle.pb_engine.specs.DisjointRows.{spare}
 use Rattle.pb_engine.proofs.needs.costless.Given as goal
 
 abbrev pub invariant-loop-term : goal.invariant-loop-term
-invariant-loop-term l = l.sum ≡ spare l.tables.form.objective [] (take l.term-index l.terms)
+invariant-loop-term g l = l.sum ≡ spare l.tables.form.objective [] (take l.term-index l.terms)

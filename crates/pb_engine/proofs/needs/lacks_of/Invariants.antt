@@ -4,7 +4,7 @@ use Rattle.pb_engine.specs.Needs.{IsLackOf}
 use Rattle.pb_engine.proofs.needs.lacks_of.Given as goal
 
 abbrev pub invariant-loop-row : goal.invariant-loop-row
-invariant-loop-row l = record {
+invariant-loop-row g l = record {
   count : length l.lacks.items ≡ l.row;
   each : (r : ℕ) → r < l.row → IsLackOf l.tables.form.objective [] (row_at l.tables.rows r) (get_or l.lacks.items r 0);
 }

@@ -4,7 +4,7 @@ use Rattle.pb_engine.specs.Needs.{wants}
 use Rattle.pb_engine.proofs.needs.lower_units.Given as goal
 
 abbrev pub invariant-loop-occurrence : goal.invariant-loop-occurrence
-invariant-loop-occurrence l = record {
+invariant-loop-occurrence g l = record {
   lowered : (r : ℕ) → r < length l.lacks → get_or l.lacks r 0 + total_for r (take l.occurrence-index l.occurrences) ≡ get_or l.initial.lacks r 0;
   wanting : l.wanting ≡ wants l.lacks;
 }

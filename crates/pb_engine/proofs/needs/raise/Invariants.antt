@@ -4,7 +4,7 @@ use Rattle.pb_engine.specs.Needs.{wants}
 use Rattle.pb_engine.proofs.needs.raise.Given as goal
 
 abbrev pub invariant-loop-occurrence : goal.invariant-loop-occurrence
-invariant-loop-occurrence l = record {
+invariant-loop-occurrence g l = record {
   raised : (r : ℕ) → r < length l.lacks → get_or l.lacks r 0 ≡ get_or l.initial.lacks r 0 + total_for r (take l.occurrence-index l.occurrences);
   wanting : l.wanting ≡ wants l.lacks;
 }

@@ -10,10 +10,10 @@ use Rattle.pb_engine.proofs.propagation.add_last.Goals as goal
 use Rattle.pb_engine.proofs.propagation.add_last.Goals.{then-is_none, else-is_none}
 
 pub loop-i-init : goal.loop-i-init
-loop-i-init c = looked_at_none c.args.slacks.now c.args.row 0
+loop-i-init g c = looked_at_none c.args.slacks.now c.args.row 0
 
 pub loop-i-preserved : goal.loop-i-preserved
-loop-i-preserved c =
+loop-i-preserved g c =
     let before = c.args.slacks.now in
     let now = c.loop-i.slacks in
     let lit = c.index-clause-i.result in
@@ -36,7 +36,7 @@ loop-i-preserved c =
     ]
 
 pub returns-clause-settled : goal.returns-clause-settled
-returns-clause-settled c = λ head low.
+returns-clause-settled g c = λ head low.
     let row = row_at c.args.slacks.now.rows c.args.row in
     let degree : row.degree ≡ 1 = ap (λ (p : PositiveRow). p.degree) c.clause-i-end.ensures.value in
     let all : c.loop-i.i ≡ length row.terms = omega (arith, clause_width row c.clause-i-end.result.now c.clause-i-end.ensures.value) in

@@ -2,7 +2,7 @@ use Rattle.std.proofs.Common.{◌≡◌, ℕ, ◌+◌, ◌<◌, ◌≤◌, [], L
 use Rattle.std.proofs.lemmas.Bool.{cases_eq}
 use Rattle.std.proofs.lemmas.List.{take_all}
 use Rattle.pb_inst.specs.Literal.{Literal}
-use Rattle.pb_engine.specs.declared.occurrences.Occurrence.{Occurrence}
+use Rattle.pb_engine.specs.Occurrences.{Occurrence}
 use Rattle.pb_engine.specs.declared.occurrences.Part.{Part}
 use Rattle.pb_engine.specs.Index.{IsPartOf, occurrences_of, total_for}
 use Rattle.pb_engine.specs.Tracked.{Tracked}
@@ -11,7 +11,7 @@ use Rattle.pb_engine.proofs.Looking.{looked_through_none, looked_through_forced,
 use Rattle.pb_engine.proofs.propagation.look_at_clauses.Goals as goal
 
 pub loop-i-init : goal.loop-i-init
-loop-i-init c = looked_through_none c.args.slacks.now (λ r. 0 < total_for r []) (λ r h. omega (arith, total_for-nil r))
+loop-i-init g c = looked_through_none c.args.slacks.now (λ r. 0 < total_for r []) (λ r h. omega (arith, total_for-nil r))
 
 -- the row that is read is that of the literal's occurrence i
 read_row : (before now : Tracked) (l : Literal) (part : Part) (i row : ℕ) → now ≡ record before { trail = now.trail } → IsPartOf before.units before.unit_starts l part → i < part.len → ((d : Occurrence) → row ≡ (get_or now.units (part.start + i) d).row) → row ≡ (get_or (occurrences_of before.units before.unit_starts l) i none).row
@@ -19,7 +19,7 @@ read_row before now l part i row stays is h read =
     read none ∙ (ap (λ (k : Tracked). (get_or k.units (part.start + i) none).row) stays ∙ ap (λ (o : Occurrence). o.row) (is.each i none h))
 
 pub look_at-requires : goal.look_at-requires
-look_at-requires c =
+look_at-requires g c =
     let before = c.args.slacks.now in
     let part = c.unit_part-part in
     let read = read_row before c.loop-i.slacks c.args.lit part.result c.loop-i.i c.row_of_unit-row.result c.loop-i.invariant.same_rows part.ensures.part (omega arith) c.row_of_unit-row.ensures in
@@ -31,10 +31,10 @@ abbrev Done : (before : Tracked) (l : Literal) → ℕ → ℕ → Type 0
 Done before l i r = 0 < total_for r (take i (occurrences_of before.units before.unit_starts l))
 
 pub returns-in-Conflict-clause-forced : goal.returns-in-Conflict-clause-forced
-returns-in-Conflict-clause-forced c = (looked_through_forced c.args.slacks.now c.loop-i.slacks c.look_at.new.slacks (Done c.args.slacks.now c.args.lit c.loop-i.i) c.loop-i.invariant c.in-Conflict.ensures.same_rows c.in-Conflict.ensures.forced).forced
+returns-in-Conflict-clause-forced g c = (looked_through_forced c.args.slacks.now c.loop-i.slacks c.look_at.new.slacks (Done c.args.slacks.now c.args.lit c.loop-i.i) c.loop-i.invariant c.in-Conflict.ensures.same_rows c.in-Conflict.ensures.forced).forced
 
 pub loop-i-preserved : goal.loop-i-preserved
-loop-i-preserved c =
+loop-i-preserved g c =
     let before = c.args.slacks.now in
     let now = c.loop-i.slacks in
     let i = c.loop-i.i in
@@ -50,7 +50,7 @@ loop-i-preserved c =
     ])
 
 pub returns-clause-settled : goal.returns-clause-settled
-returns-clause-settled c = λ fixed r head exists occurs low.
+returns-clause-settled g c = λ fixed r head exists occurs low.
     let before = c.args.slacks.now in
     let os = occurrences_of before.units before.unit_starts c.args.lit in
     let long : length os ≤ c.loop-i.i = omega (arith, c.unit_part-part.ensures.part.count) in

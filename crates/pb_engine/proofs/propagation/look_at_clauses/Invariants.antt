@@ -4,4 +4,4 @@ use Rattle.pb_engine.proofs.Looking.{IsLookedThrough}
 use Rattle.pb_engine.proofs.propagation.look_at_clauses.Given as goal
 
 abbrev pub invariant-loop-i : goal.invariant-loop-i
-invariant-loop-i l = IsLookedThrough l.initial.slacks l.slacks (λ r. 0 < total_for r (take l.i (occurrences_of l.initial.slacks.units l.initial.slacks.unit_starts l.fn.lit)))
+invariant-loop-i g l = IsLookedThrough l.initial.slacks l.slacks (λ r. 0 < total_for r (take l.i (occurrences_of l.initial.slacks.units l.initial.slacks.unit_starts l.fn.lit)))

@@ -4,4 +4,4 @@ use Rattle.pb_engine.proofs.Looking.{IsLookedThrough}
 use Rattle.pb_engine.proofs.propagation.look_at_form.Given as goal
 
 abbrev pub invariant-loop-i : goal.invariant-loop-i
-invariant-loop-i l = IsLookedThrough l.initial.slacks l.slacks (λ r. 0 < total_for r (take l.i (occurrences_of l.initial.slacks.occurrences l.initial.slacks.starts l.fn.lit)))
+invariant-loop-i g l = IsLookedThrough l.initial.slacks l.slacks (λ r. 0 < total_for r (take l.i (occurrences_of l.initial.slacks.occurrences l.initial.slacks.starts l.fn.lit)))

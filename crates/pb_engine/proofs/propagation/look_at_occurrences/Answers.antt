@@ -9,7 +9,7 @@ use Rattle.pb_engine.proofs.CompletionLemmas.{AddsForced-trans, length-AddsForce
 use Rattle.pb_engine.proofs.propagation.look_at_occurrences.Goals as goal
 
 pub returns-clause-forced : goal.returns-clause-forced
-returns-clause-forced c =
+returns-clause-forced g c =
     let before = c.args.slacks.now in
     let middle = c.look_at_form.new.slacks in
     let new = c.look_at_clauses.new.slacks in
@@ -18,7 +18,7 @@ returns-clause-forced c =
     (subst (λ (rs : List PositiveRow). AddsForced rs middle.trail new.trail) rows c.look_at_clauses.ensures.forced)
 
 pub returns-clause-settled : goal.returns-clause-settled
-returns-clause-settled c = λ fixed r head exists occurs low.
+returns-clause-settled g c = λ fixed r head exists occurs low.
     let before = c.args.slacks.now in
     let middle = c.look_at_form.new.slacks in
     let new = c.look_at_clauses.new.slacks in

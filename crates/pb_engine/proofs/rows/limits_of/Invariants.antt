@@ -2,4 +2,4 @@ use Rattle.pb_engine.specs.Table.{AreLimitsOf}
 use Rattle.pb_engine.proofs.rows.limits_of.Given as goal
 
 abbrev pub invariant-loop-row : goal.invariant-loop-row
-invariant-loop-row l = AreLimitsOf l.form.rows l.row l.limits.items
+invariant-loop-row g l = AreLimitsOf l.form.rows l.row l.limits.items

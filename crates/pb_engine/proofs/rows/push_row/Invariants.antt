@@ -3,4 +3,4 @@ use Rattle.pb_engine.specs.Index.{entries_of_row}
 use Rattle.pb_engine.proofs.rows.push_row.Given as goal
 
 abbrev pub invariant-loop-term : goal.invariant-loop-term
-invariant-loop-term l = l.entries.items ≡ l.initial.entries.items ++ entries_of_row l.row (take l.term-index l.terms)
+invariant-loop-term g l = l.entries.items ≡ l.initial.entries.items ++ entries_of_row l.row (take l.term-index l.terms)

@@ -3,5 +3,5 @@ use Rattle.pb_engine.specs.Index.{total_for}
 use Rattle.pb_engine.proofs.slacks.raise.Given as goal
 
 abbrev pub invariant-loop-occurrence : goal.invariant-loop-occurrence
-invariant-loop-occurrence l =
+invariant-loop-occurrence g l =
     (r : ℕ) → r < length l.sums → get_or l.sums r 0 ≡ get_or l.initial.sums r 0 + total_for r (take l.occurrence-index l.occurrences)

@@ -10,9 +10,9 @@ last_number : (xs : List ℕ) (x k : ℕ) → k ≡ length xs → get_or (xs ++ 
 last_number xs x k h = get_or-append_right xs (x ∷ []) (length xs) k 0 refl (omega arith) ∙ ap (λ (i : ℕ). get_or (x ∷ []) i 0) (let nought : k - length xs ≡ 0 = omega arith in nought)
 
 pub loop-row-preserved : goal.loop-row-preserved
-loop-row-preserved c =
+loop-row-preserved g c =
     let before = c.loop-row.sums.items in
-    let items : c.push.new.self.items ≡ before ++ c.total.result ∷ [] = c.in_ok-push.ensures.items in
+    let items : c.push.new.self.items ≡ before ++ c.total.result ∷ [] = c.in_ok-push.ensures.items ∙ ap (λ (n : ℕ). before ++ n ∷ []) c.of.ensures in
     let total : c.total.result ≡ reachable [] (row_at c.args.tables.now.rows c.loop-row.row).terms = c.total.ensures.value in
     let fits : sum_by (λ (t : PositiveTerm). t.coef) (row_at c.args.tables.now.rows c.loop-row.row).terms < 2 ^ 64 = c.total.ensures.fits in (
       omega (arith, ap (λ (xs : List ℕ). length xs) items, length-append before (c.total.result ∷ []), c.loop-row.invariant.0),

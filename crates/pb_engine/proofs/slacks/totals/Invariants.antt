@@ -4,5 +4,5 @@ use Rattle.pb_engine.specs.Trail.{reachable}
 use Rattle.pb_engine.proofs.slacks.totals.Given as goal
 
 abbrev pub invariant-loop-row : goal.invariant-loop-row
-invariant-loop-row l =
+invariant-loop-row g l =
     (length l.sums.items ≡ l.row) × ((r : ℕ) → r < l.row → (get_or l.sums.items r 0 ≡ reachable [] (row_at l.tables.rows r).terms) × (sum_by (λ t. t.coef) (row_at l.tables.rows r).terms < 2 ^ 64))

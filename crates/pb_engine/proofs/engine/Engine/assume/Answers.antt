@@ -12,13 +12,13 @@ use Rattle.pb_engine.proofs.BesideLemmas.{HasCounters-assume}
 use Rattle.pb_engine.proofs.engine.Engine.assume.Goals as goal
 
 pub push_reserved-requires : goal.push_reserved-requires
-push_reserved-requires c =
+push_reserved-requires g c =
     let inside = c.self.inside in
     let short = levels_short inside.slacks.rows inside.slacks.trail inside.levels.items c.self.invariant.0.levels_in_order in
     omega (arith, inside.levels.ok.0, c.self.invariant.0.room, c.push.ensures.within)
 
 pub invariant_of-self : goal.invariant_of-self
-invariant_of-self c =
+invariant_of-self g c =
     let inside = c.self.inside in
     let start = length inside.slacks.trail in
     let level : Level = record { start = c.len-start.result; settled = c.is_at-settled.result } in
@@ -33,7 +33,7 @@ invariant_of-self c =
     (subst P (sym c.push.ensures.pushed) (subst R (sym c.push_reserved.ensures.capacity) (subst Q (sym levels) stays)), HasCounters-assume inside.slacks c.push.new.self inside.needs inside.marks c.args.lit c.self.invariant.1 c.push.ensures.pushed)
 
 pub returns-clause-assumed : goal.returns-clause-assumed
-returns-clause-assumed c =
+returns-clause-assumed g c =
     let inside = c.self.inside in
     let begins : c.len-start.result ≡ length inside.slacks.trail = c.len-start.ensures.length in
     let starts : starts_of c.push_reserved.new.self.items ≡ starts_of inside.levels.items ++ length inside.slacks.trail ∷ [] = ap starts_of c.push_reserved.ensures.items ∙ (starts_of-push inside.levels.items (record { start = c.len-start.result; settled = c.is_at-settled.result }) ∙ ap (λ (n : ℕ). starts_of inside.levels.items ++ n ∷ []) begins) in
@@ -44,7 +44,7 @@ returns-clause-assumed c =
     ∙ ap (λ (e : EngineState). let e' : EngineState = record e { trail = e.trail ++ c.args.lit ∷ []; levels = e.levels ++ length e.trail ∷ []; conflict = false } in e') c.self.view_is))
 
 pub returns-clause-sound : goal.returns-clause-sound
-returns-clause-sound c =
+returns-clause-sound g c =
     let inside = c.self.inside in
     let start = length inside.slacks.trail in
     let level : Level = record { start = c.len-start.result; settled = c.is_at-settled.result } in

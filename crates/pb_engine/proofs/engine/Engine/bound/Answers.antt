@@ -16,7 +16,7 @@ use Rattle.pb_engine.proofs.ExtrasLemmas.{pickable}
 use Rattle.pb_engine.proofs.engine.Engine.bound.Goals as goal
 
 pub overflow_cast-result : goal.overflow_cast-result
-overflow_cast-result c =
+overflow_cast-result g c =
     let state = c.args.self.now in
     let inside = c.self.inside in
     let tables = c.tables.result.now in
@@ -34,7 +34,7 @@ overflow_cast-result c =
     omega (arith, ints, most, limits.coefficients)
 
 pub overflow_add-result : goal.overflow_add-result
-overflow_add-result c =
+overflow_add-result g c =
     let state = c.args.self.now in
     let inside = c.self.inside in
     let tables = c.tables.result.now in
@@ -52,7 +52,7 @@ overflow_add-result c =
     is.0
 
 pub returns-clause-value : goal.returns-clause-value
-returns-clause-value c =
+returns-clause-value g c =
     let state = c.args.self.now in
     let inside = c.self.inside in
     let tables = c.tables.result.now in
@@ -72,7 +72,7 @@ returns-clause-value c =
     value
 
 pub returns-clause-bound : goal.returns-clause-bound
-returns-clause-bound c =
+returns-clause-bound g c =
     let state = c.args.self.now in
     let inside = c.self.inside in
     let tables = c.tables.result.now in
@@ -92,7 +92,7 @@ returns-clause-bound c =
     subst (λ (z : ℤ). IsLowerBound state.form state.rows state.trail z) (sym value) (disjoint_is_bound state.form state.rows state.trail facts.2)
 
 pub returns-clause-range : goal.returns-clause-range
-returns-clause-range c =
+returns-clause-range g c =
     let state = c.args.self.now in
     let inside = c.self.inside in
     let tables = c.tables.result.now in

@@ -18,7 +18,7 @@ no_terms [] none = refl
 no_terms (t ∷ terms) none = absurd (omega arith)
 
 pub returns-then-is_empty-clause-payment : goal.returns-then-is_empty-clause-payment
-returns-then-is_empty-clause-payment c =
+returns-then-is_empty-clause-payment g c =
     let inside = c.self.inside in
     let P : Tracked → Type 0 = λ k. ArePickable k.form k.rows in
     let tables = c.tables.result.now in
@@ -29,8 +29,8 @@ returns-then-is_empty-clause-payment c =
     let empty = eqb-true (length c.objective.result.now) 0 (sym c.if-is_empty.ensures) in
     omega (arith, no_terms c.args.self.now.form.objective (omega arith))
 
-pub overflow_add-result : goal.overflow_add-result
-overflow_add-result c =
+pub add-requires : goal.add-requires
+add-requires g c =
     let inside = c.self.inside in
     let P : Tracked → Type 0 = λ k. ArePickable k.form k.rows in
     let tables = c.tables.result.now in
@@ -45,8 +45,24 @@ overflow_add-result c =
     let small : sum_by (λ (t : PositiveTerm). t.coef) s.form.objective ≤ SUM_BOUND = subst (λ (k : Tracked). sum_by (λ (t : PositiveTerm). t.coef) k.form.objective ≤ SUM_BOUND) c.tables.ensures c.vars-vars.ensures.normal.limits.coefficients in
     omega arith
 
+pub number-requires : goal.number-requires
+number-requires g c =
+    let inside = c.self.inside in
+    let P : Tracked → Type 0 = λ k. ArePickable k.form k.rows in
+    let tables = c.tables.result.now in
+    let are : ArePickable inside.slacks.form inside.slacks.rows = subst P c.tables.ensures (pickable tables.form tables.vars tables.rows c.vars-vars.ensures.normal c.vars-vars.ensures.form c.vars-vars.ensures.rising c.vars-vars.ensures.rows) in
+    let Q : EngineState → Type 0 = λ e. reached e.trail e.form.objective + extras e.form.objective e.trail (replicate e.form.vars false) e.rows ≤ sum_by (λ (t : PositiveTerm). t.coef) e.form.objective in
+    let most = subst Q c.self.view_is (extras_in_total inside.slacks.form inside.slacks.rows inside.slacks.trail are) in
+    let s = inside.slacks in
+    let paid : c.paid.result ≡ reached s.trail s.form.objective = c.paid.ensures ∙ (c.count.ensures.needs.counters.paid_is ∙ ap (λ (t : List Literal). reached t s.form.objective) (take_all c.count.new.self.counted s.trail (omega (arith, c.count.ensures.all)))) in
+    let vars : s.vars ≡ s.form.vars = subst (λ (k : Tracked). k.vars ≡ k.form.vars) c.tables.ensures c.vars-vars.ensures.form in
+    let adds = c.extras-extras.ensures.extras ∙ ap (λ (n : ℕ). extras s.form.objective s.trail (replicate n false) s.rows) vars in
+    let within = extras_in_total s.form s.rows s.trail are in
+    let small : sum_by (λ (t : PositiveTerm). t.coef) s.form.objective ≤ SUM_BOUND = subst (λ (k : Tracked). sum_by (λ (t : PositiveTerm). t.coef) k.form.objective ≤ SUM_BOUND) c.tables.ensures c.vars-vars.ensures.normal.limits.coefficients in
+    omega (arith, c.add.ensures)
+
 pub returns-clause-small : goal.returns-clause-small
-returns-clause-small c =
+returns-clause-small g c =
     let inside = c.self.inside in
     let P : Tracked → Type 0 = λ k. ArePickable k.form k.rows in
     let tables = c.tables.result.now in

@@ -13,7 +13,7 @@ use Rattle.pb_engine.proofs.BesideLemmas.{HasCounters-propagated}
 use Rattle.pb_engine.proofs.engine.Engine.propagate.Goals as goal
 
 pub invariant_of-self : goal.invariant_of-self
-invariant_of-self c =
+invariant_of-self g c =
     let inside = c.self.inside in
     let new = c.propagate_all-step.new.slacks in
     let calm : inside.conflict ≡ false = ap (λ (e : EngineState). e.conflict) c.self.view_is ∙ c.requires in
@@ -23,7 +23,7 @@ invariant_of-self c =
     (subst P (sym c.propagate_all-step.ensures.same_rows) stays, HasCounters-propagated inside.slacks new inside.needs inside.marks c.self.invariant.1 c.propagate_all-step.ensures.same_rows c.propagate_all-step.ensures.forced)
 
 pub invariant_of-self-in-Conflict : goal.invariant_of-self-in-Conflict
-invariant_of-self-in-Conflict c =
+invariant_of-self-in-Conflict g c =
     let inside = c.self.inside in
     let new = c.propagate_all-step.new.slacks in
     let proper : IsProperTrail inside.slacks.vars new.trail = subst (λ (k : Tracked). IsProperTrail k.vars new.trail) c.propagate_all-step.ensures.same_rows c.len-length.ensures.proper in
@@ -32,19 +32,19 @@ invariant_of-self-in-Conflict c =
     (subst P (sym c.propagate_all-step.ensures.same_rows) stays, HasCounters-propagated inside.slacks new inside.needs inside.marks c.self.invariant.1 c.propagate_all-step.ensures.same_rows c.propagate_all-step.ensures.forced)
 
 pub returns-in-Fixed-clause-fixed : goal.returns-in-Fixed-clause-fixed
-returns-in-Fixed-clause-fixed c = λ fixed k d h.
+returns-in-Fixed-clause-fixed g c = λ fixed k d h.
     let rows : c.self.inside.slacks.rows ≡ c.args.self.now.rows = ap (λ (e : EngineState). e.rows) c.self.view_is in
     let all = subst (λ (rs : List PositiveRow). AllSettled rs c.propagate_all-step.new.slacks.trail) rows (c.propagate_all-step.ensures.settled fixed) in
     let same = get_or_default c.args.self.now.rows k (record { terms = []; degree = 0 }) d h in
     subst (λ (row : PositiveRow). IsSettled c.propagate_all-step.new.slacks.trail row) same (all k h)
 
 pub returns-in-Conflict-clause-no_completion : goal.returns-in-Conflict-clause-no_completion
-returns-in-Conflict-clause-no_completion c = λ found.
+returns-in-Conflict-clause-no_completion g c = λ found.
     let rows : c.self.inside.slacks.rows ≡ c.args.self.now.rows = ap (λ (e : EngineState). e.rows) c.self.view_is in
     subst (λ (rs : List PositiveRow). HasNoCompletion rs c.propagate_all-step.new.slacks.trail) rows (none_since_broken c.self.inside.slacks.rows c.propagate_all-step.new.slacks.trail (c.propagate_all-step.ensures.broken found))
 
 pub returns-in-Fixed-clause-sound : goal.returns-in-Fixed-clause-sound
-returns-in-Fixed-clause-sound c =
+returns-in-Fixed-clause-sound g c =
     let inside = c.self.inside in
     let new = c.propagate_all-step.new.slacks in
     let calm : inside.conflict ≡ false = ap (λ (e : EngineState). e.conflict) c.self.view_is ∙ c.requires in
@@ -54,7 +54,7 @@ returns-in-Fixed-clause-sound c =
     subst P (sym c.propagate_all-step.ensures.same_rows) (sound-IsEngine inside.slacks.form inside.slacks.vars inside.slacks.rows new.trail inside.levels.items (Some c.len-length.result) inside.conflict inside.conflict (vec_capacity inside.levels) stays)
 
 pub returns-in-Conflict-clause-sound : goal.returns-in-Conflict-clause-sound
-returns-in-Conflict-clause-sound c =
+returns-in-Conflict-clause-sound g c =
     let inside = c.self.inside in
     let new = c.propagate_all-step.new.slacks in
     let proper : IsProperTrail inside.slacks.vars new.trail = subst (λ (k : Tracked). IsProperTrail k.vars new.trail) c.propagate_all-step.ensures.same_rows c.len-length.ensures.proper in
@@ -63,7 +63,7 @@ returns-in-Conflict-clause-sound c =
     subst P (sym c.propagate_all-step.ensures.same_rows) (sound-IsEngine inside.slacks.form inside.slacks.vars inside.slacks.rows new.trail inside.levels.items inside.settled_until true true (vec_capacity inside.levels) stays)
 
 pub returns-in-Fixed-clause-solved : goal.returns-in-Fixed-clause-solved
-returns-in-Fixed-clause-solved c = λ fixed full.
+returns-in-Fixed-clause-solved g c = λ fixed full.
     let inside = c.self.inside in
     let new = c.propagate_all-step.new.slacks in
     let rows : new.rows ≡ inside.slacks.rows = ap (λ (k : Tracked). k.rows) c.propagate_all-step.ensures.same_rows in
@@ -72,6 +72,6 @@ returns-in-Fixed-clause-solved c = λ fixed full.
     full_is_solved (record { form = new.form; vars = new.vars; rows = new.rows; trail = new.trail; levels = starts_of inside.levels.items; conflict = inside.conflict }) c.len-length.ensures.rows settled full
 
 pub returns-in-Conflict-clause-conflict : goal.returns-in-Conflict-clause-conflict
-returns-in-Conflict-clause-conflict c = λ found.
+returns-in-Conflict-clause-conflict g c = λ found.
     let rows : c.self.inside.slacks.rows ≡ c.args.self.now.rows = ap (λ (e : EngineState). e.rows) c.self.view_is in
     subst (λ (rs : List PositiveRow). HasNegativeSlack rs c.propagate_all-step.new.slacks.trail) rows (negative_since c.self.inside.slacks.rows c.propagate_all-step.new.slacks.trail (c.propagate_all-step.ensures.broken found))

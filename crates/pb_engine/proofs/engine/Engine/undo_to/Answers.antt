@@ -17,7 +17,7 @@ abbrev state : NormalForm → ℕ → List PositiveRow → List Literal → List
 state form vars rows trail levels = record { form = form; vars = vars; rows = rows; trail = trail; levels = levels; conflict = false }
 
 pub returns-then-level-len-clause-undone : goal.returns-then-level-len-clause-undone
-returns-then-level-len-clause-undone c =
+returns-then-level-len-clause-undone g c =
     let inside = c.self.inside in
     let now = c.args.self.now in
     let count = length-starts_of inside.levels.items in
@@ -31,7 +31,7 @@ returns-then-level-len-clause-undone c =
     ∙ ap (λ (ls : List ℕ). state now.form now.vars now.rows (trail_before now c.args.level) ls) (sym levels))
 
 pub index-requires : goal.index-requires
-index-requires c =
+index-requires g c =
     let inside = c.self.inside in
     let count = length-starts_of inside.levels.items in
     let view = ap (λ (e : EngineState). length e.levels) c.self.view_is in
@@ -41,7 +41,7 @@ some_is : (a b : ℕ) → ◌≡◌ {A = Option ℕ} (Some a) (Some b) → b ≡
 some_is a b h = cc
 
 pub invariant_of-self-2 : goal.invariant_of-self-2
-invariant_of-self-2 c =
+invariant_of-self-2 g c =
     let inside = c.self.inside in
     let count = length-starts_of inside.levels.items in
     let view = ap (λ (e : EngineState). length e.levels) c.self.view_is in
@@ -54,7 +54,7 @@ invariant_of-self-2 c =
     (subst P (sym c.cut.ensures) (subst R (sym c.truncate.ensures.capacity) (subst Q (sym c.truncate.ensures.items) stays)), HasCounters-undo inside.slacks c.cut.new.slacks c.take_back.new.self inside.marks c.index.result.now.start c.take_back.ensures.needs c.self.invariant.1.room c.take_back.ensures.before c.cut.ensures)
 
 pub returns-clause-undone : goal.returns-clause-undone
-returns-clause-undone c =
+returns-clause-undone g c =
     let inside = c.self.inside in
     let now = c.args.self.now in
     let count = length-starts_of inside.levels.items in
@@ -69,12 +69,12 @@ returns-clause-undone c =
     ∙ ap (λ (e : EngineState). state e.form e.vars e.rows (trail_before e c.args.level) (take c.args.level e.levels)) c.self.view_is))
 
 pub returns-then-level-len-clause-sound : goal.returns-then-level-len-clause-sound
-returns-then-level-len-clause-sound c =
+returns-then-level-len-clause-sound g c =
     let inside = c.self.inside in
     sound-IsEngine inside.slacks.form inside.slacks.vars inside.slacks.rows inside.slacks.trail inside.levels.items inside.settled_until inside.conflict false (vec_capacity inside.levels) c.self.invariant.0
 
 pub returns-clause-sound : goal.returns-clause-sound
-returns-clause-sound c =
+returns-clause-sound g c =
     let inside = c.self.inside in
     let count = length-starts_of inside.levels.items in
     let view = ap (λ (e : EngineState). length e.levels) c.self.view_is in

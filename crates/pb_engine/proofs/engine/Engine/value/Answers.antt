@@ -9,7 +9,7 @@ use Rattle.pb_engine.proofs.engine.Engine.value.Goals as goal
 use Rattle.pb_engine.proofs.engine.Engine.value.Goals.{then-var-eq0-via-then-var-eq0, then-var-eq0-via-else-var-eq0+then-var-vars}
 
 pub returns-then-var-eq0-clause-value : goal.returns-then-var-eq0-clause-value
-returns-then-var-eq0-clause-value c =
+returns-then-var-eq0-clause-value g c =
     let inside = c.self.inside in
     let same = ap (λ (e : EngineState). value_on e.trail c.args.var) c.self.view_is in
     elim c.then-var-eq0.branch [
@@ -18,11 +18,11 @@ returns-then-var-eq0-clause-value c =
     ]
 
 pub returns-then-var-eq0-clause-sound : goal.returns-then-var-eq0-clause-sound
-returns-then-var-eq0-clause-sound c =
+returns-then-var-eq0-clause-sound g c =
     let inside = c.self.inside in
     subst IsSoundTrail c.self.view_is (sound-IsEngine inside.slacks.form inside.slacks.vars inside.slacks.rows inside.slacks.trail inside.levels.items inside.settled_until inside.conflict inside.conflict (vec_capacity inside.levels) c.self.invariant.0)
 
 pub returns-clause-sound : goal.returns-clause-sound
-returns-clause-sound c =
+returns-clause-sound g c =
     let inside = c.self.inside in
     subst IsSoundTrail c.self.view_is (sound-IsEngine inside.slacks.form inside.slacks.vars inside.slacks.rows inside.slacks.trail inside.levels.items inside.settled_until inside.conflict inside.conflict (vec_capacity inside.levels) c.self.invariant.0)

@@ -10,7 +10,7 @@ use Rattle.pb_engine.proofs.CounterLemmas.{counters-push, can_join, at_place, pa
 use Rattle.pb_engine.proofs.needs.Needs.count_next.Goals as goal
 
 pub join-requires-clause-enough : goal.join-requires-clause-enough
-join-requires-clause-enough c = λ r h.
+join-requires-clause-enough g c = λ r h.
     let old = c.args.self.now in
     let s = c.args.slacks.now in
     let l = c.literal-lit.result in
@@ -21,7 +21,7 @@ join-requires-clause-enough c = λ r h.
     (can_join tables.form tables.rows (take old.counted s.trail) old.paid old.lacks.items c.deref_mut.result.now old.wanting l counters here.0 c.vars-vars.ensures.limits c.deref_mut.ensures.value r h).0
 
 pub join-requires-clause-fits : goal.join-requires-clause-fits
-join-requires-clause-fits c = λ r h.
+join-requires-clause-fits g c = λ r h.
     let old = c.args.self.now in
     let s = c.args.slacks.now in
     let l = c.literal-lit.result in
@@ -31,8 +31,8 @@ join-requires-clause-fits c = λ r h.
     let counters = subst P (sym c.tables-tables.ensures) c.requires.needs.counters in
     (can_join tables.form tables.rows (take old.counted s.trail) old.paid old.lacks.items c.deref_mut.result.now old.wanting l counters here.0 c.vars-vars.ensures.limits c.deref_mut.ensures.value r h).1
 
-pub overflow_add-self : goal.overflow_add-self
-overflow_add-self c =
+pub add_assign-requires : goal.add_assign-requires
+add_assign-requires g c =
     let old = c.args.self.now in
     let s = c.args.slacks.now in
     let l = c.literal-lit.result in
@@ -43,7 +43,7 @@ overflow_add-self c =
     omega (arith, counters.paid_is, c.cost.ensures, paid_within tables.form (take old.counted s.trail) l here.0, c.vars-vars.ensures.normal.limits.coefficients)
 
 pub returns-clause-needs : goal.returns-clause-needs
-returns-clause-needs c =
+returns-clause-needs g c =
     let old = c.args.self.now in
     let s = c.args.slacks.now in
     let l = c.literal-lit.result in
@@ -62,5 +62,5 @@ returns-clause-needs c =
     let S : Tracked → Type 0 = λ k. AreCounters k.form k.rows (take (old.counted + 1) s.trail) (old.paid + c.cost.result) (take old.lacks.len (c.join.new.lacks ++ drop (length c.join.new.lacks) old.lacks.items)) c.join.new.wanting in
     record {
       within = omega arith;
-      counters = subst S c.tables-tables.ensures (subst Q (sym back) (subst R (sym here.1) next));
+      counters = rw c.add_assign.ensures.after (subst S c.tables-tables.ensures (subst Q (sym back) (subst R (sym here.1) next)));
     }

@@ -11,7 +11,7 @@ use Rattle.pb_engine.proofs.SpareLemmas.{reached-push}
 use Rattle.pb_engine.proofs.needs.Needs.take_back_last.Goals as goal
 
 pub leave-requires-clause-enough : goal.leave-requires-clause-enough
-leave-requires-clause-enough c = λ r h.
+leave-requires-clause-enough g c = λ r h.
     let old = c.args.self.now in
     let s = c.args.slacks.now in
     let l = c.literal-lit.result in
@@ -24,7 +24,7 @@ leave-requires-clause-enough c = λ r h.
     (can_leave tables.form tables.rows front old.paid old.lacks.items c.deref_mut.result.now old.wanting l counters here.0 c.vars-vars.ensures.limits c.deref_mut.ensures.value r h).0
 
 pub leave-requires-clause-fits : goal.leave-requires-clause-fits
-leave-requires-clause-fits c = λ r h.
+leave-requires-clause-fits g c = λ r h.
     let old = c.args.self.now in
     let s = c.args.slacks.now in
     let l = c.literal-lit.result in
@@ -36,8 +36,8 @@ leave-requires-clause-fits c = λ r h.
     let counters = subst (λ (t : List Literal). AreCounters tables.form tables.rows t old.paid old.lacks.items old.wanting) whole (subst P (sym c.tables-tables.ensures) c.requires.needs.counters) in
     (can_leave tables.form tables.rows front old.paid old.lacks.items c.deref_mut.result.now old.wanting l counters here.0 c.vars-vars.ensures.limits c.deref_mut.ensures.value r h).1
 
-pub overflow_sub-self-2 : goal.overflow_sub-self-2
-overflow_sub-self-2 c =
+pub sub_assign-requires : goal.sub_assign-requires
+sub_assign-requires g c =
     let old = c.args.self.now in
     let s = c.args.slacks.now in
     let l = c.literal-lit.result in
@@ -50,7 +50,7 @@ overflow_sub-self-2 c =
     omega (arith, counters.paid_is, c.cost.ensures, reached-push front l tables.form.objective here.0)
 
 pub returns-clause-needs : goal.returns-clause-needs
-returns-clause-needs c =
+returns-clause-needs g c =
     let old = c.args.self.now in
     let s = c.args.slacks.now in
     let l = c.literal-lit.result in
@@ -71,5 +71,5 @@ returns-clause-needs c =
     let S : Tracked → Type 0 = λ k. AreCounters k.form k.rows front (old.paid - c.cost.result) (take old.lacks.len (c.leave.new.lacks ++ drop (length c.leave.new.lacks) old.lacks.items)) c.leave.new.wanting in
     record {
       within = omega (arith, c.requires.needs.within);
-      counters = subst S c.tables-tables.ensures (subst Q (sym back) next);
+      counters = rw c.sub_assign.ensures.after (subst S c.tables-tables.ensures (subst Q (sym back) next));
     }

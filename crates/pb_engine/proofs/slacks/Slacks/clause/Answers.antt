@@ -5,7 +5,7 @@ use Rattle.pb_engine.proofs.TablesLemmas.{clause_variables}
 use Rattle.pb_engine.proofs.slacks.Slacks.clause.Goals as goal
 
 pub returns-clause-variables : goal.returns-clause-variables
-returns-clause-variables c =
+returns-clause-variables g c =
     let tables = c.self.inside.tables in
     let count = ap (λ (k : Tracked). length k.rows) c.self.view_is in
     subst (λ (k : Tracked). All (λ (l : Literal). (1 ≤ l.var) × (l.var ≤ k.vars)) c.clause.result.now) c.self.view_is

@@ -1,7 +1,7 @@
 use Rattle.std.proofs.Common.{◌≡◌, ℕ, ◌+◌, ◌-◌, ◌<◌, ◌++◌, ◌∷◌, [], List, length, get_or, set, take, drop, ap, sym, subst, ◌∙◌, arith, None, slice_index}
 use Rattle.std.specs.Vec.{vec_capacity}
 use Rattle.pb_inst.specs.Literal.{Literal}
-use Rattle.pb_engine.specs.declared.occurrences.Occurrence.{Occurrence}
+use Rattle.pb_engine.specs.Occurrences.{Occurrence}
 use Rattle.pb_engine.specs.Constraints.{row_at}
 use Rattle.pb_engine.specs.Tracked.{IsUpToDate, IsConsistent}
 use Rattle.pb_engine.specs.Index.{total_for}
@@ -12,7 +12,7 @@ use Rattle.pb_engine.proofs.TrackedLemmas.{IsUpToDate-pop, last_is_free, IsUpToD
 use Rattle.pb_engine.proofs.slacks.Slacks.pop.Goals as goal
 
 pub raise-requires-clause-fits : goal.raise-requires-clause-fits
-raise-requires-clause-fits c = λ r h.
+raise-requires-clause-fits g c = λ r h.
     let inside = c.self.inside in
     let whole : inside.trail.items ≡ c.pop.new.self.items ++ c.in-Some.lit ∷ [] = c.in-Some.ensures.items in
     let consistent = subst (λ (t : List Literal). IsConsistent t) whole c.self.invariant.consistent in
@@ -27,7 +27,7 @@ raise-requires-clause-fits c = λ r h.
     omega (arith, reachable-push c.pop.new.self.items c.in-Some.lit (row_at inside.tables.rows r).terms free, reachable-le-total c.pop.new.self.items (row_at inside.tables.rows r).terms, c.self.invariant.fits r exists)
 
 pub raise_units-requires-clause-fits : goal.raise_units-requires-clause-fits
-raise_units-requires-clause-fits c = λ r h.
+raise_units-requires-clause-fits g c = λ r h.
     let inside = c.self.inside in
     let whole : inside.trail.items ≡ c.pop.new.self.items ++ c.in-Some.lit ∷ [] = c.in-Some.ensures.items in
     let consistent = subst (λ (t : List Literal). IsConsistent t) whole c.self.invariant.consistent in
@@ -49,7 +49,7 @@ raise_units-requires-clause-fits c = λ r h.
     omega (arith, c.raise.ensures r (omega arith), reachable-push c.pop.new.self.items c.in-Some.lit (row_at inside.tables.rows r).terms free, reachable-le-total c.pop.new.self.items (row_at inside.tables.rows r).terms, c.self.invariant.fits r exists)
 
 pub invariant_of-self : goal.invariant_of-self
-invariant_of-self c =
+invariant_of-self g c =
     let inside = c.self.inside in
     let whole : inside.trail.items ≡ c.pop.new.self.items ++ c.in-Some.lit ∷ [] = c.in-Some.ensures.items in
     let negated : c.negate-negation.result ≡ negation c.in-Some.lit = cc in

@@ -1,5 +1,5 @@
 use Rattle.std.proofs.Common.{◌≡◌, ℕ, ◌+◌, ◌-◌, ◌<◌, ◌++◌, List, length, get_or, set, take, drop, ap, sym, subst, ◌∙◌, arith, Some, None, slice_index}
-use Rattle.pb_engine.specs.declared.occurrences.Occurrence.{Occurrence}
+use Rattle.pb_engine.specs.Occurrences.{Occurrence}
 use Rattle.std.specs.Vec.{vec_capacity}
 use Rattle.pb_inst.specs.Literal.{Literal}
 use Rattle.pb_engine.specs.Constraints.{row_at}
@@ -12,7 +12,7 @@ use Rattle.pb_engine.proofs.TrackedLemmas.{IsUpToDate-push, trail_has_room}
 use Rattle.pb_engine.proofs.slacks.Slacks.push.Goals as goal
 
 pub push_reserved-requires : goal.push_reserved-requires
-push_reserved-requires c =
+push_reserved-requires g c =
     let trail_is = ap (λ (t : Tracked). t.trail) c.self.view_is in
     let vars_are = ap (λ (t : Tracked). t.vars) c.self.view_is in
     let free : value_on c.self.inside.trail.items c.args.lit.var ≡ None = subst (λ (t : List Literal). value_on t c.args.lit.var ≡ None) (sym trail_is) c.requires.no_value in
@@ -20,7 +20,7 @@ push_reserved-requires c =
     omega (arith, c.self.invariant.room)
 
 pub lower-requires-clause-enough : goal.lower-requires-clause-enough
-lower-requires-clause-enough c = λ r h.
+lower-requires-clause-enough g c = λ r h.
     let inside = c.self.inside in
     let trail_is = ap (λ (t : Tracked). t.trail) c.self.view_is in
     let free : value_on inside.trail.items c.args.lit.var ≡ None = subst (λ (t : List Literal). value_on t c.args.lit.var ≡ None) (sym trail_is) c.requires.no_value in
@@ -33,7 +33,7 @@ lower-requires-clause-enough c = λ r h.
     omega (arith, reachable-push inside.trail.items c.args.lit (row_at inside.tables.rows r).terms free, c.self.invariant.sums r exists)
 
 pub lower_units-requires-clause-enough : goal.lower_units-requires-clause-enough
-lower_units-requires-clause-enough c = λ r h.
+lower_units-requires-clause-enough g c = λ r h.
     let inside = c.self.inside in
     let trail_is = ap (λ (t : Tracked). t.trail) c.self.view_is in
     let free : value_on inside.trail.items c.args.lit.var ≡ None = subst (λ (t : List Literal). value_on t c.args.lit.var ≡ None) (sym trail_is) c.requires.no_value in
@@ -53,7 +53,7 @@ lower_units-requires-clause-enough c = λ r h.
     omega (arith, c.lower.ensures r (omega arith), reachable-push inside.trail.items c.args.lit (row_at inside.tables.rows r).terms free, c.self.invariant.sums r exists)
 
 pub invariant_of-self : goal.invariant_of-self
-invariant_of-self c =
+invariant_of-self g c =
     let inside = c.self.inside in
     let trail_is = ap (λ (t : Tracked). t.trail) c.self.view_is in
     let vars_are = ap (λ (t : Tracked). t.vars) c.self.view_is in
@@ -82,7 +82,7 @@ invariant_of-self c =
     subst (λ (xs : List ℕ). IsUpToDate inside.tables xs (set inside.values.items (c.var.result - 1) (Some c.positive.result)) c.push_reserved.new.self.items (vec_capacity c.push_reserved.new.self)) (sym end) stays
 
 pub returns-clause-within : goal.returns-clause-within
-returns-clause-within c =
+returns-clause-within g c =
     let trail_is = ap (λ (t : Tracked). t.trail) c.self.view_is in
     let vars_are = ap (λ (t : Tracked). t.vars) c.self.view_is in
     let long = ap (λ (t : List Literal). length t) trail_is in

@@ -1,12 +1,12 @@
 use Rattle.std.proofs.Common.{◌≡◌, ◌+◌, List, length, ap, sym, ◌∙◌}
 use Rattle.pb_engine.specs.Tables.{rows_of, clauses_of}
-use Rattle.pb_engine.specs.declared.occurrences.Occurrence.{Occurrence}
+use Rattle.pb_engine.specs.Occurrences.{Occurrence}
 use Rattle.pb_engine.specs.Index.{total_for}
 use Rattle.pb_engine.proofs.TablesLemmas.{seen, weights_beside}
 use Rattle.pb_engine.proofs.tables.Tables.occurrences.Goals as goal
 
 pub returns-clause-weights : goal.returns-clause-weights
-returns-clause-weights c = λ r h.
+returns-clause-weights g c = λ r h.
     let source = c.self.inside.source in
     let rows = c.rows.result.now in
     let clauses = c.clauses.result.now in

@@ -10,21 +10,21 @@ use Rattle.pb_engine.proofs.TablesLemmas.{seen, form_row_at, clause_at, reachabl
 use Rattle.pb_engine.proofs.tables.Tables.total.Goals as goal
 
 pub returns-then-row-len-clause-value : goal.returns-then-row-len-clause-value
-returns-then-row-len-clause-value c =
+returns-then-row-len-clause-value g c =
     let source = c.self.inside.source in
     let view = seen (rows_of source) c.rows-rows.result.now (clauses_of source) (clauses_of source) c.args.self.now c.self.view_is c.rows-rows.ensures (let same : clauses_of source ≡ clauses_of source = cc in same) in
     let here = form_row_at c.rows-rows.result.now (clauses_of source) c.args.self.now c.args.row c.len.result view c.len.ensures.value (omega arith) in
     c.total.ensures ∙ (total-is c.terms.result.now ∙ (ap (reachable []) c.terms.ensures ∙ ap (λ (p : PositiveRow). reachable [] p.terms) (sym here)))
 
 pub returns-else-row-len-clause-value : goal.returns-else-row-len-clause-value
-returns-else-row-len-clause-value c =
+returns-else-row-len-clause-value g c =
     let source = c.self.inside.source in
     let view = seen (rows_of source) c.rows-rows.result.now (clauses_of source) c.clauses.result.now c.args.self.now c.self.view_is c.rows-rows.ensures c.clauses.ensures in
     let here : row_at c.args.self.now.rows c.args.row ≡ clause_row c.lits.result.now = clause_at c.rows-rows.result.now c.clauses.result.now c.args.self.now c.args.row c.len.result view c.len.ensures.value (omega arith) ∙ (ap (λ (n : ℕ). row_at c.clauses.result.now.rows (c.args.row - n)) (omega (arith, c.len.ensures.value, c.len-else-row-len.ensures.value)) ∙ c.lits.ensures) in
     reachable_units c.lits.result.now ∙ ap (λ (p : PositiveRow). reachable [] p.terms) (sym here)
 
 pub returns-else-row-len-clause-fits : goal.returns-else-row-len-clause-fits
-returns-else-row-len-clause-fits c =
+returns-else-row-len-clause-fits g c =
     let source = c.self.inside.source in
     let view = seen (rows_of source) c.rows-rows.result.now (clauses_of source) c.clauses.result.now c.args.self.now c.self.view_is c.rows-rows.ensures c.clauses.ensures in
     let here : row_at c.args.self.now.rows c.args.row ≡ clause_row c.lits.result.now = clause_at c.rows-rows.result.now c.clauses.result.now c.args.self.now c.args.row c.len.result view c.len.ensures.value (omega arith) ∙ (ap (λ (n : ℕ). row_at c.clauses.result.now.rows (c.args.row - n)) (omega (arith, c.len.ensures.value, c.len-else-row-len.ensures.value)) ∙ c.lits.ensures) in

@@ -1,6 +1,6 @@
 use Rattle.std.proofs.Common.{◌-◌, ◌≤◌, length}
 use Rattle.pb_engine.specs.RowSet.{HasNoneBetween}
-use Rattle.pb_engine.proofs.row_set.RowSet.next.Given as goal
+use Rattle.pb_engine.proofs.bits.BitsFlags.next.Given as goal
 
 abbrev pub invariant-loop-place : goal.invariant-loop-place
 invariant-loop-place l = record { low : l.from ≤ l.place; none : HasNoneBetween l.self l.from l.place }

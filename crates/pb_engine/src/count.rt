@@ -1,0 +1,128 @@
+//! The numbers in which an engine counts.
+
+ghost use Rattle.std.specs.Prelude.{◌≡◌, ℕ, ◌+◌, ◌-◌, ◌*◌, ◌^◌, ◌<◌, ◌≤◌, nat_lt, refl};
+ghost use Rattle.std.specs.Int.{div_ceil};
+
+use pb_inst::Magnitude;
+use std::fmt::Debug;
+
+/// Numbers in which an engine counts: natural numbers, wide enough for all sums of a normal form.
+pub trait Count: Copy + Debug {
+    // The natural number that a value stands for, and the other way round.
+    ghost count: { Self → ℕ };
+
+    ghost counted: { ℕ → Self };
+
+    ghost value_back: { (x : Self) → counted (count x) ≡ x };
+
+    ghost count_back: { (n : ℕ) → count (counted n) ≡ n };
+
+    /// The number, as one of these.
+    fn of(number: Magnitude) -> Self
+        ensures { count result ≡ number };
+
+    /// One of these, as a number.
+    fn number(self) -> Magnitude
+        requires { count self < 2 ^ 64 }
+        ensures { result ≡ count self };
+
+    /// The sum.
+    fn add(self, other: Self) -> Self
+        requires { count self + count other < 2 ^ 64 }
+        ensures { count result ≡ count self + count other };
+
+    /// The difference.
+    fn sub(self, other: Self) -> Self
+        requires { count other ≤ count self }
+        ensures { count result ≡ count self - count other };
+
+    /// The product.
+    fn mul(self, other: Self) -> Self
+        requires { count self * count other < 2 ^ 64 }
+        ensures { count result ≡ count self * count other };
+
+    /// The quotient, rounded up.
+    fn div_ceil(self, other: Self) -> Self
+        requires { 0 < count other }
+        ensures { count result ≡ div_ceil (count self) (count other) };
+
+    /// Whether this is less than the other.
+    fn is_below(self, other: Self) -> bool
+        ensures { result ≡ nat_lt (count self) (count other) };
+}
+
+impl Count for u64 {
+    ghost count = { λ x. x };
+
+    ghost counted = { λ n. n };
+
+    ghost value_back = { λ x. refl };
+
+    ghost count_back = { λ n. refl };
+
+    fn of(number: Magnitude) -> u64 {
+        number
+    }
+
+    fn number(self) -> Magnitude {
+        self
+    }
+
+    fn add(self, other: u64) -> u64 {
+        self + other
+    }
+
+    fn sub(self, other: u64) -> u64 {
+        self - other
+    }
+
+    fn mul(self, other: u64) -> u64 {
+        self * other
+    }
+
+    fn div_ceil(self, other: u64) -> u64 {
+        self.div_ceil(other)
+    }
+
+    fn is_below(self, other: u64) -> bool {
+        self < other
+    }
+}
+
+impl Count for u128 {
+    ghost count = { λ x. x };
+
+    ghost counted = { λ n. n };
+
+    ghost value_back = { λ x. refl };
+
+    ghost count_back = { λ n. refl };
+
+    fn of(number: Magnitude) -> u128 {
+        number as u128
+    }
+
+    fn number(self) -> Magnitude {
+        self as Magnitude
+    }
+
+    fn add(self, other: u128) -> u128 {
+        self + other
+    }
+
+    fn sub(self, other: u128) -> u128 {
+        self - other
+    }
+
+    fn mul(self, other: u128) -> u128 {
+        self * other
+    }
+
+    fn div_ceil(self, other: u128) -> u128 {
+        self.div_ceil(other)
+    }
+
+    fn is_below(self, other: u128) -> bool {
+        self < other
+    }
+}

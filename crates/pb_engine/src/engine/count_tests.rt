@@ -1,0 +1,83 @@
+//! The same course with counters of 64 and of 128 bits.
+
+use crate::engine::tests::{form, slack};
+use crate::{Count, Engine, Step};
+use pb_inst::{Lit, Magnitude, Number};
+use pb_normal::Normal;
+use std::alloc::Global;
+use std::process::Abort;
+
+/// What an engine says between two steps: its bound, the value of each variable, and the slack of each row.
+type Look = (Number, Vec<Option<bool>>, Vec<Option<Magnitude>>);
+
+fn look<C: Count>(rt: &impl Abort, alloc: Global, engine: &mut Engine<'_, C>) -> Look {
+    let mut values = Vec::new(alloc);
+    for var in 1..=engine.vars() {
+        values.push(engine.value(var)).expect(rt, "memory");
+    }
+    let mut slacks = Vec::new(alloc);
+    for row in 0..engine.slacks.rows() {
+        slacks.push(slack(rt, engine, row)).expect(rt, "memory");
+    }
+    (engine.bound(), values, slacks)
+}
+
+/// Assumes the literal where it can be assumed, and propagates.
+fn step<C: Count>(engine: &mut Engine<'_, C>, lit: Lit) {
+    if engine.conflict() || lit.var() > engine.vars() || engine.value(lit.var()).is_some() {
+        return;
+    }
+    if engine.assume(lit) == Step::Fixed {
+        let _found = engine.propagate();
+    }
+}
+
+/// What an engine says as it assumes all variables one after another with one sign, and takes them all back.
+fn course<C: Count>(
+    rt: &impl Abort,
+    alloc: Global,
+    engine: &mut Engine<'_, C>,
+    positive: bool,
+) -> Vec<Look> {
+    let mut looks = Vec::new(alloc);
+    for var in 1..=engine.vars() {
+        let lit = Lit::new(var, positive).expect(rt, "a variable");
+        step(engine, lit);
+        looks.push(look(rt, alloc, engine)).expect(rt, "memory");
+    }
+    engine.undo_to(0);
+    looks.push(look(rt, alloc, engine)).expect(rt, "memory");
+    looks
+}
+
+fn compare(rt: &impl Abort, alloc: Global, form: &Normal) {
+    let mut narrow: Engine<'_, u64> = Engine::new(alloc, form, &[]).expect(rt, "memory");
+    let mut wide: Engine<'_, u128> = Engine::new(alloc, form, &[]).expect(rt, "memory");
+    for positive in [false, true] {
+        let expected = course(rt, alloc, &mut narrow, positive);
+        let found = course(rt, alloc, &mut wide, positive);
+        assert!(rt; found == expected);
+    }
+}
+
+#[test]
+fn wide_counters_say_the_same(rt: HostRuntime) {
+    let rows: &[(&[(Number, i32)], Number)] = &[
+        (&[(3, 1), (2, 2), (1, 3)], 4),
+        (&[(1, -1), (1, 4), (2, 5)], 2),
+        (&[(4, -3), (3, -4), (2, -5), (1, 6)], 5),
+    ];
+    let costs: &[(Number, i32)] = &[(2, 1), (3, -2), (1, 3), (5, 4), (7, 6)];
+    compare(&rt, rt.alloc(), &form(&rt, rt.alloc(), 6, costs, rows));
+}
+
+#[test]
+fn wide_counters_say_the_same_of_great_sums(rt: HostRuntime) {
+    let half = 4_611_686_018_427_387_903;
+    let rows: &[(&[(Number, i32)], Number)] = &[
+        (&[(half, 1), (half, 2), (1, 3)], half),
+        (&[(half, -1), (half, 3)], 1),
+    ];
+    let costs: &[(Number, i32)] = &[(half, 1), (half, 2)];
+    compare(&rt, rt.alloc(), &form(&rt, rt.alloc(), 3, costs, rows));
+}
