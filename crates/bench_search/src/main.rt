@@ -116,8 +116,12 @@ fn measure(rt: &HostRuntime, instance: &Instance, k: u32) -> Option<Measured> {
         return None;
     };
     let pieces = pieces_of(alloc, instance, k)?;
-    let mut best = Best::none(alloc, instance).ok()?;
-    let mut search = Search::new(alloc, instance, &normal, &pieces).ok()?;
+    let Ok(mut best) = Best::none(alloc, instance) else {
+        return None;
+    };
+    let Ok(mut search) = Search::new(alloc, instance, &normal, &pieces) else {
+        return None;
+    };
     timed(rt, &mut search, pieces.len(), &mut best)
 }
 

@@ -67,7 +67,7 @@ assumptions-few trail places are =
     ]
 
 -- a value comes from a literal that is on the trail
-value_is : (x y b : Bool) → cond x (Some true) (cond y (Some false) None) ≡ Some b → cond b x y ≡ true
+pub value_is : (x y b : Bool) → cond x (Some true) (cond y (Some false) None) ≡ Some b → cond b x y ≡ true
 value_is true y true h = refl
 value_is true y false h = let bad : ⊥ = cc in absurd bad
 value_is false true true h = let bad : ⊥ = cc in absurd bad

@@ -1,17 +1,15 @@
 -- Full trails, and subtrees that may be left.
-use Rattle.std.proofs.Common.{◌≡◌, ◌≢◌, ℕ, ◌+◌, ◌-◌, ◌*◌, ◌<◌, ◌≤◌, ◌==◌, min, List, length, refl, sym, ◌∙◌, ap, subst, arith, Bool, true, false, cond, inl, inr, ◌⊎◌, Option, None, Some}
+use Rattle.std.proofs.Common.{◌≡◌, ◌≢◌, ℕ, ◌+◌, ◌-◌, ◌≤◌, List, length, refl, sym, ◌∙◌, ap, subst, arith, Bool, true, false, cond, inl, inr, ◌⊎◌, Option, None, Some}
 use Rattle.std.specs.Prelude.{slice_index_or, unwrap_or, ℤ, ◌<ℤ◌, ◌≤ℤ◌, IsSomeAnd}
 use Rattle.std.specs.Option.{option_map}
 use Rattle.std.proofs.lemmas.List.{ext_get_or}
 use Rattle.std.proofs.Math.ListN.{get_or-eq_default}
 use Rattle.std.proofs.lemmas.Bool.{cases_lt}
 use Rattle.std.proofs.lemmas.Int.{ints}
-use Rattle.std.proofs.lemmas.Nat.Bits.{bit_at-zero}
 use Rattle.pb_inst.specs.Literal.{Literal}
 use Rattle.pb_inst.specs.Problem.{Problem}
 use Rattle.pb_inst.specs.Meaning.{literal_value, IsFeasible, cost}
 use Rattle.pb_inst.specs.Order.{IsBefore}
-use Rattle.pb_inst.specs.Words.{has_bit}
 use Rattle.pb_inst.specs.Cubes.{MakesTrue}
 use Rattle.pb_inst.specs.Incumbent.{Incumbent, Solution, IsSolution, solution_of}
 use Rattle.pb_inst.proofs.OrderProofs.{none_before_itself}
@@ -26,7 +24,7 @@ use Rattle.pb_search.specs.Trees.{IsEngineOf, IsFilledFrom, IsClosed, IsNotBefor
 use Rattle.pb_search.proofs.HeldLemmas.{IsTaken}
 use Rattle.pb_search.proofs.Engines.{value_on-true, value_on-entry}
 
-abbrev at : List Bool → ℕ → Bool
+abbrev pub at : List Bool → ℕ → Bool
 at a k = slice_index_or a k false
 
 pub sign_is : (b v : Bool) → cond b (cond v 1 0) (1 - cond v 1 0) ≡ 1 → v ≡ b
@@ -130,17 +128,6 @@ later_not_before trail b var there zero_there ones a all h =
       | inl lt ↦ not_both (at a h.place) (true_within trail a all h.place (ones h.place (omega arith) lt h.second_has_one)) h.first_has_zero
       | inr rest ↦ not_both (at b (var - 1)) (sym (h.same_before (var - 1) (omega arith)) ∙ one_in) zero_there
     ]
-
-zero_has_no_bit : (k : ℕ) → has_bit 0 k ≡ false
-zero_has_no_bit k = ap (λ (b : ℕ). b == 1) (bit_at-zero k)
-
--- where a word of the assignment is 0, it has no 1 there
-pub no_ones : (trail : List Literal) (b : List Bool) (i count word : ℕ) → word ≡ 0 → ((k : ℕ) → k < 64 → at b (64 * i + k) ≡ has_bit word k) → HasOnesWithin trail b (64 * i) (min (64 * i + 64) count)
-no_ones trail b i count word zero bits k low high one =
-    let place : 64 * i + (k - 64 * i) ≡ k = omega arith in
-    let bit : at b (64 * i + (k - 64 * i)) ≡ has_bit word (k - 64 * i) = bits (k - 64 * i) (omega arith) in
-    let none : at b k ≡ false = sym (ap (λ (n : ℕ). at b n) place) ∙ bit ∙ ap (λ (n : ℕ). has_bit n (k - 64 * i)) zero ∙ zero_has_no_bit (k - 64 * i) in
-    absurd (not_both (at b k) one none)
 
 -- a bound above the best cost
 pub closed_above : (p : Problem) (s : EngineState) (bound : ℤ) (t : Solution) → IsEngineOf p s → IsLowerBound s.form s.rows s.trail bound → IsSolution p t → t.cost <ℤ bound → IsClosed p s (Some t)

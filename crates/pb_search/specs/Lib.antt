@@ -4,3 +4,4 @@ pub mod Done
 pub mod Paths
 pub mod Trees
 pub mod Layout
+pub mod Ones

@@ -17,8 +17,8 @@ pub struct Branch {
 /// Where to look on at a node. No answer depends on it, so nothing is promised of it.
 #[derive(Clone, Copy, Debug)]
 pub struct Hints {
-    /// How many places of the order of decisions were found to have values.
-    pub scanned: usize,
+    /// How many variables of the order of decisions were left, the others having values.
+    pub left: u32,
     /// How many variables, from the first on, were found to have the values of the best assignment.
     pub settled: u32,
     /// How many assignments had been borrowed by then.
@@ -29,7 +29,7 @@ impl Hints {
     /// The hints at the root: none.
     pub fn none() -> Hints {
         Hints {
-            scanned: 0,
+            left: u32::MAX,
             settled: 0,
             borrowed: 0,
         }

@@ -1,4 +1,4 @@
-//! What to decide next: an order of literals, and where to leave it.
+//! What to decide next: an order of variables, and where to leave it.
 
 ghost use Rattle.std.specs.Prelude.{◌≡◌, ◌≤◌, false, IsTrue, IfSome, IfNone, None};
 ghost use Rattle.pb_inst.specs.declared.TheConstants.{MAX_VARS};
@@ -6,6 +6,7 @@ ghost use Rattle.pb_engine.specs.Trail.{value_on};
 ghost use Rattle.pb_engine.specs.Soundness.{IsFull};
 
 use crate::branches::{Branch, Hints};
+use crate::orders::Order;
 use crate::outlooks::Outlook;
 use pb_engine::Engine;
 use pb_inst::{Lit, Number};
@@ -16,7 +17,7 @@ use pb_inst::{Lit, Number};
 pub fn next_decision(
     engine: &Engine<'_>,
     vars: u32,
-    order: &[Lit],
+    order: &mut Order,
     hints: Hints,
     outlook: Outlook,
     bound: Number,
@@ -76,11 +77,11 @@ fn tied_decision(
     None
 }
 
-/// The first literal of the order whose variable has no value, from the place on that the hints tell.
+/// The first literal of the order whose variable has no value. Those before it are passed over until the search steps back.
 fn ordered_decision(
     engine: &Engine<'_>,
     vars: u32,
-    order: &[Lit],
+    order: &mut Order,
     hints: Hints,
     bound: Number,
 ) -> Option<Branch>
@@ -88,11 +89,14 @@ fn ordered_decision(
     ensures free { IfSome result (λ b. (b.lit.var ≤ vars) × (value_on engine.now.trail b.lit.var ≡ None)) }
     ensures fresh { IfSome result (λ b. b.flipped ≡ false) }
 {
-    for scanned in hints.scanned..order.len() {
-        let lit = order[scanned];
+    order.return_to(hints.left.min(vars));
+    for _ in 0..vars {
+        let lit = order.first()?;
         if is_free(engine, vars, lit) {
-            return Some(decision(lit, bound, Hints { scanned, ..hints }));
+            let left = order.left();
+            return Some(decision(lit, bound, Hints { left, ..hints }));
         }
+        order.pass();
     }
     None
 }

@@ -1,13 +1,16 @@
 //! Full trails, and assignments that are borrowed.
 
-ghost use Rattle.std.specs.Prelude.{◌≡◌, ◌⊎◌, false, length, IsSomeAnd};
+ghost use Rattle.std.specs.Prelude.{◌≡◌, ◌⊎◌, false, List, length, IsSomeAnd};
+ghost use Rattle.pb_inst.specs.Literal.{Literal};
 ghost use Rattle.pb_inst.specs.Incumbent.{IsSound};
 ghost use Rattle.pb_engine.specs.Soundness.{IsFull, IsSolved, IsSoundTrail};
 ghost use Rattle.pb_search.specs.Held.{MovesOn};
+ghost use Rattle.pb_search.specs.Ones.{KnowsHeldOnes};
 ghost use Rattle.pb_search.specs.Solutions.{Completes};
 ghost use Rattle.pb_search.specs.Trees.{IsFilledFrom, IsClosed, IsEngineOf};
 
 use crate::Share;
+use crate::ones::Ones;
 use pb_engine::Engine;
 use pb_inst::{Assignment, Best, Number};
 
@@ -58,6 +61,7 @@ pub fn borrow<S: Share>(scratch: &mut Assignment, best: &mut Best<'_>, share: &m
     ensures moves_on { MovesOn best.old best.new }
     ensures sound { IsSound best.new }
     ensures own { S.lends share.old ≡ false → best.new ≡ best.old }
+    ensures refused { result ≡ false → best.new.held ≡ best.old.held }
     ensures kept { S.keeps share.old share.new }
     ensures same_lending { S.lends share.new ≡ S.lends share.old }
 {
@@ -66,4 +70,27 @@ pub fn borrow<S: Share>(scratch: &mut Assignment, best: &mut Best<'_>, share: &m
         return false;
     }
     best.take(scratch)
+}
+
+/// The same on the way: where the best assignment changes, what was known of its ones is forgotten.
+pub fn borrow_on_the_way<S: Share>(
+    scratch: &mut Assignment,
+    best: &mut Best<'_>,
+    share: &mut S,
+    ones: &mut Ones,
+) -> bool
+    requires room { length scratch.old ≡ best.old.problem.vars }
+    ensures same_length { length scratch.new ≡ length scratch.old }
+    ensures moves_on { MovesOn best.old best.new }
+    ensures sound { IsSound best.new }
+    ensures own { S.lends share.old ≡ false → best.new ≡ best.old }
+    ensures kept { S.keeps share.old share.new }
+    ensures same_lending { S.lends share.new ≡ S.lends share.old }
+    ensures known { (trail : List Literal) → KnowsHeldOnes trail best.old.held ones.old → KnowsHeldOnes trail best.new.held ones.new }
+{
+    let taken = borrow(scratch, best, share);
+    if taken {
+        *ones = Ones::none();
+    }
+    taken
 }

@@ -5,10 +5,13 @@
 mod branches;
 mod cubes;
 mod decisions;
+mod heap;
 mod leaves;
+mod ones;
 mod orders;
 mod outlooks;
 mod paths;
+mod scores;
 mod searches;
 mod shares;
 mod tables;
@@ -16,6 +19,7 @@ mod tables;
 mod tests;
 mod trees;
 mod visits;
+mod weights;
 
 pub use searches::Search;
 pub use shares::{Alone, Share};

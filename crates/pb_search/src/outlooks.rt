@@ -1,10 +1,12 @@
 //! Whether a subtree may be left.
 
-ghost use Rattle.std.specs.Prelude.{◌≡◌, ℕ, ◌+◌, ◌*◌, ◌-◌, ◌<◌, ◌≤◌, min, false, length, IsTrue, IfSome, None, ◌⊎◌, true};
+ghost use Rattle.std.specs.Prelude.{◌≡◌, false, length, IsTrue, ◌⊎◌, true};
 ghost use Rattle.pb_engine.specs.Completion.{IsLowerBound};
-ghost use Rattle.pb_search.specs.Trees.{DifferAt, HasOnesWithin, IsClosed, IsEngineOf, IsNotBefore};
+ghost use Rattle.pb_search.specs.Trees.{IsClosed, IsEngineOf, IsNotBefore};
+ghost use Rattle.pb_search.specs.Ones.{KnowsOnes, KnowsHeldOnes};
 
 use crate::branches::Branch;
+use crate::ones::Ones;
 use pb_engine::Engine;
 use pb_inst::{Assignment, Best, Number};
 
@@ -22,12 +24,13 @@ pub enum Outlook {
 
 /// Compares a bound of the trail's completions with the best cost. Where they are equal the order of assignments decides:
 /// with zeros elsewhere the trail is the first of its completions, so all come after the best assignment where that one
-/// does, or is the best one itself. The first `settled` variables are thought to have the values of the best assignment:
-/// where that is wrong, less subtrees are found closed.
-pub fn judge(engine: &Engine<'_>, bound: Number, best: &Best<'_>, settled: u32) -> Outlook
+/// does, or is the best one itself.
+pub fn judge(engine: &Engine<'_>, bound: Number, best: &Best<'_>, ones: &mut Ones) -> Outlook
     requires engine { IsEngineOf best.now.problem engine.now }
     requires bound { IsLowerBound engine.now.form engine.now.rows engine.now.trail bound }
+    requires known { KnowsHeldOnes engine.now.trail best.now.held ones.old }
     ensures closed { result ≡ Outlook.Closed → IsClosed best.now.problem engine.now best.now.held }
+    ensures known { KnowsHeldOnes engine.now.trail best.now.held ones.new }
 {
     let Some(cost) = best.cost() else {
         return Outlook::Open;
@@ -41,92 +44,38 @@ pub fn judge(engine: &Engine<'_>, bound: Number, best: &Best<'_>, settled: u32) 
     if bound > cost {
         return Outlook::Closed;
     }
-    judge_tie(engine, held, settled)
+    judge_tie(engine, held, ones)
 }
 
 /// The outlook where the bound equals the cost of this assignment.
-fn judge_tie(engine: &Engine<'_>, held: &Assignment, settled: u32) -> Outlook
+fn judge_tie(engine: &Engine<'_>, held: &Assignment, ones: &mut Ones) -> Outlook
     requires room { length held.now ≡ engine.now.vars }
+    requires known { KnowsOnes engine.now.trail held.now ones.old }
     ensures closed { result ≡ Outlook.Closed → IsNotBefore engine.now.trail held.now }
+    ensures known { KnowsOnes engine.now.trail held.now ones.new }
 {
-    let Some(var) = difference_from(engine, held, settled) else {
-        return closed_if(has_ones_below(engine, held, held.len()));
-    };
-    if held.get(var) {
-        return Outlook::Tied(var);
+    if ones.has_surplus(engine, held) {
+        return Outlook::Closed;
     }
-    closed_if(has_ones_below(engine, held, var))
-}
-
-/// Closed where that is known.
-fn closed_if(known: bool) -> Outlook
-    ensures { result ≡ Outlook.Closed → known ≡ true }
-{
-    if known {
-        Outlook::Closed
-    } else {
-        Outlook::Open
+    let count = ones.count_on(engine, held);
+    if count >= held.len() {
+        return Outlook::Closed;
     }
-}
-
-/// The first variable after the first `settled` ones where the trail, with zeros elsewhere, and the assignment differ.
-fn difference_from(engine: &Engine<'_>, held: &Assignment, settled: u32) -> Option<u32>
-    ensures differ { IfSome result (λ var. DifferAt engine.now.trail held.now var) }
-{
-    for place in settled..held.len() {
-        if held.get(place + 1) != engine.value(place + 1).unwrap_or(false) {
-            return Some(place + 1);
-        }
+    if held.get(count + 1) {
+        return Outlook::Tied(count + 1);
     }
-    None
-}
-
-/// Whether each of the first `count` variables that the assignment makes true is true by the trail.
-fn has_ones_below(engine: &Engine<'_>, held: &Assignment, count: u32) -> bool
-    requires within { count ≤ length held.now }
-    ensures { IsTrue result → HasOnesWithin engine.now.trail held.now 0 count }
-{
-    for i in 0..(count as usize + 63) / 64 {
-        if !has_ones_of(engine, held, i, count) {
-            return false;
-        }
-    }
-    true
-}
-
-/// The same, for the variables of the i-th word.
-fn has_ones_of(engine: &Engine<'_>, held: &Assignment, i: usize, count: u32) -> bool
-    requires within { count ≤ length held.now }
-    requires word { 64 * i < count }
-    ensures { IsTrue result → HasOnesWithin engine.now.trail held.now (64 * i) (min (64 * i + 64) count) }
-{
-    if held.word(i) == 0 {
-        return true;
-    }
-    let first = i as u32 * 64;
-    has_ones_between(engine, held, first, count.min(first.saturating_add(64)))
-}
-
-/// The same, for the variables after the first `from` up to the first `count`.
-fn has_ones_between(engine: &Engine<'_>, held: &Assignment, from: u32, count: u32) -> bool
-    requires within { count ≤ length held.now }
-    ensures { IsTrue result → HasOnesWithin engine.now.trail held.now from count }
-{
-    for place in from..count {
-        if held.get(place + 1) && engine.value(place + 1) != Some(true) {
-            return false;
-        }
-    }
-    true
+    Outlook::Closed
 }
 
 /// Whether nothing is left to try at a branch whose decision was taken back: both values were tried, or by now no
 /// completion of the trail before it comes before the best assignment.
-pub fn is_spent(engine: &mut Engine<'_>, branch: &Branch, best: &Best<'_>) -> bool
+pub fn is_spent(engine: &mut Engine<'_>, branch: &Branch, best: &Best<'_>, ones: &mut Ones) -> bool
     requires engine { IsEngineOf best.now.problem engine.old }
+    requires known { KnowsHeldOnes engine.old.trail best.now.held ones.old }
     ensures spent { IsTrue result → (branch.now.flipped ≡ true) ⊎ IsClosed best.now.problem engine.old best.now.held }
     ensures fresh { result ≡ false → branch.now.flipped ≡ false }
     ensures unchanged { engine.new ≡ engine.old }
+    ensures known { KnowsHeldOnes engine.old.trail best.now.held ones.new }
 {
     if branch.flipped {
         return true;
@@ -138,5 +87,5 @@ pub fn is_spent(engine: &mut Engine<'_>, branch: &Branch, best: &Best<'_>) -> bo
         return false;
     }
     let bound = engine.bound();
-    judge(engine, bound, best, u32::MAX) == Outlook::Closed
+    judge(engine, bound, best, ones) == Outlook::Closed
 }

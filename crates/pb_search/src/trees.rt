@@ -6,19 +6,19 @@ ghost use Rattle.pb_engine.specs.Clauses.{AreClausesOf};
 ghost use Rattle.pb_engine.specs.Tables.{AreBeside};
 
 use crate::branches::Branch;
-use crate::orders::literal_order;
+use crate::orders::Order;
 use pb_engine::{Clauses, Engine, Rows};
-use pb_inst::{Assignment, Cube, Lit, Memory};
+use pb_inst::{Assignment, Cube, Memory};
 use pb_normal::Normal;
 use std::alloc::Global;
 
-/// An engine, the decisions on its trail, room for one assignment, and the order in which literals are decided.
+/// An engine, the decisions on its trail, room for one assignment, and the order in which variables are decided.
 #[derive(Drop)]
 pub struct Tree<'a> {
     pub engine: Engine<'a>,
     pub branches: Vec<Branch>,
     pub candidate: Assignment,
-    pub order: Vec<Lit>,
+    pub order: Order,
 }
 
 impl<'a> Tree<'a> {
@@ -69,7 +69,7 @@ impl<'a> Tree<'a> {
             engine,
             branches: Vec::with_capacity(alloc, vars as usize)?,
             candidate: Assignment::new(alloc, vars)?,
-            order: literal_order(alloc, normal, negated)?,
+            order: Order::new(alloc, normal, negated)?,
         })
     }
 }

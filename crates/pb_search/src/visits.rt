@@ -6,12 +6,14 @@ ghost use Rattle.pb_engine.specs.EngineState.{EngineState};
 ghost use Rattle.pb_engine.specs.Soundness.{IsSoundTrail};
 ghost use Rattle.pb_search.specs.Held.{MovesOn, IsImprovement};
 ghost use Rattle.pb_search.specs.Solutions.{SameConstraints, Completes};
+ghost use Rattle.pb_search.specs.Ones.{KnowsHeldOnes};
 ghost use Rattle.pb_search.specs.Trees.{IsTreeOf, IsAtSomePath, IsFree, IsClosed, SameBranches, IsUnderWay, IsNext, LeavesFewer, IsSearched, IsOwn};
 
 use crate::Share;
 use crate::branches::{Branch, Hints};
 use crate::decisions::next_decision;
-use crate::leaves::{borrow, take_leaf};
+use crate::leaves::{borrow_on_the_way, take_leaf};
+use crate::ones::Ones;
 use crate::outlooks::{Outlook, judge};
 use crate::paths::{decide, retreat};
 use crate::trees::Tree;
@@ -27,9 +29,11 @@ fn visit<S: Share>(
     hints: Hints,
     best: &mut Best<'_>,
     share: &mut S,
+    ones: &mut Ones,
 ) -> Option<Branch>
     requires tree { IsTreeOf best.old.problem tree.old }
     requires sound { IsSoundTrail tree.old.engine }
+    requires known { KnowsHeldOnes tree.old.engine.trail best.old.held ones.old }
     ensures open { IfSome result (λ b. IsFree tree.new.engine b.lit) }
     ensures fresh { IfSome result (λ b. b.flipped ≡ false) }
     ensures closed { IfNone result (IsClosed best.old.problem tree.new.engine best.new.held) }
@@ -39,21 +43,25 @@ fn visit<S: Share>(
     ensures own { (best.new ≡ best.old) ⊎ IsSomeAnd best.new.held (λ s. Completes tree.new.engine s.assignment) }
     ensures kept { S.keeps share.old share.new }
     ensures same_lending { S.lends share.new ≡ S.lends share.old }
+    ensures known { KnowsHeldOnes tree.new.engine.trail best.new.held ones.new }
 {
     if tree.engine.conflict() {
         return None;
     }
     if tree.engine.propagate() == Step::Conflict {
+        tree.order.blame_conflict(&tree.engine);
         return None;
     }
     let bound = tree.engine.bound();
-    let outlook = judge(&tree.engine, bound, best, hints.settled);
+    let outlook = judge(&tree.engine, bound, best, ones);
     if outlook == Outlook::Closed {
         return None;
     }
     let vars = tree.candidate.len();
-    let Some(branch) = next_decision(&tree.engine, vars, &tree.order, hints, outlook, bound) else {
+    let Some(branch) = next_decision(&tree.engine, vars, &mut tree.order, hints, outlook, bound)
+    else {
         take_leaf(&tree.engine, &mut tree.candidate, best, share);
+        *ones = Ones::none();
         return None;
     };
     Some(branch)
@@ -65,9 +73,11 @@ fn next_branch<S: Share>(
     hints: Hints,
     best: &mut Best<'_>,
     share: &mut S,
+    ones: &mut Ones,
 ) -> Option<Branch>
     requires tree { IsTreeOf best.old.problem tree.old }
     requires at_path { IsAtSomePath tree.old.engine tree.old.branches.items }
+    requires known { KnowsHeldOnes tree.old.engine.trail best.old.held ones.old }
     ensures next { IfSome result (λ b. (start : EngineState) → IsUnderWay best.old.problem start tree.old best.old.held → IsNext best.old.problem start tree.new b best.new.held) }
     ensures fewer { IfSome result (λ b. LeavesFewer best.old.problem tree.old.branches.items tree.new.branches.items b) }
     ensures finished { IfNone result ((start : EngineState) → IsUnderWay best.old.problem start tree.old best.old.held → IsSearched best.old.problem start best.new.held) }
@@ -77,10 +87,11 @@ fn next_branch<S: Share>(
     ensures same_lending { S.lends share.new ≡ S.lends share.old }
     ensures made_for { IsTreeOf best.old.problem tree.new }
     ensures constraints { SameConstraints tree.old.engine tree.new.engine }
+    ensures known { KnowsHeldOnes tree.new.engine.trail best.new.held ones.new }
 {
-    match visit(tree, hints, best, share) {
+    match visit(tree, hints, best, share, ones) {
         Some(branch) => Some(branch),
-        None => retreat(tree, best),
+        None => retreat(tree, best, ones),
     }
 }
 
@@ -102,12 +113,13 @@ pub fn explore<S: Share>(tree: &mut Tree<'_>, best: &mut Best<'_>, share: &mut S
     let mut decisions = 0;
     let mut borrowed = 0u32;
     let mut hints = Hints::none();
-    while let Some(branch) = next_branch(tree, hints, best, share) {
+    let mut ones = Ones::none();
+    while let Some(branch) = next_branch(tree, hints, best, share, &mut ones) {
         decide(&mut tree.engine, &mut tree.branches, branch);
         hints = branch.hints_after(borrowed);
         decisions = (decisions + 1) % BORROW_INTERVAL;
         if decisions == 0 {
-            let taken = u32::from(borrow(&mut tree.candidate, best, share));
+            let taken = u32::from(borrow_on_the_way(&mut tree.candidate, best, share, &mut ones));
             borrowed = borrowed.wrapping_add(taken);
             hints = branch.hints_after(borrowed);
         }

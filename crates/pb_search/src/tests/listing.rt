@@ -87,6 +87,25 @@ impl Random {
         instance(rt, alloc, vars, &objective, &rows)
     }
 
+    /// Costs, and four clauses of three literals for each variable, so that many decisions end in a conflict.
+    fn clauses(&mut self, rt: &impl Abort, alloc: Global, vars: u32) -> Instance {
+        let objective = self.terms(rt, alloc, vars, vars);
+        let mut sums = Vec::new(alloc);
+        for _ in 0..vars.saturating_mul(4) {
+            let mut sum = Vec::new(alloc);
+            for _ in 0..3 {
+                sum.push((1, self.literal(vars))).expect(rt, "memory");
+            }
+            sums.push(sum).expect(rt, "memory");
+        }
+        let mut rows: Vec<Row<'_>> = Vec::new(alloc);
+        for sum in &sums {
+            rows.push((sum.as_slice(), Relation::AtLeast, 1))
+                .expect(rt, "memory");
+        }
+        instance(rt, alloc, vars, &objective, &rows)
+    }
+
     /// Some cubes: a split, or any lists of literals.
     fn cubes(&mut self, rt: &impl Abort, alloc: Global, instance: &Instance) -> Vec<Cube> {
         let vars = instance.vars();
@@ -178,4 +197,23 @@ fn a_search_finds_what_the_listing_gives(rt: HostRuntime) {
     }
     assert!(rt; feasible > 100);
     assert!(rt; feasible < 500);
+}
+
+#[test]
+fn conflicts_change_no_answer(rt: HostRuntime) {
+    let alloc = rt.alloc();
+    let mut random = Random { state: 11 };
+    for number in 0..40 {
+        let instance = random.clauses(&rt, alloc, 10);
+        let want = least(&rt, alloc, &instance);
+        let whole = found(&rt, alloc, &instance, Vec::new(alloc));
+        assert_eq!(rt;
+            whole.as_str(),
+            want.as_str(),
+            "clauses {number} as one piece"
+        );
+        let cubes = random.cubes(&rt, alloc, &instance);
+        let parts = found(&rt, alloc, &instance, cubes);
+        assert_eq!(rt; parts.as_str(), want.as_str(), "clauses {number} in pieces");
+    }
 }

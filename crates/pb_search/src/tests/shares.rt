@@ -198,3 +198,56 @@ fn assignments_handed_over_on_the_way(rt: HostRuntime) {
     assert!(rt; share.asked > 5);
     assert_eq!(rt; shown(&rt, alloc, &best).as_str(), want.as_str());
 }
+
+/// Of any three neighbours on a ring of 40 two are chosen, as few as can be. Turned round the ring costs the same, so what
+/// is handed over on the way may come before the best so far. Pairs that are there twice let the search begin elsewhere
+/// than the answer does.
+#[test]
+fn equal_costs_handed_over_on_the_way(rt: HostRuntime) {
+    let alloc = rt.alloc();
+    let mut costs: Vec<(Number, i32)> = Vec::new(alloc);
+    let mut pairs = Vec::new(alloc);
+    for place in 0..40i32 {
+        costs.push((1, place + 1)).expect(&rt, "memory");
+        for step in [1, 2] {
+            let other = (place + step) % 40 + 1;
+            pairs
+                .push([(1, place + 1), (1, other)])
+                .expect(&rt, "memory");
+        }
+    }
+    let mut rows: Vec<Row<'_>> = Vec::new(alloc);
+    for pair in &pairs {
+        rows.push((pair.as_slice(), Relation::AtLeast, 1))
+            .expect(&rt, "memory");
+    }
+    for pair in pairs.iter().skip(40) {
+        rows.push((pair.as_slice(), Relation::AtLeast, 1))
+            .expect(&rt, "memory");
+    }
+    let ring = instance(&rt, alloc, 40, &costs, &rows);
+    let pieces = Pieces::new(40, Vec::new(alloc)).expect(&rt, "pieces");
+    let mut lent = Vec::new(alloc);
+    for turn in 1..40u32 {
+        let mut turned = assignment(&rt, alloc, 40, &[]);
+        for place in 0..40u32 {
+            assert!(rt; place < turned.len());
+            let turned_back = (place + turn) % 40;
+            turned.set(place + 1, turned_back % 3 != 0 || turned_back == 39);
+        }
+        lent.push(turned).expect(&rt, "memory");
+    }
+    let mut share = InTurn::new(lent);
+    let mut best = nothing(&rt, alloc, &ring);
+    search_pieces(&rt, alloc, &ring, &pieces, 0, 1, &mut best, &mut share);
+    assert!(rt; share.asked > 5);
+    assert_eq!(rt; best.cost(), Some(27));
+    let held = best.assignment().expect(&rt, "an assignment");
+    for place in 0..held.len() {
+        assert_eq!(rt;
+            held.get(place + 1),
+            place % 3 != 0 || place == 39,
+            "variable {place} and one"
+        );
+    }
+}

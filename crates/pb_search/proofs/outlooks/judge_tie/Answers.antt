@@ -1,14 +1,20 @@
-use Rattle.std.proofs.Common.{sym, ◌∙◌, subst, ℕ}
+use Rattle.std.proofs.Common.{◌≡◌, ◌+◌, ◌-◌, ◌∙◌, arith, ap, sym, subst, ℕ, false, length}
 use Rattle.pb_search.specs.Trees.{HasOnesWithin}
-use Rattle.pb_search.proofs.LeafLemmas.{ones_not_before, later_not_before}
+use Rattle.pb_search.proofs.LeafLemmas.{at, ones_not_before, later_not_before}
+use Rattle.pb_search.proofs.OnesLemmas.{ones_to_zero}
 use Rattle.pb_search.proofs.outlooks.judge_tie.Goals as goal
 
-pub returns-in_default : goal.returns-in_default
-returns-in_default c = record {
-  closed = λ is. ones_not_before c.args.engine.now.trail c.args.held.now (subst (λ (n : ℕ). HasOnesWithin c.args.engine.now.trail c.args.held.now 0 n) c.len.ensures (c.has_ones_below.ensures (c.closed_if.ensures is)));
-}
+pub returns-then-has_surplus-clause-closed : goal.returns-then-has_surplus-clause-closed
+returns-then-has_surplus-clause-closed c _ = c.has_surplus.ensures.later c.if-has_surplus.true
 
-pub returns : goal.returns
-returns c = record {
-  closed = λ is. later_not_before c.args.engine.now.trail c.args.held.now c.in-Some.var c.in-Some.ensures.differ (sym c.get.ensures ∙ c.if-get.false) (c.has_ones_below-2.ensures (c.closed_if-2.ensures is));
-}
+pub returns-then-count-len-clause-closed : goal.returns-then-count-len-clause-closed
+returns-then-count-len-clause-closed c _ =
+    let all : c.count_on-count.result ≡ length c.args.held.now = omega arith in
+    ones_not_before c.args.engine.now.trail c.args.held.now (subst (λ (n : ℕ). HasOnesWithin c.args.engine.now.trail c.args.held.now 0 n) all c.count_on-count.ensures.ones)
+
+pub returns-clause-closed : goal.returns-clause-closed
+returns-clause-closed c _ =
+    let place : c.count_on-count.result + 1 - 1 ≡ c.count_on-count.result = omega arith in
+    let zero : at c.args.held.now (c.count_on-count.result + 1 - 1) ≡ false = sym c.get.ensures ∙ c.if-get.false in
+    later_not_before c.args.engine.now.trail c.args.held.now (c.count_on-count.result + 1) (c.count_on-count.ensures.differ (omega arith)) zero
+    (ones_to_zero c.args.engine.now.trail c.args.held.now c.count_on-count.result c.count_on-count.ensures.ones (ap (λ (n : ℕ). at c.args.held.now n) (sym place) ∙ zero))

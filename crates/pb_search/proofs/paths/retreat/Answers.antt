@@ -3,6 +3,7 @@ use Rattle.pb_engine.specs.EngineState.{EngineState}
 use Rattle.pb_search.specs.declared.branches.Branch.{Branch}
 use Rattle.pb_search.specs.declared.trees.Tree.{Tree}
 use Rattle.pb_search.specs.Paths.{steps_left}
+use Rattle.pb_search.specs.Ones.{KnowsHeldOnes}
 use Rattle.pb_search.specs.Trees.{IsClosed}
 use Rattle.pb_search.proofs.Engines.{same_constraints_onward}
 use Rattle.pb_search.proofs.Moves.{shortened_more}
@@ -34,4 +35,8 @@ loop-branch-preserved c =
       shortened = record { taken_back = c.in-Some.branch ∷ s.0; path = s.1 };
       constraints = same_constraints_onward c.args.tree.now.engine c.loop-branch.tree.engine u.engine c.loop-branch.invariant.constraints step.constraints;
       leaving = λ start h. leaving_on c.args.best.now.problem start c.loop-branch.tree u c.in-Some.branch c.args.best.now.held step spent (c.loop-branch.invariant.leaving start h);
+      known = subst (λ (e : EngineState). KnowsHeldOnes e.trail c.args.best.now.held c.is_spent.new.ones) (sym c.is_spent.ensures.unchanged) c.is_spent.ensures.known;
     }
+
+pub returns-then-not-is_spent-clause-known : goal.returns-then-not-is_spent-clause-known
+returns-then-not-is_spent-clause-known c = subst (λ (e : EngineState). KnowsHeldOnes e.trail c.args.best.now.held c.is_spent.new.ones) (sym c.is_spent.ensures.unchanged) c.is_spent.ensures.known

@@ -1,8 +1,9 @@
-use Rattle.std.proofs.Common.{◌≡◌, ◌∙◌, arith, refl, subst}
+use Rattle.std.proofs.Common.{◌≡◌, ◌∙◌, ◌∷◌, [], arith, refl, subst}
 use Rattle.pb_inst.specs.Problem.{Problem}
 use Rattle.pb_search.specs.Held.{IsNotAfter}
 use Rattle.pb_search.specs.declared.trees.Tree.{Tree}
 use Rattle.pb_search.specs.Trees.{IsUnderWay, IsNext, IsOwn, IsTreeOf}
+use Rattle.pb_search.proofs.OnesLemmas.{knows_longer}
 use Rattle.pb_search.proofs.HeldLemmas.{moves_onward, not_after_itself}
 use Rattle.pb_search.proofs.SearchLemmas.{goes_on, at_problem, own_onward, tree_moves}
 use Rattle.std.proofs.Common.{inl}
@@ -13,21 +14,22 @@ loop-branch-preserved-then-decisions-eq0 g c =
     let start = c.args.tree.now.engine in
     let same : c.loop-branch.best.problem ≡ c.args.best.now.problem = c.loop-branch.invariant.moves_on.same_instance in
     let now : c.next_branch.new.best.problem ≡ c.args.best.now.problem = c.next_branch.ensures.moves_on.same_instance ∙ same in
-    let u : Tree = record { engine = c.decide.new.engine; branches = c.decide.new.path; candidate = c.borrow.new.scratch; order = c.next_branch.new.tree.order } in
+    let u : Tree = record { engine = c.decide.new.engine; branches = c.decide.new.path; candidate = c.borrow_on_the_way.new.scratch; order = c.next_branch.new.tree.order } in
     let next : IsNext c.args.best.now.problem start c.next_branch.new.tree c.in-Some.branch c.next_branch.new.best.held =
     at_problem c.args.best.now.problem c.loop-branch.best.problem (λ p. IsUnderWay p start c.loop-branch.tree c.loop-branch.best.held) (λ p. IsNext p start c.next_branch.new.tree c.in-Some.branch c.next_branch.new.best.held) same (c.in-Some.ensures.next start) c.loop-branch.invariant.under_way in
     let found : IsOwn start c.loop-branch.best c.next_branch.new.best =
     at_problem c.args.best.now.problem c.loop-branch.best.problem (λ p. IsUnderWay p start c.loop-branch.tree c.loop-branch.best.held) (λ _. IsOwn start c.loop-branch.best c.next_branch.new.best) same (c.next_branch.ensures.own start) c.loop-branch.invariant.under_way in
-    let later : IsNotAfter c.args.best.now.problem c.next_branch.new.best.held c.borrow.new.best.held = subst (λ (p : Problem). IsNotAfter p c.next_branch.new.best.held c.borrow.new.best.held) now c.borrow.ensures.moves_on.not_after in
-    let made : IsTreeOf c.args.best.now.problem u = tree_moves c.args.best.now.problem c.next_branch.new.tree u c.decide.ensures.constraints c.decide.ensures.same_room c.borrow.ensures.same_length next.made_for in
+    let later : IsNotAfter c.args.best.now.problem c.next_branch.new.best.held c.borrow_on_the_way.new.best.held = subst (λ (p : Problem). IsNotAfter p c.next_branch.new.best.held c.borrow_on_the_way.new.best.held) now c.borrow_on_the_way.ensures.moves_on.not_after in
+    let made : IsTreeOf c.args.best.now.problem u = tree_moves c.args.best.now.problem c.next_branch.new.tree u c.decide.ensures.constraints c.decide.ensures.same_room c.borrow_on_the_way.ensures.same_length next.made_for in
     record {
-      under_way = goes_on c.args.best.now.problem start c.next_branch.new.tree u c.in-Some.branch c.next_branch.new.best.held c.borrow.new.best.held next later (c.decide.ensures.at_path _ next.at_path) c.decide.ensures.added c.decide.ensures.constraints made;
-      moves_on = moves_onward c.args.best.now c.loop-branch.best c.borrow.new.best c.loop-branch.invariant.moves_on (moves_onward c.loop-branch.best c.next_branch.new.best c.borrow.new.best c.next_branch.ensures.moves_on c.borrow.ensures.moves_on);
-      own = λ none. own_onward start c.args.best.now c.loop-branch.best c.borrow.new.best (c.loop-branch.invariant.own none)
-          (own_onward start c.loop-branch.best c.next_branch.new.best c.borrow.new.best found (inl (c.borrow.ensures.own (c.next_branch.ensures.same_lending ∙ c.loop-branch.invariant.same_lending ∙ none))));
-      kept = g.met.S.Share.keeps_onward _ _ _ c.loop-branch.invariant.kept (g.met.S.Share.keeps_onward _ _ _ c.next_branch.ensures.kept c.borrow.ensures.kept);
-      same_lending = c.borrow.ensures.same_lending ∙ c.next_branch.ensures.same_lending ∙ c.loop-branch.invariant.same_lending;
+      under_way = goes_on c.args.best.now.problem start c.next_branch.new.tree u c.in-Some.branch c.next_branch.new.best.held c.borrow_on_the_way.new.best.held next later (c.decide.ensures.at_path _ next.at_path) c.decide.ensures.added c.decide.ensures.constraints made;
+      moves_on = moves_onward c.args.best.now c.loop-branch.best c.borrow_on_the_way.new.best c.loop-branch.invariant.moves_on (moves_onward c.loop-branch.best c.next_branch.new.best c.borrow_on_the_way.new.best c.next_branch.ensures.moves_on c.borrow_on_the_way.ensures.moves_on);
+      own = λ none. own_onward start c.args.best.now c.loop-branch.best c.borrow_on_the_way.new.best (c.loop-branch.invariant.own none)
+          (own_onward start c.loop-branch.best c.next_branch.new.best c.borrow_on_the_way.new.best found (inl (c.borrow_on_the_way.ensures.own (c.next_branch.ensures.same_lending ∙ c.loop-branch.invariant.same_lending ∙ none))));
+      kept = g.met.S.Share.keeps_onward _ _ _ c.loop-branch.invariant.kept (g.met.S.Share.keeps_onward _ _ _ c.next_branch.ensures.kept c.borrow_on_the_way.ensures.kept);
+      same_lending = c.borrow_on_the_way.ensures.same_lending ∙ c.next_branch.ensures.same_lending ∙ c.loop-branch.invariant.same_lending;
       counted = omega arith;
+      known = c.borrow_on_the_way.ensures.known c.decide.new.engine.trail (knows_longer c.next_branch.new.tree.engine.trail c.decide.new.engine.trail (c.in-Some.branch.lit ∷ []) c.next_branch.new.best.held c.next_branch.new.ones c.decide.ensures.longer c.next_branch.ensures.known);
     }
 
 pub loop-branch-preserved : goal.loop-branch-preserved
@@ -47,6 +49,7 @@ loop-branch-preserved g c =
       kept = g.met.S.Share.keeps_onward _ _ _ c.loop-branch.invariant.kept c.next_branch.ensures.kept;
       same_lending = c.next_branch.ensures.same_lending ∙ c.loop-branch.invariant.same_lending;
       counted = omega arith;
+      known = knows_longer c.next_branch.new.tree.engine.trail c.decide.new.engine.trail (c.in-Some.branch.lit ∷ []) c.next_branch.new.best.held c.next_branch.new.ones c.decide.ensures.longer c.next_branch.ensures.known;
     }
 
 pub returns-clause-moves_on : goal.returns-clause-moves_on

@@ -1,5 +1,6 @@
 use Rattle.std.proofs.Common.{◌≡◌, ◌<◌, false}
 use Rattle.pb_search.specs.Held.{MovesOn}
+use Rattle.pb_search.specs.Ones.{KnowsHeldOnes}
 use Rattle.pb_search.specs.Trees.{IsUnderWay, IsOwn}
 use Rattle.pb_search.specs.Paths.{steps_left}
 use Rattle.pb_search.proofs.visits.explore.Given as goal
@@ -12,6 +13,7 @@ invariant-loop-branch g l = record {
   kept : g.S.Share.keeps l.fn.share l.share;
   same_lending : g.S.Share.lends l.share ≡ g.S.Share.lends l.fn.share;
   counted : l.decisions < 256;
+  known : KnowsHeldOnes l.tree.engine.trail l.best.held l.ones;
 }
 
 abbrev pub decreases-loop-branch : goal.decreases-loop-branch

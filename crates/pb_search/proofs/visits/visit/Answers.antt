@@ -1,7 +1,9 @@
-use Rattle.std.proofs.Common.{rules, ◌≡◌, ◌∙◌, refl, ap}
+use Rattle.std.proofs.Common.{rules, ◌≡◌, ◌∙◌, refl, ap, sym, subst}
 use Rattle.pb_engine.specs.EngineState.{EngineState, is_conflict}
 use Rattle.pb_engine.specs.declared.propagation.Step.TheVariants.{Conflict}
 use Rattle.pb_search.proofs.Engines.{same_constraints, propagated}
+use Rattle.pb_search.specs.Ones.{KnowsHeldOnes}
+use Rattle.pb_search.proofs.OnesLemmas.{knows_added}
 use Rattle.pb_search.proofs.SearchLemmas.{none_closed}
 use Rattle.pb_search.proofs.visits.visit.Goals as goal
 
@@ -46,3 +48,11 @@ returns-clause-same_branches g c = record {
   branches = refl;
   room = refl;
 }
+
+pub returns-then-eq-clause-known : goal.returns-then-eq-clause-known
+returns-then-eq-clause-known g c = knows_added c.args.tree.now.engine.rows c.args.tree.now.engine.trail c.propagate.new.self.trail c.args.best.now.held c.args.ones.now c.propagate.ensures.forced c.requires.known
+
+pub judge-outlook-requires-clause-known : goal.judge-outlook-requires-clause-known
+judge-outlook-requires-clause-known g c =
+    subst (λ (e : EngineState). KnowsHeldOnes e.trail c.args.best.now.held c.args.ones.now) (sym c.bound-bound.ensures.unchanged)
+    (knows_added c.args.tree.now.engine.rows c.args.tree.now.engine.trail c.propagate.new.self.trail c.args.best.now.held c.args.ones.now c.propagate.ensures.forced c.requires.known)
