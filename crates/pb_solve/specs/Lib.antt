@@ -11,4 +11,3 @@ pub mod Laws
 pub mod Parts
 pub mod Claims
 pub mod Sharing
-pub mod Forking

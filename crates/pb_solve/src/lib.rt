@@ -1,6 +1,7 @@
 //! The run of the optimiser, from the bytes that are read to the report that is written.
 #![tactic(auto)]
 
+mod crews;
 mod device;
 mod dividing;
 mod forking;

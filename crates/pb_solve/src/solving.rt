@@ -2,6 +2,7 @@
 ghost use Rattle.std.specs.Prelude.{◌≡◌, IfOk};
 ghost use Rattle.pb_solve.specs.Solving.{HoldsLeast};
 
+use crate::crews::SearchCrew;
 use crate::forking::fork;
 use crate::gates::Gate;
 use crate::gathering::gather;
@@ -9,6 +10,7 @@ use pb_board::Board;
 use pb_cubes::Pieces;
 use pb_inst::{Best, Instance, Memory, Workers};
 use pb_normal::normalise;
+use pb_search::SearchTables;
 use std::alloc::Global;
 use std::thread::Threads;
 use thiserror::Error;
@@ -44,11 +46,14 @@ pub fn solve<'i, R: Threads + Sync, G: Gate + Sync>(
 {
     let mut best = Best::none(alloc, inst)?;
     let normal = normalise(alloc, inst)?;
+    let tables = SearchTables::new(alloc, inst, &normal, pieces)?;
     let (board, seat) = Board::new(alloc, workers, inst.vars())?;
     // A call tells that there are at most 64 workers.
     let _workers = workers.get();
-    let (parts, seat) = fork(rt, alloc, inst, &normal, pieces, &board, seat, 0, gate)?;
-    board.close(seat);
+    let crew = SearchCrew::new(inst, pieces, &tables, &board, gate);
+    let (parts, seat) = fork(rt, alloc, &crew, seat, 0)?;
     gather(&mut best, &parts);
+    drop(parts);
+    board.close(seat);
     Ok(best)
 }

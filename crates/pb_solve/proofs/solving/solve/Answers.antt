@@ -8,7 +8,7 @@ use Rattle.pb_solve.proofs.solving.solve.Goals as goal
 
 pub returns-clause-least : goal.returns-clause-least
 returns-clause-least g c =
-    let whole : AreWhole c.args.pieces.now c.in_ok-parts.parts.items =
-    all_named c.args.inst.now c.args.pieces.now c.in_ok-parts.parts.items c.in_ok-parts.seat.claimed c.close.result.claims c.in_ok-parts.ensures.whole c.close.ensures.count c.close.ensures.numbers in
+    let whole : AreWhole c.new-crew.result.pieces.now c.in_ok-parts.parts.items =
+    all_named c.new-crew.result.inst.now c.new-crew.result.pieces.now c.in_ok-parts.parts.items c.in_ok-parts.seat.claimed c.close.result.claims c.in_ok-parts.ensures.whole c.close.ensures.count c.close.ensures.numbers in
     subst (λ (p : Problem). HoldsLeast p c.gather.new.into.held) (ap (λ (b : Incumbent). b.problem) c.in_ok-best.ensures)
-    (c.gather.ensures.least c.args.pieces.now (subst (λ (parts : List PartView). AreWhole c.args.pieces.now parts) (sym c.deref.ensures.value) whole))
+    (c.gather.ensures.least c.new-crew.result.pieces.now (subst (λ (parts : List PartView). AreWhole c.new-crew.result.pieces.now parts) (sym c.deref.ensures.value) whole))
