@@ -73,11 +73,11 @@ fn wide_counters_say_the_same(rt: HostRuntime) {
 
 #[test]
 fn wide_counters_say_the_same_of_great_sums(rt: HostRuntime) {
-    let half = 4_611_686_018_427_387_903;
+    let great = 3_000_000_000_000_000_000;
     let rows: &[(&[(Number, i32)], Number)] = &[
-        (&[(half, 1), (half, 2), (1, 3)], half),
-        (&[(half, -1), (half, 3)], 1),
+        (&[(great, 1), (great, 2), (1, 3)], great),
+        (&[(great, -1), (great, 3)], 1),
     ];
-    let costs: &[(Number, i32)] = &[(half, 1), (half, 2)];
+    let costs: &[(Number, i32)] = &[(great, 1), (great, 2)];
     compare(&rt, rt.alloc(), &form(&rt, rt.alloc(), 3, costs, rows));
 }
