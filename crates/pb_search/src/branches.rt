@@ -9,7 +9,8 @@ pub struct Branch {
     pub lit: Lit,
     /// Whether the other value was tried before it.
     pub flipped: bool,
-    /// The bound of the trail before the decision: no more than a hint of whether to ask the engine again.
+    /// The bound of the trail before the decision, or the least number where none was taken: no more than a hint of whether
+    /// to ask the engine again.
     pub bound: Number,
     pub hints: Hints,
 }

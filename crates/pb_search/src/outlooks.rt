@@ -22,10 +22,26 @@ pub enum Outlook {
     Closed,
 }
 
+/// The outlook below the trail, and the bound that it goes by. Where nothing is held there is nothing to compare a bound
+/// with, so none is taken, which would go through rows for nothing.
+pub fn look_ahead(engine: &mut Engine<'_>, best: &Best<'_>, ones: &mut Ones) -> (Outlook, Number)
+    requires engine { IsEngineOf best.now.problem engine.old }
+    requires known { KnowsHeldOnes engine.old.trail best.now.held ones.old }
+    ensures closed { result.0 ≡ Outlook.Closed → IsClosed best.now.problem engine.old best.now.held }
+    ensures unchanged { engine.new ≡ engine.old }
+    ensures known { KnowsHeldOnes engine.old.trail best.now.held ones.new }
+{
+    if best.cost().is_none() {
+        return (Outlook::Open, Number::MIN);
+    }
+    let bound = engine.bound();
+    (judge(engine, bound, best, ones), bound)
+}
+
 /// Compares a bound of the trail's completions with the best cost. Where they are equal the order of assignments decides:
 /// with zeros elsewhere the trail is the first of its completions, so all come after the best assignment where that one
 /// does, or is the best one itself.
-pub fn judge(engine: &Engine<'_>, bound: Number, best: &Best<'_>, ones: &mut Ones) -> Outlook
+fn judge(engine: &Engine<'_>, bound: Number, best: &Best<'_>, ones: &mut Ones) -> Outlook
     requires engine { IsEngineOf best.now.problem engine.now }
     requires bound { IsLowerBound engine.now.form engine.now.rows engine.now.trail bound }
     requires known { KnowsHeldOnes engine.now.trail best.now.held ones.old }
@@ -86,6 +102,5 @@ pub fn is_spent(engine: &mut Engine<'_>, branch: &Branch, best: &Best<'_>, ones:
     if branch.bound < cost {
         return false;
     }
-    let bound = engine.bound();
-    judge(engine, bound, best, ones) == Outlook::Closed
+    look_ahead(engine, best, ones).0 == Outlook::Closed
 }

@@ -14,7 +14,7 @@ use crate::branches::{Branch, Hints};
 use crate::decisions::next_decision;
 use crate::leaves::{borrow_on_the_way, take_leaf};
 use crate::ones::Ones;
-use crate::outlooks::{Outlook, judge};
+use crate::outlooks::{Outlook, look_ahead};
 use crate::paths::{decide, retreat};
 use crate::trees::Tree;
 use pb_engine::Step;
@@ -52,8 +52,7 @@ fn visit<S: Share>(
         tree.order.blame_conflict(&tree.engine);
         return None;
     }
-    let bound = tree.engine.bound();
-    let outlook = judge(&tree.engine, bound, best, ones);
+    let (outlook, bound) = look_ahead(&mut tree.engine, best, ones);
     if outlook == Outlook::Closed {
         return None;
     }

@@ -1,10 +1,9 @@
-use Rattle.std.proofs.Common.{rules, ◌≡◌, ◌∙◌, refl, ap, sym, subst}
+use Rattle.std.proofs.Common.{rules, ◌≡◌, ◌∙◌, refl, ap}
 use Rattle.pb_engine.specs.EngineState.{EngineState, is_conflict}
 use Rattle.pb_engine.specs.declared.propagation.Step.TheVariants.{Conflict}
 use Rattle.pb_search.proofs.Engines.{same_constraints, propagated}
-use Rattle.pb_search.specs.Ones.{KnowsHeldOnes}
 use Rattle.pb_search.proofs.OnesLemmas.{knows_added}
-use Rattle.pb_search.proofs.SearchLemmas.{none_closed}
+use Rattle.pb_search.proofs.SearchLemmas.{none_closed, same_engine}
 use Rattle.pb_search.proofs.visits.visit.Goals as goal
 
 pub returns-then-conflict-clause-closed : goal.returns-then-conflict-clause-closed
@@ -27,24 +26,24 @@ returns-then-eq-clause-same_branches g c = record {
 
 pub returns-then-eq-2-clause-same_branches : goal.returns-then-eq-2-clause-same_branches
 returns-then-eq-2-clause-same_branches g c = record {
-  constraints = same_constraints c.args.tree.now.engine c.bound-bound.new.self c.propagate.new.self.trail c.args.tree.now.engine.levels (is_conflict c.propagate.result) (c.bound-bound.ensures.unchanged ∙ c.propagate.ensures.added);
-  assumptions = propagated c.args.tree.now.engine c.bound-bound.new.self c.propagate.new.self.trail (is_conflict c.propagate.result) c.requires.sound (c.bound-bound.ensures.unchanged ∙ c.propagate.ensures.added) c.propagate.ensures.forced;
+  constraints = same_constraints c.args.tree.now.engine c.look_ahead-outlook.new.engine c.propagate.new.self.trail c.args.tree.now.engine.levels (is_conflict c.propagate.result) (c.look_ahead-outlook.ensures.unchanged ∙ c.propagate.ensures.added);
+  assumptions = propagated c.args.tree.now.engine c.look_ahead-outlook.new.engine c.propagate.new.self.trail (is_conflict c.propagate.result) c.requires.sound (c.look_ahead-outlook.ensures.unchanged ∙ c.propagate.ensures.added) c.propagate.ensures.forced;
   branches = refl;
   room = refl;
 }
 
 pub returns-in_default-clause-same_branches : goal.returns-in_default-clause-same_branches
 returns-in_default-clause-same_branches g c = record {
-  constraints = same_constraints c.args.tree.now.engine c.bound-bound.new.self c.propagate.new.self.trail c.args.tree.now.engine.levels (is_conflict c.propagate.result) (c.bound-bound.ensures.unchanged ∙ c.propagate.ensures.added);
-  assumptions = propagated c.args.tree.now.engine c.bound-bound.new.self c.propagate.new.self.trail (is_conflict c.propagate.result) c.requires.sound (c.bound-bound.ensures.unchanged ∙ c.propagate.ensures.added) c.propagate.ensures.forced;
+  constraints = same_constraints c.args.tree.now.engine c.look_ahead-outlook.new.engine c.propagate.new.self.trail c.args.tree.now.engine.levels (is_conflict c.propagate.result) (c.look_ahead-outlook.ensures.unchanged ∙ c.propagate.ensures.added);
+  assumptions = propagated c.args.tree.now.engine c.look_ahead-outlook.new.engine c.propagate.new.self.trail (is_conflict c.propagate.result) c.requires.sound (c.look_ahead-outlook.ensures.unchanged ∙ c.propagate.ensures.added) c.propagate.ensures.forced;
   branches = refl;
   room = c.take_leaf.ensures.same_length;
 }
 
 pub returns-clause-same_branches : goal.returns-clause-same_branches
 returns-clause-same_branches g c = record {
-  constraints = same_constraints c.args.tree.now.engine c.bound-bound.new.self c.propagate.new.self.trail c.args.tree.now.engine.levels (is_conflict c.propagate.result) (c.bound-bound.ensures.unchanged ∙ c.propagate.ensures.added);
-  assumptions = propagated c.args.tree.now.engine c.bound-bound.new.self c.propagate.new.self.trail (is_conflict c.propagate.result) c.requires.sound (c.bound-bound.ensures.unchanged ∙ c.propagate.ensures.added) c.propagate.ensures.forced;
+  constraints = same_constraints c.args.tree.now.engine c.look_ahead-outlook.new.engine c.propagate.new.self.trail c.args.tree.now.engine.levels (is_conflict c.propagate.result) (c.look_ahead-outlook.ensures.unchanged ∙ c.propagate.ensures.added);
+  assumptions = propagated c.args.tree.now.engine c.look_ahead-outlook.new.engine c.propagate.new.self.trail (is_conflict c.propagate.result) c.requires.sound (c.look_ahead-outlook.ensures.unchanged ∙ c.propagate.ensures.added) c.propagate.ensures.forced;
   branches = refl;
   room = refl;
 }
@@ -52,7 +51,17 @@ returns-clause-same_branches g c = record {
 pub returns-then-eq-clause-known : goal.returns-then-eq-clause-known
 returns-then-eq-clause-known g c = knows_added c.args.tree.now.engine.rows c.args.tree.now.engine.trail c.propagate.new.self.trail c.args.best.now.held c.args.ones.now c.propagate.ensures.forced c.requires.known
 
-pub judge-outlook-requires-clause-known : goal.judge-outlook-requires-clause-known
-judge-outlook-requires-clause-known g c =
-    subst (λ (e : EngineState). KnowsHeldOnes e.trail c.args.best.now.held c.args.ones.now) (sym c.bound-bound.ensures.unchanged)
-    (knows_added c.args.tree.now.engine.rows c.args.tree.now.engine.trail c.propagate.new.self.trail c.args.best.now.held c.args.ones.now c.propagate.ensures.forced c.requires.known)
+pub look_ahead-outlook-requires-clause-known : goal.look_ahead-outlook-requires-clause-known
+look_ahead-outlook-requires-clause-known g c = knows_added c.args.tree.now.engine.rows c.args.tree.now.engine.trail c.propagate.new.self.trail c.args.best.now.held c.args.ones.now c.propagate.ensures.forced c.requires.known
+
+pub look_ahead-outlook-requires-clause-engine : goal.look_ahead-outlook-requires-clause-engine
+look_ahead-outlook-requires-clause-engine g c =
+    same_engine c.args.best.now.problem c.args.tree.now.engine c.propagate.new.self
+    (same_constraints c.args.tree.now.engine c.propagate.new.self c.propagate.new.self.trail c.args.tree.now.engine.levels (is_conflict c.propagate.result) c.propagate.ensures.added)
+    c.requires.tree.engine
+
+pub take_leaf-requires-clause-engine : goal.take_leaf-requires-clause-engine
+take_leaf-requires-clause-engine g c =
+    same_engine c.args.best.now.problem c.args.tree.now.engine c.look_ahead-outlook.new.engine
+    (same_constraints c.args.tree.now.engine c.look_ahead-outlook.new.engine c.propagate.new.self.trail c.args.tree.now.engine.levels (is_conflict c.propagate.result) (c.look_ahead-outlook.ensures.unchanged ∙ c.propagate.ensures.added))
+    c.requires.tree.engine
