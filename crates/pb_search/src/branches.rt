@@ -20,10 +20,8 @@ pub struct Branch {
 pub struct Hints {
     /// How many variables of the order of decisions were left, the others having values.
     pub left: u32,
-    /// How many variables, from the first on, were found to have the values of the best assignment.
+    /// How many variables, from the first on, were found to have values.
     pub settled: u32,
-    /// How many assignments had been borrowed by then.
-    pub borrowed: u32,
 }
 
 impl Hints {
@@ -32,20 +30,6 @@ impl Hints {
         Hints {
             left: u32::MAX,
             settled: 0,
-            borrowed: 0,
         }
-    }
-}
-
-impl Branch {
-    /// What is left of the hints after so many borrowed assignments. One that was borrowed since may have other values
-    /// than the trail. What the search itself finds has those of the trail below each decision that still stands.
-    pub fn hints_after(&self, borrowed: u32) -> Hints {
-        let mut hints = self.hints;
-        if hints.borrowed != borrowed {
-            hints.settled = 0;
-            hints.borrowed = borrowed;
-        }
-        hints
     }
 }

@@ -1,6 +1,6 @@
 //! What to decide next: an order of variables, and where to leave it.
 
-ghost use Rattle.std.specs.Prelude.{◌≡◌, ◌≤◌, false, IsTrue, IfSome, IfNone, None};
+ghost use Rattle.std.specs.Prelude.{◌≡◌, ◌≢◌, ◌≤◌, ◌<◌, ◌+◌, ℕ, false, IsTrue, IfSome, IfNone, None};
 ghost use Rattle.pb_inst.specs.declared.TheConstants.{MAX_VARS};
 ghost use Rattle.pb_engine.specs.Trail.{value_on};
 ghost use Rattle.pb_engine.specs.Soundness.{IsFull};
@@ -28,8 +28,16 @@ pub fn next_decision(
     ensures fresh { IfSome result (λ b. b.flipped ≡ false) }
     ensures full { IfNone result (IsFull engine.now) }
 {
-    if let Some(branch) = tied_decision(engine, vars, hints, outlook, bound) {
-        return Some(branch);
+    let end = match outlook {
+        Outlook::Tied(var) => var.min(vars),
+        _ => 0,
+    };
+    let settled = settled_from(engine, hints.settled, end);
+    let hints = Hints { settled, ..hints };
+    if settled < end
+        && let Ok(lit) = Lit::new(settled + 1, false)
+    {
+        return Some(decision(lit, bound, hints));
     }
     if let Some(branch) = ordered_decision(engine, vars, order, hints, bound) {
         return Some(branch);
@@ -49,32 +57,6 @@ fn decision(lit: Lit, bound: Number, hints: Hints) -> Branch
         bound,
         hints,
     }
-}
-
-/// Where the bound equals the best cost: the negated lowest variable without a value, up to the first difference.
-fn tied_decision(
-    engine: &Engine<'_>,
-    vars: u32,
-    hints: Hints,
-    outlook: Outlook,
-    bound: Number,
-) -> Option<Branch>
-    requires variables { vars ≡ engine.now.vars }
-    requires few { vars ≤ MAX_VARS }
-    ensures free { IfSome result (λ b. (b.lit.var ≤ vars) × (value_on engine.now.trail b.lit.var ≡ None)) }
-    ensures fresh { IfSome result (λ b. b.flipped ≡ false) }
-{
-    let Outlook::Tied(var) = outlook else {
-        return None;
-    };
-    for place in hints.settled..var.min(vars) {
-        if engine.value(place + 1).is_none() {
-            let lit = Lit::new(place + 1, false).ok()?;
-            let settled = place;
-            return Some(decision(lit, bound, Hints { settled, ..hints }));
-        }
-    }
-    None
 }
 
 /// The first literal of the order whose variable has no value. Those before it are passed over until the search steps back.
@@ -119,10 +101,25 @@ fn lowest_free(engine: &Engine<'_>, count: u32) -> Option<Lit>
     ensures free { IfSome result (λ l. (l.var ≤ count) × (value_on engine.now.trail l.var ≡ None)) }
     ensures full { IfNone result (count ≡ engine.now.vars → IsFull engine.now) }
 {
-    for place in 0..count {
+    let settled = settled_from(engine, 0, count);
+    if settled == count {
+        return None;
+    }
+    Lit::new(settled + 1, false).ok()
+}
+
+/// How many variables come before the first one, after the first `from`, that has no value; where none of the first `end`
+/// is without one, `end` or `from`.
+fn settled_from(engine: &Engine<'_>, from: u32, end: u32) -> u32
+    requires variables { end ≤ engine.now.vars }
+    ensures free { result < end → value_on engine.now.trail (result + 1) ≡ None }
+    ensures settled { (k : ℕ) → from ≤ k → k < result → value_on engine.now.trail (k + 1) ≢ None }
+    ensures within { (from ≤ end → result ≤ end) × (from ≤ result) }
+{
+    for place in from..end {
         if engine.value(place + 1).is_none() {
-            return Lit::new(place + 1, false).ok();
+            return place;
         }
     }
-    None
+    from.max(end)
 }

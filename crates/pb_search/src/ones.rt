@@ -41,6 +41,10 @@ impl Ones {
     {
         let from = self.seen;
         self.seen = engine.trail_len();
+        // Before the first variable there is none that the trail could have beyond the assignment.
+        if self.count == 0 {
+            return false;
+        }
         if is_surplus(engine, held, self.count, self.surplus) {
             return true;
         }

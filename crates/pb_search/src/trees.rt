@@ -5,7 +5,7 @@ ghost use Rattle.pb_normal.specs.NormalForm.{PositiveRow};
 ghost use Rattle.pb_engine.specs.Clauses.{AreClausesOf};
 ghost use Rattle.pb_engine.specs.Tables.{AreBeside};
 
-use crate::branches::Branch;
+use crate::branches::{Branch, Hints};
 use crate::orders::Order;
 use pb_engine::{Clauses, Engine, Rows};
 use pb_inst::{Assignment, Cube, Memory};
@@ -71,5 +71,13 @@ impl<'a> Tree<'a> {
             candidate: Assignment::new(alloc, vars)?,
             order: Order::new(alloc, normal, negated)?,
         })
+    }
+
+    /// Where to look on below the last decision.
+    pub fn hints(&self) -> Hints {
+        match self.branches.last() {
+            Some(branch) => branch.hints,
+            None => Hints::none(),
+        }
     }
 }

@@ -10,7 +10,7 @@ ghost use Rattle.pb_search.specs.Ones.{KnowsHeldOnes};
 ghost use Rattle.pb_search.specs.Trees.{IsTreeOf, IsAtSomePath, IsFree, IsClosed, SameBranches, IsUnderWay, IsNext, LeavesFewer, IsSearched, IsOwn};
 
 use crate::Share;
-use crate::branches::{Branch, Hints};
+use crate::branches::Branch;
 use crate::decisions::next_decision;
 use crate::leaves::{borrow_on_the_way, take_leaf};
 use crate::ones::Ones;
@@ -26,7 +26,6 @@ const BORROW_INTERVAL: u32 = 256;
 /// Propagates. Gives the decision to make next, or none where no completion of the trail is before what is held.
 fn visit<S: Share>(
     tree: &mut Tree<'_>,
-    hints: Hints,
     best: &mut Best<'_>,
     share: &mut S,
     ones: &mut Ones,
@@ -56,7 +55,7 @@ fn visit<S: Share>(
     if outlook == Outlook::Closed {
         return None;
     }
-    let vars = tree.candidate.len();
+    let (vars, hints) = (tree.candidate.len(), tree.hints());
     let Some(branch) = next_decision(&tree.engine, vars, &mut tree.order, hints, outlook, bound)
     else {
         take_leaf(&tree.engine, &mut tree.candidate, best, share);
@@ -69,7 +68,6 @@ fn visit<S: Share>(
 /// Visits where the search stands. Gives the decision to make next, or none where the search is finished.
 fn next_branch<S: Share>(
     tree: &mut Tree<'_>,
-    hints: Hints,
     best: &mut Best<'_>,
     share: &mut S,
     ones: &mut Ones,
@@ -88,7 +86,7 @@ fn next_branch<S: Share>(
     ensures constraints { SameConstraints tree.old.engine tree.new.engine }
     ensures known { KnowsHeldOnes tree.new.engine.trail best.new.held ones.new }
 {
-    match visit(tree, hints, best, share, ones) {
+    match visit(tree, best, share, ones) {
         Some(branch) => Some(branch),
         None => retreat(tree, best, ones),
     }
@@ -110,17 +108,12 @@ pub fn explore<S: Share>(tree: &mut Tree<'_>, best: &mut Best<'_>, share: &mut S
     ensures constraints { SameConstraints tree.old.engine tree.new.engine }
 {
     let mut decisions = 0;
-    let mut borrowed = 0u32;
-    let mut hints = Hints::none();
     let mut ones = Ones::none();
-    while let Some(branch) = next_branch(tree, hints, best, share, &mut ones) {
+    while let Some(branch) = next_branch(tree, best, share, &mut ones) {
         decide(&mut tree.engine, &mut tree.branches, branch);
-        hints = branch.hints_after(borrowed);
         decisions = (decisions + 1) % BORROW_INTERVAL;
         if decisions == 0 {
-            let taken = u32::from(borrow_on_the_way(&mut tree.candidate, best, share, &mut ones));
-            borrowed = borrowed.wrapping_add(taken);
-            hints = branch.hints_after(borrowed);
+            borrow_on_the_way(&mut tree.candidate, best, share, &mut ones);
         }
     }
 }

@@ -2,7 +2,7 @@ use Rattle.std.proofs.Common.{◌≡◌, ◌≢◌, ◌+◌, ◌-◌, arith, sub
 use Rattle.pb_engine.specs.Trail.{value_on}
 use Rattle.pb_search.proofs.decisions.lowest_free.Goals as goal
 
-pub returns-clause-full : goal.returns-clause-full
-returns-clause-full c whole var low high =
+pub returns-then-settled-count-clause-full : goal.returns-then-settled-count-clause-full
+returns-then-settled-count-clause-full c whole var low high =
     let e : var - 1 + 1 ≡ var = omega arith in
-    subst (λ (n : ℕ). value_on c.args.engine.now.trail n ≢ None) e (c.loop-place.invariant (var - 1) (omega arith))
+    subst (λ (n : ℕ). value_on c.args.engine.now.trail n ≢ None) e (c.settled_from-settled.ensures.settled (var - 1) (omega arith) (omega arith))
