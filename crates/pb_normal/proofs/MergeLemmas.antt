@@ -176,28 +176,6 @@ add_negative old new t u k shift less coef var sign adds is =
       positive = λ n h none within. adds.positive n h (subst (λ (v : ℕ). NoneAfter v old) (sym var) none) (subst (λ (v : ℕ). (1 ≤ v) × (v ≤ n)) (sym var) within);
     })
 
-positive_part : (c : ℤ) (new k old v : ℕ) → pos 0 ≤ℤ c → new + k ≡ old + unsigned_abs c * v → pos new +ℤ pos k ≡ pos old +ℤ (c *ℤ pos v)
-positive_part (pos n) new k old v less h = ap (λ (s : ℕ). pos s) h
-positive_part (negsuc m) new k old v less h = absurd (omega (arith, ints))
-
-pub add_nonnegative : (old new : List PositiveTerm) (t : Term) (u : PositiveTerm) (k : ℕ) (shift : ℤ) → pos 0 ≤ℤ t.coef → u.coef ≡ unsigned_abs t.coef → u.lit ≡ t.lit → AddsPositive old u k new → shift ≡ pos k → AddsTerm old t shift new
-add_nonnegative old new t u k shift less coef lit adds is =
-    let var = ap (λ (l : Literal). l.var) lit in
-    let total : total_coefficient new + k ≤ total_coefficient old + unsigned_abs t.coef = (let h = adds.total in omega arith) in
-    let small : k ≤ unsigned_abs t.coef = (let h = adds.small in omega arith) in
-    rw is (record {
-      count = adds.count;
-      value = λ a.
-          (let sum : positive_value a new + k ≡ positive_value a old + unsigned_abs t.coef * literal_value a u.lit = adds.value a ∙ ap (λ (c : ℕ). positive_value a old + c * literal_value a u.lit) coef in
-          let at : positive_value a new + k ≡ positive_value a old + unsigned_abs t.coef * literal_value a t.lit = sum ∙ ap (λ (l : Literal). positive_value a old + unsigned_abs t.coef * literal_value a l) lit in
-          positive_part t.coef (positive_value a new) k (positive_value a old) (literal_value a t.lit) less at);
-      highest = omega (arith, ints);
-      total = omega arith;
-      small = omega arith;
-      none_after = λ h. subst (λ (v : ℕ). NoneAfter v new) var (adds.none_after (subst (λ (v : ℕ). NoneAfter v old) (sym var) h));
-      positive = λ n h none within. adds.positive n h (subst (λ (v : ℕ). NoneAfter v old) (sym var) none) (subst (λ (v : ℕ). (1 ≤ v) × (v ≤ n)) (sym var) within);
-    })
-
 -- what holds after the first i of the sorted terms
 pub record MergesTo (terms : List Term) (i : ℕ) (base : ℤ) (merged : List PositiveTerm) : Type 0 where
   pub value : HasValueOf (take i terms) base merged
@@ -233,13 +211,6 @@ merge_step terms i t base shift next old new sorted less is before adds step =
           let at : t.lit.var ≡ (get_or terms i d).lit.var = ap (λ (u : Term). u.lit.var) (get_or_read terms i t less is d) in
           All-weaker (λ (u : PositiveTerm). u.lit.var ≤ t.lit.var) (λ (u : PositiveTerm). u.lit.var ≤ (get_or terms k d).lit.var) (λ u h. omega arith) new (adds.none_after none));
     })
-
-pub merge_none : (terms : List Term) (base : ℤ) (merged : List PositiveTerm) → base ≡ pos 0 → merged ≡ [] → MergesTo terms 0 base merged
-merge_none terms base merged nought empty = rw (nought, empty) (record {
-  value = record { value = λ a. refl; lowest = omega arith; total = omega arith; highest = omega (arith, ints); count = omega arith };
-  positive = λ n _. record { coefficients = All-nil HasCoefficient; variables = All-nil (IsWithin n); rising = λ i j d _ none. absurd (omega arith) };
-  none_after = λ k d _ _. All-nil (λ (u : PositiveTerm). u.lit.var ≤ (get_or terms k d).lit.var);
-})
 
 -- one more literal is negated in place
 pub negate_step : (xs ys : List PositiveTerm) (i : ℕ) (t : PositiveTerm) (l : Literal) → i < length xs → ys ≡ map opposite (take i xs) ++ drop i xs → t ≡ get_or ys i t → l.var ≡ (get_or ys i t).lit.var → l.positive ≡ not (get_or ys i t).lit.positive → set ys i (record { coef = (get_or ys i t).coef; lit = l }) ≡ map opposite (take (i + 1) xs) ++ drop (i + 1) xs

@@ -51,14 +51,6 @@ total_coefficient-clipped degree (t ∷ terms) =
     let cut = sum_by-cons (λ (u : PositiveTerm). u.coef) (clipped degree t) (map (clipped degree) terms) in
     omega arith
 
-pub total_coefficient-opposite : (terms : List PositiveTerm) → total_coefficient (map opposite terms) ≡ total_coefficient terms
-total_coefficient-opposite [] = refl
-total_coefficient-opposite (t ∷ terms) =
-    let rest = total_coefficient-opposite terms in
-    let here = sum_by-cons (λ (u : PositiveTerm). u.coef) t terms in
-    let turned = sum_by-cons (λ (u : PositiveTerm). u.coef) (opposite t) (map opposite terms) in
-    omega arith
-
 both_signs : (c v w : ℕ) → v + w ≡ 1 → c * v + c * w ≡ c
 both_signs c zero w one = let at : w ≡ 1 = omega arith in rw at (omega arith)
 both_signs c (suc zero) w one = let at : w ≡ 0 = omega arith in rw at (omega arith)
