@@ -1,5 +1,5 @@
 -- Clauses line by line.
-use Rattle.std.proofs.Common.{◌≡◌, ℕ, refl, sym, ap, subst, ◌∙◌, List, [], ◌∷◌, ◌++◌, Bool, true, false, not, append_assoc, Option}
+use Rattle.std.proofs.Common.{◌≡◌, ℕ, refl, sym, ap, subst, ◌∙◌, List, [], ◌∷◌, ◌++◌, Bool, false, not, append_assoc, Option}
 use Rattle.std.proofs.lemmas.List.{append-nil}
 use Rattle.std.proofs.lemmas.Grind.{flat_map-append}
 use Rattle.std.proofs.lemmas.Bool.{not_from_false}
@@ -42,10 +42,3 @@ clause_first left rest line number first none = ap clause_part first ∙ first_k
 
 pub cubes_later : (left rest : List (Placed (List ℕ))) (line : List ℕ) (number : ℕ) → left ≡ at line number ∷ rest → is_cube_line line ≡ false → cube_part left ≡ cube_part rest
 cubes_later left rest line number first none = ap cube_part first ∙ rw none refl
-
--- the first cube line
-pub clauses_end : (left rest : List (Placed (List ℕ))) (line : List ℕ) (number : ℕ) → left ≡ at line number ∷ rest → is_cube_line line ≡ true → clause_part left ≡ []
-clauses_end left rest line number first cube = ap clause_part first ∙ rw cube refl
-
-pub cubes_first : (left rest : List (Placed (List ℕ))) (line : List ℕ) (number : ℕ) → left ≡ at line number ∷ rest → is_cube_line line ≡ true → cube_part left ≡ at line number ∷ rest
-cubes_first left rest line number first cube = ap cube_part first ∙ rw cube refl

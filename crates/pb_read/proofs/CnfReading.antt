@@ -26,9 +26,6 @@ use Rattle.pb_read.proofs.CnfLaws.{spells}
 abbrev pub fault : ReadKind → ℕ → ReadFault
 fault k l = record { kind = k; line = l }
 
-pub no_header : (text : List ℕ) → content text ≡ [] → cnf_refusal text ≡ Some (fault BadHeader (last_line (clause_lines text)))
-no_header text e = ap (refusal_of_content (last_line (clause_lines text))) e
-
 -- the header that the code reads, where its numbers are within the limits
 pub header_is : (o : Option Header) (x : code.Header) → option_map capped_header o ≡ Some x → x.vars ≤ MAX_VARS → x.clauses ≤ MAX_CONSTRAINTS → o ≡ Some (record { vars = x.vars; clauses = x.clauses })
 header_is None x e v c = absurd cc

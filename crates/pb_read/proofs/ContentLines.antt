@@ -31,10 +31,6 @@ before_end l = not (is_marked 37 l.item)
 pub line_kept : (n : ℕ) (line : List ℕ) (rest : List (List ℕ)) → is_marked 37 line ≡ false → lines_from n (line ∷ rest) ≡ at line n ∷ lines_from (n + 1) rest
 line_kept n line rest h = first_kept before_end (at line n) (numbered (n + 1) rest) (not_from_false (is_marked 37 line) h)
 
--- the text ends at a `%` line
-pub ends_here : (n : ℕ) (line : List ℕ) (rest : List (List ℕ)) → is_marked 37 line ≡ true → lines_from n (line ∷ rest) ≡ []
-ends_here n line rest h = rw h refl
-
 -- a line without content
 pub passes_over : (n : ℕ) (line : List ℕ) (rest : List (List ℕ)) → is_marked 37 line ≡ false → not (is_marked 99 line || list_all is_blank line) ≡ false → content_from n (line ∷ rest) ≡ content_from (n + 1) rest
 passes_over n line rest h k = ap content_of (line_kept n line rest h) ∙ rw k refl

@@ -25,9 +25,6 @@ use Rattle.pb_read.proofs.Following.{greatest_more}
 use Rattle.pb_read.proofs.CnfReading.{fault}
 use Rattle.pb_read.proofs.IcnfLaws.{spells}
 
-pub no_header : (text : List ℕ) → content text ≡ [] → icnf_refusal text ≡ Some (fault BadHeader (last_line (clause_lines text)))
-no_header text e = ap (refusal_of_content (last_line (clause_lines text))) e
-
 abbrev top : ℕ → List Literal → ℕ
 top n ls = fold (λ (n : ℕ) (l : Literal). max n l.var) n ls
 

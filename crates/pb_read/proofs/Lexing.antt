@@ -1,6 +1,5 @@
 -- Runs at the front of a list.
-use Rattle.std.proofs.Common.{◌≡◌, ℕ, zero, suc, ◌+◌, ◌-◌, ◌<◌, ◌≤◌, refl, List, [], ◌∷◌, Bool, true, false, length, get_or, take, drop, arith, add-one, inl, inr}
-use Rattle.std.proofs.lemmas.Bool.{cases_lt}
+use Rattle.std.proofs.Common.{◌≡◌, ℕ, zero, suc, ◌+◌, ◌-◌, ◌<◌, ◌≤◌, refl, List, [], ◌∷◌, Bool, true, false, length, get_or, take, drop, arith, add-one}
 use Rattle.pb_read.specs.Runs.{runs}
 
 -- the first run of a list is its first bytes that belong together, as long as that goes
@@ -27,14 +26,3 @@ runs_at together xs zero positive within each ends = absurd (omega arith)
 runs_at together xs (suc m) positive within each ends =
     let less : suc m - 1 ≡ m = omega arith in
     first_run together xs m (omega arith) (λ k lt. rw add-one at (each k (omega arith))) (λ lt. rw less at (ends lt))
-
--- one more byte of the same run
-pub together_more : (together : ℕ → ℕ → Bool) (xs : List ℕ) (n : ℕ) → 0 < n
-    → ((k : ℕ) → k + 1 < n → together (get_or xs k 0) (get_or xs (k + 1) 0) ≡ true)
-    → together (get_or xs (n - 1) 0) (get_or xs n 0) ≡ true
-    → (k : ℕ) → k + 1 < n + 1 → together (get_or xs k 0) (get_or xs (k + 1) 0) ≡ true
-together_more together xs n positive each last k lt =
-    elim (cases_lt (k + 1) n) [
-      | inl below ↦ each k below
-      | inr above ↦ let e : n - 1 ≡ k = omega arith in let f : n ≡ k + 1 = omega arith in rw (← f) (rw (← e) last)
-    ]

@@ -173,9 +173,6 @@ all_literals (Some ts) cs = omega (arith, sum_by-cons (count_by is_literal) (obj
 
 -- ---- indices
 
-larger : ℕ → Term → ℕ
-larger n t = max n t.lit.var
-
 each_below : (a : ℕ) (ts : List Term) → (a ≤ fold (λ (n : ℕ) (t : Term). max n t.lit.var) a ts) × AllByRecursion (λ (t : Term). t.lit.var ≤ fold (λ (n : ℕ) (t : Term). max n t.lit.var) a ts) ts
 each_below a [] = (omega arith, tt)
 each_below a (t ∷ ts) = let r = each_below (max a t.lit.var) ts in (omega (arith, r.0), (omega (arith, r.0), r.1))

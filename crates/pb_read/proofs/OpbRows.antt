@@ -1,5 +1,5 @@
 -- What the definitions say of worked texts.
-use Rattle.std.proofs.Common.{◌≡◌, ℕ, refl, List, [], ◌∷◌, ◌++◌, Option, Some, None, codes, map, true, false, pos, ℤ, replicate}
+use Rattle.std.proofs.Common.{◌≡◌, ℕ, refl, List, [], ◌∷◌, ◌++◌, Option, Some, None, codes, map, true, pos, ℤ, replicate}
 use Rattle.pb_read.specs.declared.fault.ReadKind.TheVariants.{NonLinear, TooLarge, TooMany}
 use Rattle.pb_read.specs.declared.fault.ReadKind.{ReadKind}
 use Rattle.pb_read.specs.declared.fault.ReadFault.{ReadFault}
@@ -17,12 +17,9 @@ at kind n = Some (record { kind = kind; line = n })
 abbrev lf : List ℕ
 lf = 10 ∷ []
 
--- a term of a variable, and of its negation
+-- a term of a variable
 abbrev t : ℤ → ℕ → Term
 t c v = record { coef = c; lit = record { positive = true; var = v } }
-
-abbrev nt : ℤ → ℕ → Term
-nt c v = record { coef = c; lit = record { positive = false; var = v } }
 
 -- not refused, and spells the instance
 abbrev Reads : List ℕ → Problem → Type 0

@@ -158,9 +158,6 @@ or_false : (b : Bool) → (b || false) ≡ b
 or_false true = refl
 or_false false = refl
 
-shape_of : List Token → Bool
-shape_of s = is_objective s || is_constraint s
-
 at_start : (t : Token) (ts : List Token) → has_shape (t ∷ ts) ≡ from (next_place Start t) ts
 unfolding from rest_shape
 at_start Min ts = ap (λ s. is_objective s || is_constraint s) (stays Min refl ts) ∙ or_false (are_terms_and_end (without_products ts))

@@ -207,9 +207,6 @@ same_bytes (x ∷ xs) (y ∷ ys) h =
     let p = and_parts (eqb x y) (pointwise eqb xs ys) h in
     ap (λ (n : ℕ). n ∷ xs) (eqb-true x y p.0) ∙ ap (λ (l : List ℕ). y ∷ l) (same_bytes xs ys p.1)
 
-nil_is : (text : List ℕ) → pointwise eqb [] text ≡ true → text ≡ []
-nil_is text h = sym (same_bytes [] text h)
-
 -- what the front of the word is, the bytes begin with
 front_begins : (after text : List ℕ) → word_front after ≡ text → take (length text) after ≡ text
 front_begins [] text e = ap (λ (t : List ℕ). take (length t) []) (sym e) ∙ e

@@ -40,8 +40,3 @@ word_at xs n positive within each ends =
     runs_at same_word xs n positive within (λ k lt. both (is_blank (get_or xs k 0)) (is_blank (get_or xs (k + 1) 0)) (each k (omega arith)) (each (k + 1) lt)) (λ lt. second (is_blank (get_or xs (n - 1) 0)) (is_blank (get_or xs n 0)) (ends lt)) in
     let word = first_kept xs n (omega arith) positive (each 0 positive) in
     ap (filter (λ (w : List ℕ). not (first_is is_blank w))) cut ∙ rw word refl
-
--- the first byte is no blank
-pub begins : (xs : List ℕ) → 0 < length xs → first_is is_blank xs ≡ false → is_blank (get_or xs 0 0) ≡ false
-begins [] some h = absurd (omega arith)
-begins (x ∷ xs) some h = h
