@@ -117,7 +117,7 @@ fn good_literal(token: Token) -> Option<Lit>
 {
     match token {
         Token::Literal { positive, var } => {
-            if var == 0 || var > Magnitude::from(MAX_VARS) {
+            if has_bad_index(token) {
                 return None;
             }
             Lit::new(var as u32, positive).ok()

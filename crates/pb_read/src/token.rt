@@ -17,7 +17,7 @@ const ROOMY: u64 = 100_000_000_000_000_000;
 
 /// A token, in which a number or an index over `GREATEST_READ` is `GREATEST_READ`.
 #[derive(Clone, Copy, Debug, PartialEq, Eq)]
-pub enum Token {
+pub(crate) enum Token {
     End,
     Min,
     Related(Relation),

@@ -10,7 +10,7 @@ use pb_inst::Magnitude;
 
 /// A word, in which an index over `GREATEST_READ` is `GREATEST_READ`.
 #[derive(Clone, Copy, Debug, PartialEq, Eq)]
-pub enum Word {
+pub(crate) enum Word {
     Literal { positive: bool, var: Magnitude },
     Zero,
     Bad,
