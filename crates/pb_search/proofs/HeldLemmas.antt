@@ -29,9 +29,6 @@ not_after_onward p (Some a) (Some b) (Some c) (inl h) (inr k) = inr (subst (λ (
 not_after_onward p (Some a) (Some b) (Some c) (inr h) (inl k) = inr (subst (λ (x : Solution). IsBefore p x.assignment a.assignment) (sym k) h)
 not_after_onward p (Some a) (Some b) (Some c) (inr h) (inr k) = inr (before_is_transitive p c.assignment b.assignment a.assignment k h)
 
-pub stays_held : (i : Incumbent) → MovesOn i i
-stays_held i = record { same_instance = refl; sound = λ h. h; not_after = not_after_itself i.problem i.held }
-
 pub moves_onward : (x y z : Incumbent) → MovesOn x y → MovesOn y z → MovesOn x z
 moves_onward x y z h k = record {
   same_instance = k.same_instance ∙ h.same_instance;

@@ -1,6 +1,6 @@
 -- Full trails, and subtrees that may be left.
 use Rattle.std.proofs.Common.{◌≡◌, ◌≢◌, ℕ, ◌+◌, ◌-◌, ◌≤◌, List, length, refl, sym, ◌∙◌, ap, subst, arith, Bool, true, false, cond, inl, inr, ◌⊎◌, Option, None, Some}
-use Rattle.std.specs.Prelude.{slice_index_or, unwrap_or, ℤ, ◌<ℤ◌, ◌≤ℤ◌, IsSomeAnd}
+use Rattle.std.specs.Prelude.{slice_index_or, unwrap_or, ℤ, ◌≤ℤ◌, IsSomeAnd}
 use Rattle.std.specs.Option.{option_map}
 use Rattle.std.proofs.lemmas.List.{ext_get_or}
 use Rattle.std.proofs.Math.ListN.{get_or-eq_default}
@@ -128,18 +128,6 @@ later_not_before trail b var there zero_there ones a all h =
       | inl lt ↦ not_both (at a h.place) (true_within trail a all h.place (ones h.place (omega arith) lt h.second_has_one)) h.first_has_zero
       | inr rest ↦ not_both (at b (var - 1)) (sym (h.same_before (var - 1) (omega arith)) ∙ one_in) zero_there
     ]
-
--- a bound above the best cost
-pub closed_above : (p : Problem) (s : EngineState) (bound : ℤ) (t : Solution) → IsEngineOf p s → IsLowerBound s.form s.rows s.trail bound → IsSolution p t → t.cost <ℤ bound → IsClosed p s (Some t)
-closed_above p s bound t engine low sound over a h (inl less) =
-    let at_most : bound ≤ℤ normal_cost s.form a = low.below_costs a (record { makes_true = h.makes_true; meets_rows = h.solution.meets_rows }) in
-    let same : normal_cost s.form a ≡ cost p a = engine.costs a in
-    let is : t.cost ≡ cost p t.assignment = sound.cost_is in omega (arith, ints)
-closed_above p s bound t engine low sound over a h (inr equal) =
-    let at_most : bound ≤ℤ normal_cost s.form a = low.below_costs a (record { makes_true = h.makes_true; meets_rows = h.solution.meets_rows }) in
-    let same : normal_cost s.form a ≡ cost p a = engine.costs a in
-    let is : t.cost ≡ cost p t.assignment = sound.cost_is in
-    let tie : cost p a ≡ cost p t.assignment = equal.0 in omega (arith, ints)
 
 -- a bound equal to the best cost, and a trail none of whose completions comes before the best
 pub closed_at_tie : (p : Problem) (s : EngineState) (bound : ℤ) (t : Solution) → IsEngineOf p s → IsLowerBound s.form s.rows s.trail bound → IsSolution p t → t.cost ≤ℤ bound → IsNotBefore s.trail t.assignment → IsClosed p s (Some t)

@@ -1,6 +1,6 @@
 -- Decisions and retreats keep the trail and the path together.
 use Rattle.std.proofs.Common.{◌≡◌, ℕ, ◌+◌, ◌-◌, ◌<◌, ◌≤◌, List, [], ◌∷◌, ◌++◌, length, take, refl, sym, ◌∙◌, ap, subst, arith, suc, Bool, false, All, append_assoc, length-append}
-use Rattle.std.proofs.lemmas.List.{map-append, length-map, append-nil}
+use Rattle.std.proofs.lemmas.List.{map-append, length-map}
 use Rattle.std.proofs.lemmas.List.Elements.{All-nil, All-cons, All-append}
 use Rattle.pb_inst.specs.Literal.{Literal}
 use Rattle.pb_engine.specs.Trail.{value_on}
@@ -88,9 +88,6 @@ popped_back root s t old path b count popped is shorter sound at =
 pub record IsShortened (old new : List Branch) : Type 0 where
   pub taken_back : List Branch
   pub path : old ≡ new ++ taken_back
-
-pub shortened_none : (path : List Branch) → IsShortened path path
-shortened_none path = record { taken_back = []; path = sym (append-nil path) }
 
 pub shortened_more : (old path new : List Branch) (b : Branch) → IsShortened old path → path ≡ new ++ b ∷ [] → (rest : List Branch) × (old ≡ new ++ b ∷ rest)
 shortened_more old path new b h popped = (h.taken_back, h.path ∙ ap (λ (x : List Branch). x ++ h.taken_back) popped ∙ append_assoc new (b ∷ []) h.taken_back)

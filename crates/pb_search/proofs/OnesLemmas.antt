@@ -3,7 +3,7 @@ use Rattle.std.proofs.Common.{◌≡◌, ℕ, ◌+◌, ◌-◌, ◌<◌, ◌≤�
 use Rattle.std.specs.Prelude.{unwrap_or}
 use Rattle.std.specs.Option.{option_map}
 use Rattle.std.proofs.lemmas.Bool.{cases_eq, cases_lt}
-use Rattle.std.proofs.lemmas.List.{take_more, take-append-le, take-append-drop, take-take, take_all, length-take}
+use Rattle.std.proofs.lemmas.List.{take_more, take-append-le, take-append-drop, take_all}
 use Rattle.std.proofs.lemmas.List.Folds.{list_any-append}
 use Rattle.pb_inst.specs.Literal.{Literal}
 use Rattle.pb_inst.specs.Incumbent.{Solution}
@@ -19,10 +19,6 @@ use Rattle.pb_search.specs.Ones.{KnowsOnes, KnowsHeldOnes}
 use Rattle.pb_search.specs.Trees.{HasOnesWithin, IsNotBefore, bit_on}
 use Rattle.pb_search.proofs.Engines.{value_is}
 use Rattle.pb_search.proofs.LeafLemmas.{at, later_not_before}
-
-pub knows_none : (trail : List Literal) (held : Option Solution) (o : Ones) → o.seen ≡ 0 → o.count ≡ 0 → KnowsHeldOnes trail held o
-knows_none trail None o none e = tt
-knows_none trail (Some s) o none e = record { seen = omega arith; count = omega arith; ones = λ k low high one. absurd (omega arith) }
 
 -- what is held is this assignment
 pub knows_of : (trail : List Literal) (held : Option Solution) (a : List Bool) (o : Ones) → option_map (λ (s : Solution). s.assignment) held ≡ Some a → KnowsHeldOnes trail held o → KnowsOnes trail a o
@@ -45,15 +41,6 @@ knows_longer old new more held o grown h = subst (λ (t : List Literal). KnowsHe
 
 pub knows_added : (rows : List PositiveRow) (old new : List Literal) (held : Option Solution) (o : Ones) → AddsForced rows old new → KnowsHeldOnes old held o → KnowsHeldOnes new held o
 knows_added rows old new held o added h = knows_front old new held o (λ low. (omega (arith, length-AddsForced rows old new added), kept_front rows old new o.seen added low)) h
-
-pub knows_cut : (longer trail : List Literal) (n : ℕ) (held : Option Solution) (o : Ones) → trail ≡ take n longer → o.seen ≤ length trail → KnowsHeldOnes longer held o → KnowsHeldOnes trail held o
-knows_cut longer trail n held o is low h = knows_front longer trail held o (λ _. (low, ap (λ (t : List Literal). take o.seen t) is ∙ taken)) h
-  where
-    few : length trail ≤ n
-    few = omega (arith, ap length is, length-take n longer)
-
-    taken : take o.seen (take n longer) ≡ take o.seen longer
-    taken = take-take o.seen n longer (omega (arith, few))
 
 -- what is true by some first literals is true by all
 true_by_all : (n : ℕ) (trail : List Literal) (v : ℕ) → value_on (take n trail) v ≡ Some true → value_on trail v ≡ Some true

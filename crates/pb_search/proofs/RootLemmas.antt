@@ -114,10 +114,6 @@ rest_inside : (d : Division) (i : ℕ) (s : EngineState) (o : Option Solution) �
 rest_inside d i s None rows is h = h
 rest_inside d i s (Some r) rows is h = inr (is, ((rows r.assignment).0 h.solution.meets_rows).1)
 
-cube_inside : (d : Division) (i : ℕ) (s : EngineState) (cube : List Literal) (o : Option Solution) → slice_get d.cubes i ≡ Some cube → IsSomeAnd o (λ r. SatisfiesUnder s cube r.assignment) → IsSomeAnd o (λ r. LiesIn d.cubes i r.assignment)
-cube_inside d i s cube None is h = h
-cube_inside d i s cube (Some r) is h = inl (subst (λ (x : Option (List Literal)). IsSomeAnd x (λ c. MakesTrue r.assignment c)) (sym is) h.makes_true)
-
 -- a piece is done once no candidate improves on what is held
 done_from : (d : Division) (i : ℕ) (held : Option Solution) → IfSome held (λ s. IsSolution d.problem s) → ((a : List Bool) → IsCandidate d i a → ¬ IsImprovement d.problem a held) → IsDone d i held
 done_from d i None sound none = λ a h. none a h tt
@@ -163,7 +159,3 @@ rest_done p d i s new e f vars rows is sound none =
 pub rest_own : (d : Division) (i : ℕ) (s : EngineState) (old new : Incumbent) → AreRestRows d s → i ≡ length d.cubes → (new ≡ old) ⊎ IsSomeAnd new.held (λ r. SatisfiesUnder s [] r.assignment) → (new ≡ old) ⊎ IsSomeAnd new.held (λ r. LiesIn d.cubes i r.assignment)
 rest_own d i s old new rows is (inl same) = inl same
 rest_own d i s old new rows is (inr found) = inr (rest_inside d i s new.held rows is found)
-
-pub cube_own : (d : Division) (i : ℕ) (s : EngineState) (cube : List Literal) (old new : Incumbent) → slice_get d.cubes i ≡ Some cube → (new ≡ old) ⊎ IsSomeAnd new.held (λ r. SatisfiesUnder s cube r.assignment) → (new ≡ old) ⊎ IsSomeAnd new.held (λ r. LiesIn d.cubes i r.assignment)
-cube_own d i s cube old new is (inl same) = inl same
-cube_own d i s cube old new is (inr found) = inr (cube_inside d i s cube new.held is found)

@@ -19,7 +19,7 @@ use Rattle.pb_search.specs.Layout.{IsLaidOut}
 use Rattle.pb_search.specs.Held.{IsNotAfter}
 use Rattle.pb_search.specs.Paths.{decided, LiesOpen, LeavesOpen, IsOtherValue}
 use Rattle.pb_search.specs.Solutions.{SameConstraints, Satisfies, SatisfiesUnder, Completes}
-use Rattle.pb_search.specs.Trees.{IsEngineOf, IsTreeOf, IsAtPath, IsFree, IsClosed, SameBranches, IsUnderWay, IsLeaving, IsNext, IsSearched, IsOwn}
+use Rattle.pb_search.specs.Trees.{IsEngineOf, IsTreeOf, IsAtPath, IsFree, IsClosed, SameBranches, IsUnderWay, IsLeaving, IsNext, IsOwn}
 use Rattle.pb_search.proofs.HeldLemmas.{improvement_on_earlier}
 use Rattle.pb_search.proofs.PathLemmas.{decide_keeps, leaves_open, leaves_last, turn_keeps}
 use Rattle.pb_search.proofs.Engines.{same_constraints_onward, same_constraints_itself}
@@ -167,10 +167,6 @@ turn_next p start t u b next held step other h = record {
   all_open = λ a below better. turn_keeps a u.branches.items b next other (subst (λ (x : List Branch). LeavesOpen a x) step.popped (h.all_leave a below better));
 }
 
--- no decision is left
-pub nothing_leaves : (p : Problem) (start : EngineState) (t : Tree) (held : Option Solution) → t.branches.items ≡ [] → IsLeaving p start t held → IsSearched p start held
-nothing_leaves p start t held empty h a below better = subst (λ (x : List Branch). LeavesOpen a x) empty (h.all_leave a below better)
-
 -- what a visit found lies below the start
 pub visit_own : (p : Problem) (start : EngineState) (t u : Tree) (old new : Incumbent) → SameBranches t u → IsSoundTrail u.engine → (new ≡ old) ⊎ IsSomeAnd new.held (λ s. Completes u.engine s.assignment) → IsUnderWay p start t old.held → IsOwn start old new
 visit_own p start t u old new same sound (inl is) h = inl is
@@ -229,13 +225,4 @@ rest_laid_out p pieces cube rest new h made same = record {
   rest_tree = made;
   cube_rows = h.cube_rows;
   rest_rows = subst (λ (rows : List PositiveRow). (a : List Bool) → MeetsRows a rows ↔ (IsFeasible p a × All (λ c. MakesFalse a c) pieces.cubes)) (sym same.rows) h.rest_rows;
-}
-
-pub cube_laid_out : (p : Problem) (pieces : CubeList) (cube rest new : Tree) → IsLaidOut p pieces cube rest → IsTreeOf p new → SameConstraints cube.engine new.engine → IsLaidOut p pieces new rest
-cube_laid_out p pieces cube rest new h made same = record {
-  vars = h.vars;
-  cube_tree = made;
-  rest_tree = h.rest_tree;
-  cube_rows = subst (λ (rows : List PositiveRow). (a : List Bool) → IsFeasible p a → MeetsRows a rows) (sym same.rows) h.cube_rows;
-  rest_rows = h.rest_rows;
 }
