@@ -23,7 +23,7 @@ use pb_normal::PositiveTerm;
 use std::alloc::Global;
 
 /// 2^63: what a row lacks that needs nothing more.
-pub const MET: Magnitude = 9_223_372_036_854_775_808;
+const MET: Magnitude = 9_223_372_036_854_775_808;
 
 /// What the first literals of a trail pay, and what each row lacks after them: 2^63 more than its degree less what it has at
 /// no cost, since it may have more than its degree. Rows that lack more than 2^63 stand in a set.

@@ -23,7 +23,7 @@ pub enum Step {
 }
 
 /// Puts the literals that the row forces on the trail, or finds that the row can't be met any more.
-pub fn look_at<C: Count>(slacks: &mut Slacks<'_, C>, row: usize) -> Step
+fn look_at<C: Count>(slacks: &mut Slacks<'_, C>, row: usize) -> Step
     requires { row < length slacks.old.rows }
     ensures same_rows { slacks.new ≡ record slacks.old { trail = slacks.new.trail } }
     ensures forced { AddsForced slacks.old.rows slacks.old.trail slacks.new.trail }
@@ -102,7 +102,7 @@ pub fn propagate_all<C: Count>(slacks: &mut Slacks<'_, C>, settled_until: Option
 }
 
 /// Looks at every row.
-pub fn look_at_all<C: Count>(slacks: &mut Slacks<'_, C>) -> Step
+fn look_at_all<C: Count>(slacks: &mut Slacks<'_, C>) -> Step
     ensures same_rows { slacks.new ≡ record slacks.old { trail = slacks.new.trail } }
     ensures forced { AddsForced slacks.old.rows slacks.old.trail slacks.new.trail }
     ensures settled { result ≡ Step.Fixed → (r head : ℕ) → r < length slacks.old.rows → head ≤ length slacks.old.trail → IsSettledFrom head slacks.new.trail (row_at slacks.old.rows r) }
@@ -117,7 +117,7 @@ pub fn look_at_all<C: Count>(slacks: &mut Slacks<'_, C>) -> Step
 }
 
 /// Looks at every row in which the literal occurs.
-pub fn look_at_occurrences<C: Count>(slacks: &mut Slacks<'_, C>, lit: Lit) -> Step
+fn look_at_occurrences<C: Count>(slacks: &mut Slacks<'_, C>, lit: Lit) -> Step
     requires { lit.var ≤ slacks.old.vars }
     ensures same_rows { slacks.new ≡ record slacks.old { trail = slacks.new.trail } }
     ensures forced { AddsForced slacks.old.rows slacks.old.trail slacks.new.trail }
@@ -168,7 +168,7 @@ fn look_at_clauses<C: Count>(slacks: &mut Slacks<'_, C>, lit: Lit) -> Step
 }
 
 /// Looks at the rows that the literals from `start` on touch, and at those that their own literals touch in turn.
-pub fn propagate_from<C: Count>(slacks: &mut Slacks<'_, C>, start: usize) -> Step
+fn propagate_from<C: Count>(slacks: &mut Slacks<'_, C>, start: usize) -> Step
     requires within { start ≤ length slacks.old.trail }
     requires settled { (r : ℕ) → r < length slacks.old.rows → IsSettledFrom start slacks.old.trail (row_at slacks.old.rows r) }
     ensures same_rows { slacks.new ≡ record slacks.old { trail = slacks.new.trail } }

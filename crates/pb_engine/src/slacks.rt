@@ -243,7 +243,7 @@ impl<'a, C: Count> Slacks<'a, C> {
     }
 
     /// Takes the last literal off the trail.
-    pub fn pop(&mut self)
+    fn pop(&mut self)
         ensures { self.new ≡ record self.old { trail = take (length self.old.trail - 1) self.old.trail } }
     {
         if let Some(lit) = self.trail.pop() {
