@@ -1,7 +1,8 @@
 //! Lists of literals kept flat: one list of literals, and where each list lies in it.
 
-ghost use Rattle.std.specs.Prelude.{◌≡◌, ◌+◌, ◌^◌, ◌<◌, ◌≤◌, [], ◌∷◌, ◌++◌, length, slice_index_or, slice_range, All, OnOk, OnErr};
+ghost use Rattle.std.specs.Prelude.{◌≡◌, ◌+◌, ◌^◌, ◌<◌, ◌≤◌, [], ◌∷◌, ◌++◌, length, slice_index_or, All, OnOk, OnErr};
 
+use crate::index::part;
 use pb_inst::{Lit, Memory};
 use std::alloc::Global;
 use std::marker::Model;
@@ -71,13 +72,4 @@ impl LiteralLists {
         self.spans.push_reserved(LiteralSpan { start, end });
         Ok(())
     }
-}
-
-/// The literals from `start` up to `end`.
-fn part(lits: &[Lit], start: usize, end: usize) -> &[Lit]
-    requires ordered { start ≤ end }
-    requires within { end ≤ length lits.now }
-    ensures { result.now ≡ slice_range lits.now start end }
-{
-    &lits[start..end]
 }
