@@ -225,7 +225,7 @@ fn lower<C: Count>(lacks: &mut [Tally<C>], wanting: &mut RowSet, occurrences: &[
     ensures wanting { wanting.new ≡ wants lacks.new }
 {
     for occurrence in occurrences {
-        let row = occurrence.row;
+        let row = occurrence.row as usize;
         lacks[row] -= occurrence.coef;
         wanting.put(row, Tally::of(MET).is_below(lacks[row]));
     }
@@ -259,7 +259,7 @@ fn raise<C: Count>(lacks: &mut [Tally<C>], wanting: &mut RowSet, occurrences: &[
     ensures wanting { wanting.new ≡ wants lacks.new }
 {
     for occurrence in occurrences {
-        let row = occurrence.row;
+        let row = occurrence.row as usize;
         lacks[row] += occurrence.coef;
         wanting.put(row, Tally::of(MET).is_below(lacks[row]));
     }

@@ -1,17 +1,18 @@
 //! Where literals occur.
 
-ghost use Rattle.std.specs.Prelude.{◌≡◌, ◌+◌, ◌*◌, ◌<◌, ◌≤◌};
+ghost use Rattle.std.specs.Prelude.{◌≡◌, ◌+◌, ◌*◌, ◌^◌, ◌<◌, ◌≤◌, IfOk};
 ghost use Rattle.pb_engine.specs.Index.{literal_place};
 
 use crate::count::Count;
 use crate::tally::Tally;
-use pb_inst::Lit;
+use pb_inst::{Lit, Memory};
+use std::alloc::AllocError;
 use std::marker::Model;
 
 /// A row in which a literal occurs, and with which coefficient.
 #[derive(Clone, Copy, Debug)]
 pub struct Occurrence<C: Count> {
-    pub row: usize,
+    pub row: u32,
     pub coef: Tally<C>,
 }
 
@@ -28,8 +29,10 @@ impl<C: Count> Model for Occurrence<C> {
 /// A row in which a literal occurs with the coefficient 1, which is not stored. Contracts see an `Occurrence`.
 #[derive(Clone, Copy, Debug)]
 pub struct UnitOccurrence {
-    row: usize,
+    row: u32,
 }
+
+const _: () = prove!(size_of::<UnitOccurrence>() == 4);
 
 impl Model for UnitOccurrence {
     ghost use Rattle.pb_engine.specs.Occurrences.{Occurrence as Weighted};
@@ -42,7 +45,7 @@ impl Model for UnitOccurrence {
 }
 
 impl UnitOccurrence {
-    pub fn new(row: usize) -> UnitOccurrence
+    pub fn new(row: u32) -> UnitOccurrence
         ensures { result ≡ record { row = row; coef = 1 } }
     {
         UnitOccurrence { row }
@@ -52,7 +55,7 @@ impl UnitOccurrence {
         ensures value { result ≡ self.row }
         ensures unit { self.coef ≡ 1 }
     {
-        self.row
+        self.row as usize
     }
 }
 
@@ -63,27 +66,40 @@ pub struct Part {
     pub len: usize,
 }
 
-/// An occurrence, and the place of its literal.
+/// An occurrence, and the place of its literal. The occurrence's parts stand beside the place, since so an entry takes no more
+/// room than an occurrence alone: while tables are built there is one of each for every term. Contracts see an `Occurrence` in it.
 #[derive(Clone, Copy, Debug)]
 pub struct Entry<C: Count> {
-    pub place: usize,
-    pub occurrence: Occurrence<C>,
+    pub place: u32,
+    pub row: u32,
+    pub coef: Tally<C>,
 }
+
+const _: () = prove!(size_of::<Entry<u64>>() == 16);
 
 impl<C: Count> Model for Entry<C> {
     ghost use Rattle.pb_engine.specs.Occurrences.{Entry as Placed};
 
     ghost Value = { Placed };
 
-    ghost view = { λ e. record { place = e.place; occurrence = e.occurrence } };
+    ghost view = { λ e. record { place = e.place; occurrence = record { row = e.row; coef = e.coef } } };
 
-    ghost inverse = { λ e. record { place = e.place; occurrence = e.occurrence } };
+    ghost inverse = { λ e. record { place = e.place; row = e.occurrence.row; coef = e.occurrence.coef } };
 }
 
 /// The place of a literal: two for each variable, the negation first.
 pub fn place_of(lit: Lit) -> usize
     ensures place { result ≡ literal_place lit }
     ensures within { (1 ≤ lit.var) × (result < 2 * lit.var) }
+    ensures small { result < 2 ^ 32 }
 {
     2 * (lit.var() as usize - 1) + usize::from(lit.positive())
+}
+
+/// The number of a row as occurrences keep it. More rows than 32 bits can number are refused as if memory had run out; no
+/// instance and its cubes have as many.
+pub fn row_number(row: usize) -> Result<u32, Memory>
+    ensures { IfOk result (λ number. number ≡ row) }
+{
+    u32::try_from(row).map_err(|_| AllocError)
 }

@@ -1,6 +1,6 @@
 //! The rows of a normal form, with the rows in which each literal occurs.
 
-ghost use Rattle.std.specs.Prelude.{◌≡◌, ℕ, ◌+◌, ◌*◌, ◌^◌, ◌<◌, ◌≤◌, ◌++◌, length, All, IfOk, OnOk, sum_by, slice_range, slice_index, slice_index_or};
+ghost use Rattle.std.specs.Prelude.{◌≡◌, ℕ, ◌+◌, ◌*◌, ◌^◌, ◌<◌, ◌≤◌, ◌++◌, length, All, IfOk, OnOk, slice_index_or};
 ghost use Rattle.pb_normal.specs.NormalForm.{IsNormal};
 ghost use Rattle.pb_engine.specs.Constraints.{AreRowsOver, row_at};
 ghost use Rattle.pb_engine.specs.Index.{IsPartOf, occurrences_of, total_for, entries_of_row, entries_from};
@@ -11,7 +11,7 @@ ghost use Rattle.pb_engine.specs.Trail.{weight_of};
 use crate::costs::costs_of;
 use crate::count::Count;
 use crate::index::{Index, part};
-use crate::occurrences::{Entry, Occurrence, Part, place_of};
+use crate::occurrences::{Entry, Occurrence, Part, place_of, row_number};
 use crate::tally::Tally;
 use pb_inst::{Lit, Magnitude, Memory};
 use pb_normal::{Normal, PositiveTerm};
@@ -138,7 +138,7 @@ impl<'a, C: Count> Rows<'a, C> {
         requires { occurrence < length self.now.occurrences }
         ensures { (d : Weighted) → result ≡ (slice_index_or self.now.occurrences occurrence d).row }
     {
-        self.index.occurrences[occurrence].row
+        self.index.occurrences[occurrence].row as usize
     }
 
     /// The objective's coefficient of the literal, 0 where it has none.
@@ -156,7 +156,7 @@ fn entries_of<C: Count>(alloc: Global, form: &Normal) -> Result<Vec<Entry<C>>, M
 {
     let mut entries = Vec::with_capacity(alloc, room(form))?;
     for row in 0..form.len() {
-        push_row(&mut entries, row, form.terms(row))?;
+        push_row(&mut entries, row_number(row)?, form.terms(row))?;
     }
     Ok(entries)
 }
@@ -173,18 +173,15 @@ fn room(form: &Normal) -> usize {
 /// Adds where the literals of the terms occur.
 fn push_row<C: Count>(
     entries: &mut Vec<Entry<C>>,
-    row: usize,
+    row: u32,
     terms: &[PositiveTerm],
 ) -> Result<(), Memory>
     ensures { OnOk result (entries.new.items ≡ entries.old.items ++ entries_of_row row terms.now) }
 {
     for term in terms {
-        let place = place_of(term.lit);
+        let place = place_of(term.lit) as u32;
         let coef = Tally::of(term.coef);
-        entries.push(Entry {
-            place,
-            occurrence: Occurrence { row, coef },
-        })?;
+        entries.push(Entry { place, row, coef })?;
     }
     Ok(())
 }

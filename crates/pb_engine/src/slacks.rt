@@ -282,7 +282,7 @@ fn lower<C: Count>(sums: &mut [Tally<C>], occurrences: &[Occurrence<C>])
     ensures { (r : ℕ) → r < length sums.old → slice_index sums.new r + total_for r occurrences.now ≡ slice_index sums.old r }
 {
     for occurrence in occurrences {
-        sums[occurrence.row] -= occurrence.coef;
+        sums[occurrence.row as usize] -= occurrence.coef;
     }
 }
 
@@ -304,7 +304,7 @@ fn raise<C: Count>(sums: &mut [Tally<C>], occurrences: &[Occurrence<C>])
     ensures { (r : ℕ) → r < length sums.old → slice_index sums.new r ≡ slice_index sums.old r + total_for r occurrences.now }
 {
     for occurrence in occurrences {
-        sums[occurrence.row] += occurrence.coef;
+        sums[occurrence.row as usize] += occurrence.coef;
     }
 }
 
