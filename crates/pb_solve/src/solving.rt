@@ -1,5 +1,6 @@
 //! Solving with many workers, which claim pieces and lend each other what they found.
-ghost use Rattle.std.specs.Prelude.{◌≡◌, IfOk};
+ghost use Rattle.std.specs.Prelude.{◌≡◌, ◌≤◌, min, IfOk};
+ghost use Rattle.pb_inst.specs.declared.TheConstants.{MAX_WORKERS};
 ghost use Rattle.pb_solve.specs.Solving.{HoldsLeast};
 
 use crate::crews::SearchCrew;
@@ -47,13 +48,25 @@ pub fn solve<'i, R: Threads + Sync, G: Gate + Sync>(
     let mut best = Best::none(alloc, inst)?;
     let normal = normalise(alloc, inst)?;
     let tables = SearchTables::new(alloc, inst, &normal, pieces)?;
+    let workers = workers_with_a_piece(workers, pieces.len());
     let (board, seat) = Board::new(alloc, workers, inst.vars())?;
-    // A call tells that there are at most 64 workers.
-    let _workers = workers.get();
     let crew = SearchCrew::new(inst, pieces, &tables, &board, gate);
     let (parts, seat) = fork(rt, alloc, &crew, seat, 0)?;
     gather(&mut best, &parts);
     drop(parts);
     board.close(seat);
     Ok(best)
+}
+
+/// As many workers as are asked for, and no more than there are pieces: a worker beyond their number would get none, and
+/// yet take memory for a search of its own, the want of which would end the run.
+fn workers_with_a_piece(asked: Workers, pieces: u32) -> Workers
+    requires { 1 ≤ pieces }
+    ensures fewest { result ≡ min asked pieces }
+    ensures in_range { (1 ≤ result) × (result ≤ MAX_WORKERS) }
+{
+    match Workers::new(asked.get().min(pieces)) {
+        Ok(fewest) => fewest,
+        Err(_) => asked,
+    }
 }
