@@ -76,9 +76,11 @@ fn search_claimed<G: Gate>(
         let Some(piece) = claim_piece(share, count) else {
             return Ok(named);
         };
+        // What is refused here is refused before the piece is searched, so that no finished work is lost for it.
+        named.reserve(1)?;
         gate.pass(share.worker(), piece);
         search.run(piece, best, share);
-        named.push(piece)?;
+        named.push_reserved(piece);
     }
     Ok(named)
 }

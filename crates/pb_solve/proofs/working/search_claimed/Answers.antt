@@ -36,12 +36,13 @@ loop-turn-preserved g c =
     let one = c.claim_piece.ensures.one in
     let same : length c.run.new.share.seat.claimed ≡ length c.claim_piece.new.share.seat.claimed = ap length c.run.ensures.kept.claimed in
     let before = c.loop-turn.invariant.count in
+    let pushed : c.push_reserved.new.self.items ≡ c.loop-turn.named.items ++ c.in-Some.piece ∷ [] = c.push_reserved.ensures.items ∙ ap (λ (l : List ℕ). l ++ c.in-Some.piece ∷ []) c.reserve.ensures.items in
     record {
       same_instance = c.run.ensures.same_instance ∙ c.loop-turn.invariant.same_instance;
       same_search = search;
       count = omega arith;
-      named = named_more c.args.count c.loop-turn.named.items c.push.new.self.items c.loop-turn.share.seat.claimed c.run.new.share.seat.claimed c.in-Some.piece c.loop-turn.invariant.named c.in_ok-push.ensures.items claim (is_piece c.in-Some.piece c.args.count c.in-Some.ensures.piece.0);
-      done = done_more c.args.search.now c.loop-turn.named.items c.push.new.self.items c.in-Some.piece c.loop-turn.best.held c.run.new.best.held c.in_ok-push.ensures.items
+      named = named_more c.args.count c.loop-turn.named.items c.push_reserved.new.self.items c.loop-turn.share.seat.claimed c.run.new.share.seat.claimed c.in-Some.piece c.loop-turn.invariant.named pushed claim (is_piece c.in-Some.piece c.args.count c.in-Some.ensures.piece.0);
+      done = done_more c.args.search.now c.loop-turn.named.items c.push_reserved.new.self.items c.in-Some.piece c.loop-turn.best.held c.run.new.best.held pushed
           (subst (λ (d : Division). IsNotAfter d.problem c.loop-turn.best.held c.run.new.best.held) c.loop-turn.invariant.same_search c.run.ensures.not_after)
           (subst (λ (d : Division). IsDone d c.in-Some.piece c.run.new.best.held) c.loop-turn.invariant.same_search c.run.ensures.done)
           c.loop-turn.invariant.done;
@@ -64,13 +65,11 @@ returns-in_default-clause-most g c = omega arith
 pub returns-in_default-clause-seat : goal.returns-in_default-clause-seat
 returns-in_default-clause-seat g c = same_seat_onward c.args.share.now c.loop-turn.share c.claim_piece.new.share c.loop-turn.invariant.seat c.claim_piece.ensures.seat
 
-pub returns-in_err-push-clause-same_instance : goal.returns-in_err-push-clause-same_instance
-returns-in_err-push-clause-same_instance g c = c.run.ensures.same_instance ∙ c.loop-turn.invariant.same_instance
+pub returns-in_err-reserve-clause-same_instance : goal.returns-in_err-reserve-clause-same_instance
+returns-in_err-reserve-clause-same_instance g c = c.loop-turn.invariant.same_instance
 
-pub returns-in_err-push-clause-seat : goal.returns-in_err-push-clause-seat
-returns-in_err-push-clause-seat g c =
-    same_seat_onward c.args.share.now c.loop-turn.share c.run.new.share c.loop-turn.invariant.seat
-    (same_seat_onward c.loop-turn.share c.claim_piece.new.share c.run.new.share c.claim_piece.ensures.seat (same_seat_kept c.claim_piece.new.share c.run.new.share c.run.ensures.kept))
+pub returns-in_err-reserve-clause-seat : goal.returns-in_err-reserve-clause-seat
+returns-in_err-reserve-clause-seat g c = same_seat_onward c.args.share.now c.loop-turn.share c.claim_piece.new.share c.loop-turn.invariant.seat c.claim_piece.ensures.seat
 
 pub returns-clause-same_instance : goal.returns-clause-same_instance
 returns-clause-same_instance g c = c.loop-turn.invariant.same_instance
