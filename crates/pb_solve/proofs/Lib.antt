@@ -4,7 +4,6 @@ pub mod ClaimLaws
 pub mod FirstLaws
 pub mod LeastLaws
 mod OutcomeLaws
-mod PreparingLaws
 mod ReportLaws
 mod SendingLaws
 mod TextLaws

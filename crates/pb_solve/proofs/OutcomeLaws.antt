@@ -10,11 +10,11 @@ use Rattle.pb_inst.specs.Incumbent.{Solution}
 use Rattle.pb_solve.specs.declared.preparing.Prepared.{Prepared}
 use Rattle.pb_solve.specs.declared.options.Format.{Format}
 use Rattle.pb_solve.specs.declared.options.Status.{Status}
-use Rattle.pb_solve.specs.declared.options.Status.TheVariants.{Satisfiable, Unsatisfiable, Optimum, Unsupported, Unknown}
+use Rattle.pb_solve.specs.declared.options.Status.TheVariants.{Satisfiable, Optimum, Unsupported, Unknown}
 use Rattle.pb_solve.specs.declared.options.Refusal.{Refusal}
 use Rattle.pb_solve.specs.Solving.{HoldsLeast}
-use Rattle.pb_solve.specs.Outcome.{Refused, Infeasible, Feasible, Optimal, IsOutcome}
-use Rattle.pb_solve.specs.Report.{infeasible_report, satisfiable_report, optimum_report, refusal_report}
+use Rattle.pb_solve.specs.Outcome.{Refused, Feasible, Optimal, IsOutcome}
+use Rattle.pb_solve.specs.Report.{satisfiable_report, optimum_report, refusal_report}
 use Rattle.pb_solve.specs.Run.{WhereTold, Reports, Answers, IsAccepted}
 
 -- ---- facts about what readers tell
@@ -28,14 +28,6 @@ told_weaker (Some ts) (Some None) P Q h p = tt
 told_weaker (Some ts) (Some (Some us)) P Q h p = h ts (Some us) p
 
 -- ---- the answer
-
-pub answer_infeasible : (format : Format) (p : Problem) (held : Option Solution) (old new : Option (List ℕ)) (status : Status) → HoldsLeast p held → held ≡ None → status ≡ Unsatisfiable → Appends old new infeasible_report → Answers format p old new status
-answer_infeasible format p held old new status least none is written = record {
-  outcome = Infeasible;
-  ends = is;
-  writes = written;
-  right = subst (λ h. HoldsLeast p h) none least;
-}
 
 -- what is held, by its assignment and its cost
 least_of : (p : Problem) (held : Option Solution) (a : List Bool) → HoldsLeast p held → Some a ≡ option_map (λ s. s.assignment) held → IsLeast p a

@@ -1,5 +1,6 @@
 -- A text spells one instance or has a refusal, by its format; and a cube file likewise.
 use Rattle.std.proofs.Common.{◌≡◌, ℕ, List, Option, None, Some, sym, ◌∙◌}
+use Rattle.std.specs.Prelude.{IfSome}
 use Rattle.pb_inst.specs.Literal.{Literal}
 use Rattle.pb_inst.specs.Problem.{Problem}
 use Rattle.pb_read.specs.declared.fault.ReadFault.{ReadFault}
@@ -20,6 +21,11 @@ not_refused Icnf text p own h = icnf.not_refused text p own h
 pub not_both : (format : Format) (text : List ℕ) (p : Problem) (own : List (List Literal)) (fault : ReadFault) → Spells format text p own → text_refusal format text ≡ Some fault → ⊥
 not_both format text p own fault h refused =
     let both : None ≡ Some fault = sym (not_refused format text p own h) ∙ refused in cc
+
+-- the same where it is known what was read
+pub spelled_not_refused : (X : Type 0) (format : Format) (input : Option (List ℕ)) (p : Problem) (own : List (List Literal)) → IfSome input (λ t. Spells format t p own) → IfSome input (λ t. (fault : ReadFault) → text_refusal format t ≡ Some fault → X)
+spelled_not_refused X format None p own spells = tt
+spelled_not_refused X format (Some ts) p own spells = λ fault refused. absurd (not_both format ts p own fault spells refused)
 
 pub one_spelling : (format : Format) (text : List ℕ) (p q : Problem) (own own' : List (List Literal)) → Spells format text p own → Spells format text q own' → (p ≡ q) × (own ≡ own')
 one_spelling Opb text p q own own' h k = (opb.one_instance text p q h.0 k.0, h.1 ∙ sym k.1)

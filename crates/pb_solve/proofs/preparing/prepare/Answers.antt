@@ -1,4 +1,4 @@
-use Rattle.pb_solve.proofs.PreparingLaws.{spelled_not_refused}
+use Rattle.pb_solve.proofs.TextLaws.{spelled_not_refused}
 use Rattle.pb_solve.proofs.preparing.prepare.Goals as goal
 
 pub returns-in-Ok-divide-clause-unread : goal.returns-in-Ok-divide-clause-unread
