@@ -13,8 +13,8 @@ assignment, or that nothing is feasible, or which fault the input has.";
 /// The end of `--help`: examples and exit statuses.
 pub const EXAMPLES_AND_STATUSES: &str = "\
 Cubes and the split divide the work into pieces among the workers, which are
-threads. Where they are accepted, neither they nor the number of workers change
-a byte of the answer.
+threads; without them there is one piece, for one worker. Where they are
+accepted, neither they nor the number of workers change a byte of the answer.
 
 Examples:
   pbcube instance.opb                          an OPB instance, by one worker
