@@ -45,6 +45,15 @@ fn two_cubes(alloc: Global) -> Result<Vec<Cube>, Fail> {
     Ok(cubes)
 }
 
+/// So many cubes without a literal.
+fn empty_cubes(alloc: Global, count: u32) -> Result<Vec<Cube>, Fail> {
+    let mut cubes = Vec::new(alloc);
+    for _ in 0..count {
+        cubes.push(Cube::new(alloc, &[])?)?;
+    }
+    Ok(cubes)
+}
+
 /// Whether the flag was set before the turns ran out.
 fn is_met(flag: &AtomicBool) -> bool {
     for _ in 0..MOST_TURNS {
@@ -285,11 +294,7 @@ fn two_workers_meet(rt: HostRuntime) -> Result<(), Fail> {
 fn pieces_are_claimed(rt: HostRuntime) -> Result<(), Fail> {
     let alloc = rt.alloc();
     let instance = read_cnf(alloc, TWO_CLAUSES)?;
-    let mut cubes = Vec::new(alloc);
-    for _ in 0..4u32 {
-        cubes.push(Cube::new(alloc, &[])?)?;
-    }
-    let pieces = Pieces::new(instance.vars(), cubes)?;
+    let pieces = Pieces::new(instance.vars(), empty_cubes(alloc, 4)?)?;
     let gate = Crowd {
         passes: Passes::new(),
     };
@@ -361,5 +366,16 @@ fn workers_and_splits_change_no_answer(rt: HostRuntime) -> Result<(), Fail> {
             }
         }
     }
+    Ok(())
+}
+
+// As many workers as there may be, with a piece for each.
+#[test]
+fn as_many_workers_as_there_may_be(rt: HostRuntime) -> Result<(), Fail> {
+    let alloc = rt.alloc();
+    let instance = read_cnf(alloc, TWO_CLAUSES)?;
+    let cubes = empty_cubes(alloc, 63)?;
+    let found = answer(&rt, alloc, &instance, cubes, 64, 0)?;
+    assert_eq!(rt; found, Some((0, 2)));
     Ok(())
 }
