@@ -57,6 +57,93 @@ pub fn instance(
     builder.finish(vars).ok().expect(rt, "an instance")
 }
 
+/// The pairs of variables on a ring of `size` that are one of these numbers of steps apart.
+pub fn ring(rt: &impl Abort, alloc: Global, size: i32, steps: &[i32]) -> Vec<[(Number, i32); 2]> {
+    let mut pairs = Vec::new(alloc);
+    for place in 0..size {
+        for step in steps {
+            let other = place.wrapping_add(*step).checked_rem(size);
+            let other = other.expect(rt, "variables").wrapping_add(1);
+            pairs
+                .push([(1, place + 1), (1, other)])
+                .expect(rt, "memory");
+        }
+    }
+    pairs
+}
+
+/// The costs 1 to 11 in turn on a ring, no two alike next to each other.
+pub fn ring_costs(rt: &impl Abort, alloc: Global, size: i32) -> Vec<(Number, i32)> {
+    let mut costs = Vec::new(alloc);
+    for place in 0..size {
+        let cost = Number::from(place.wrapping_mul(7) % 11 + 1);
+        costs.push((cost, place + 1)).expect(rt, "memory");
+    }
+    costs
+}
+
+/// Of each pair one is chosen.
+pub fn pair_rows<'a>(
+    rt: &impl Abort,
+    alloc: Global,
+    pairs: &'a [[(Number, i32); 2]],
+) -> Vec<Row<'a>> {
+    let mut rows: Vec<Row<'a>> = Vec::new(alloc);
+    for pair in pairs {
+        rows.push((pair.as_slice(), Relation::AtLeast, 1))
+            .expect(rt, "memory");
+    }
+    rows
+}
+
+/// The variable, of those after `after`, that says that the pigeon sits in the hole.
+fn seat(after: i32, holes: i32, pigeon: i32, hole: i32) -> (Number, i32) {
+    let place = pigeon.wrapping_mul(holes).wrapping_add(hole);
+    (1, after.wrapping_add(place).wrapping_add(1))
+}
+
+/// Each pigeon sits in a hole, and no two in one, though there is one pigeon more than holes.
+pub fn crowd(
+    rt: &impl Abort,
+    alloc: Global,
+    after: i32,
+    holes: i32,
+) -> Vec<(Vec<(Number, i32)>, Relation)> {
+    let mut sums = Vec::new(alloc);
+    let pigeons = holes.wrapping_add(1);
+    for pigeon in 0..pigeons {
+        let mut seats = Vec::new(alloc);
+        for hole in 0..holes {
+            seats
+                .push(seat(after, holes, pigeon, hole))
+                .expect(rt, "memory");
+        }
+        sums.push((seats, Relation::AtLeast)).expect(rt, "memory");
+    }
+    for hole in 0..holes {
+        let mut seats = Vec::new(alloc);
+        for pigeon in 0..pigeons {
+            seats
+                .push(seat(after, holes, pigeon, hole))
+                .expect(rt, "memory");
+        }
+        sums.push((seats, Relation::AtMost)).expect(rt, "memory");
+    }
+    sums
+}
+
+/// Adds the rows of these sums, whose bound is 1.
+pub fn add_sums<'a>(
+    rt: &impl Abort,
+    rows: &mut Vec<Row<'a>>,
+    sums: &'a [(Vec<(Number, i32)>, Relation)],
+) {
+    for (sum, relation) in sums {
+        rows.push((sum.as_slice(), *relation, 1))
+            .expect(rt, "memory");
+    }
+}
+
 /// Cubes, each a list of literals.
 pub fn cubes(rt: &impl Abort, alloc: Global, lists: &[&[i32]]) -> Vec<Cube> {
     let mut cubes = Vec::new(alloc);

@@ -1,6 +1,9 @@
 //! What a search makes of the bits that are handed over, and what it tells its share.
 
-use super::instances::{Row, TIED, assignment, instance, nothing, search_pieces, shown};
+use super::instances::{
+    Row, TIED, add_sums, assignment, crowd, instance, nothing, pair_rows, ring, ring_costs,
+    search_pieces, shown,
+};
 use super::lenders::{InTurn, Lender};
 use pb_cubes::Pieces;
 use pb_inst::{Number, Relation};
@@ -114,35 +117,13 @@ fn the_share_is_asked_and_told(rt: HostRuntime) {
     );
 }
 
-/// The variable that says that the pigeon sits in the hole, of seven.
-fn seat(pigeon: i32, hole: i32) -> i32 {
-    pigeon.wrapping_mul(7).wrapping_add(hole).wrapping_add(1)
-}
-
 /// Eight pigeons do not fit into seven holes, which takes thousands of decisions.
 #[test]
 fn the_share_is_asked_on_the_way(rt: HostRuntime) {
     let alloc = rt.alloc();
-    let mut sums = Vec::new(alloc);
-    for pigeon in 0..8 {
-        let mut holes: Vec<(Number, i32)> = Vec::new(alloc);
-        for hole in 0..7 {
-            holes.push((1, seat(pigeon, hole))).expect(&rt, "memory");
-        }
-        sums.push((holes, Relation::AtLeast)).expect(&rt, "memory");
-    }
-    for hole in 0..7 {
-        let mut pigeons: Vec<(Number, i32)> = Vec::new(alloc);
-        for pigeon in 0..8 {
-            pigeons.push((1, seat(pigeon, hole))).expect(&rt, "memory");
-        }
-        sums.push((pigeons, Relation::AtMost)).expect(&rt, "memory");
-    }
-    let mut rows: Vec<Row<'_>> = Vec::new(alloc);
-    for (sum, relation) in &sums {
-        rows.push((sum.as_slice(), *relation, 1))
-            .expect(&rt, "memory");
-    }
+    let sums = crowd(&rt, alloc, 0, 7);
+    let mut rows = Vec::new(alloc);
+    add_sums(&rt, &mut rows, &sums);
     let crowded = instance(&rt, alloc, 56, &[], &rows);
     let pieces = Pieces::new(56, Vec::new(alloc)).expect(&rt, "pieces");
     let mut share = InTurn::new(Vec::new(alloc));
@@ -150,6 +131,7 @@ fn the_share_is_asked_on_the_way(rt: HostRuntime) {
     search_pieces(&rt, alloc, &crowded, &pieces, 0, 1, &mut best, &mut share);
     assert_eq!(rt; shown(&rt, alloc, &best).as_str(), "none");
     assert!(rt; share.asked > 10);
+    assert!(rt; share.asked <= 1200);
     assert_eq!(rt; share.offered, 0);
 }
 
@@ -158,44 +140,32 @@ fn the_share_is_asked_on_the_way(rt: HostRuntime) {
 #[test]
 fn assignments_handed_over_on_the_way(rt: HostRuntime) {
     let alloc = rt.alloc();
-    let mut costs: Vec<(Number, i32)> = Vec::new(alloc);
-    let mut pairs = Vec::new(alloc);
-    for place in 0..80i32 {
-        let cost = Number::from(place.wrapping_mul(7) % 11 + 1);
-        costs.push((cost, place + 1)).expect(&rt, "memory");
-        for step in [1, 7] {
-            let other = (place + step) % 80 + 1;
-            pairs
-                .push([(1, place + 1), (1, other)])
-                .expect(&rt, "memory");
-        }
-    }
-    let mut rows: Vec<Row<'_>> = Vec::new(alloc);
-    for pair in &pairs {
-        rows.push((pair.as_slice(), Relation::AtLeast, 1))
-            .expect(&rt, "memory");
-    }
-    let ring = instance(&rt, alloc, 80, &costs, &rows);
+    let costs = ring_costs(&rt, alloc, 80);
+    let pairs = ring(&rt, alloc, 80, &[1, 7]);
+    let rows = pair_rows(&rt, alloc, &pairs);
+    let cover = instance(&rt, alloc, 80, &costs, &rows);
     let pieces = Pieces::new(80, Vec::new(alloc)).expect(&rt, "pieces");
     let mut alone = InTurn::new(Vec::new(alloc));
-    let mut best = nothing(&rt, alloc, &ring);
-    search_pieces(&rt, alloc, &ring, &pieces, 0, 1, &mut best, &mut alone);
+    let mut best = nothing(&rt, alloc, &cover);
+    search_pieces(&rt, alloc, &cover, &pieces, 0, 1, &mut best, &mut alone);
     let want = shown(&rt, alloc, &best);
     assert!(rt; alone.asked > 5);
+    assert!(rt; alone.asked <= 28);
     let mut lent = Vec::new(alloc);
     for free in 0..12u32 {
-        let mut cover = assignment(&rt, alloc, 80, &[]);
+        let mut chosen = assignment(&rt, alloc, 80, &[]);
         for place in 0..80u32 {
-            assert!(rt; place < cover.len());
+            assert!(rt; place < chosen.len());
             let is_free = place % 2 == 1 && place < free.saturating_mul(2);
-            cover.set(place + 1, !is_free);
+            chosen.set(place + 1, !is_free);
         }
-        lent.push(cover).expect(&rt, "memory");
+        lent.push(chosen).expect(&rt, "memory");
     }
     let mut share = InTurn::new(lent);
-    let mut best = nothing(&rt, alloc, &ring);
-    search_pieces(&rt, alloc, &ring, &pieces, 0, 1, &mut best, &mut share);
+    let mut best = nothing(&rt, alloc, &cover);
+    search_pieces(&rt, alloc, &cover, &pieces, 0, 1, &mut best, &mut share);
     assert!(rt; share.asked > 5);
+    assert!(rt; share.asked <= 28);
     assert_eq!(rt; shown(&rt, alloc, &best).as_str(), want.as_str());
 }
 
@@ -206,26 +176,16 @@ fn assignments_handed_over_on_the_way(rt: HostRuntime) {
 fn equal_costs_handed_over_on_the_way(rt: HostRuntime) {
     let alloc = rt.alloc();
     let mut costs: Vec<(Number, i32)> = Vec::new(alloc);
-    let mut pairs = Vec::new(alloc);
     for place in 0..40i32 {
         costs.push((1, place + 1)).expect(&rt, "memory");
-        for step in [1, 2] {
-            let other = (place + step) % 40 + 1;
-            pairs
-                .push([(1, place + 1), (1, other)])
-                .expect(&rt, "memory");
-        }
     }
-    let mut rows: Vec<Row<'_>> = Vec::new(alloc);
-    for pair in &pairs {
-        rows.push((pair.as_slice(), Relation::AtLeast, 1))
-            .expect(&rt, "memory");
-    }
+    let pairs = ring(&rt, alloc, 40, &[1, 2]);
+    let mut rows = pair_rows(&rt, alloc, &pairs);
     for pair in pairs.iter().skip(40) {
         rows.push((pair.as_slice(), Relation::AtLeast, 1))
             .expect(&rt, "memory");
     }
-    let ring = instance(&rt, alloc, 40, &costs, &rows);
+    let cover = instance(&rt, alloc, 40, &costs, &rows);
     let pieces = Pieces::new(40, Vec::new(alloc)).expect(&rt, "pieces");
     let mut lent = Vec::new(alloc);
     for turn in 1..40u32 {
@@ -238,9 +198,10 @@ fn equal_costs_handed_over_on_the_way(rt: HostRuntime) {
         lent.push(turned).expect(&rt, "memory");
     }
     let mut share = InTurn::new(lent);
-    let mut best = nothing(&rt, alloc, &ring);
-    search_pieces(&rt, alloc, &ring, &pieces, 0, 1, &mut best, &mut share);
+    let mut best = nothing(&rt, alloc, &cover);
+    search_pieces(&rt, alloc, &cover, &pieces, 0, 1, &mut best, &mut share);
     assert!(rt; share.asked > 5);
+    assert!(rt; share.asked <= 160);
     assert_eq!(rt; best.cost(), Some(27));
     let held = best.assignment().expect(&rt, "an assignment");
     for place in 0..held.len() {

@@ -1,0 +1,78 @@
+//! How much work searches take at most, by how often the share is asked: once at the beginning, and after every 256th
+//! decision.
+
+use super::instances::{
+    add_sums, crowd, instance, nothing, pair_rows, ring, ring_costs, search_pieces,
+};
+use super::lenders::InTurn;
+use pb_cubes::{Pieces, split};
+use pb_inst::{Cube, Instance, Relation};
+use std::alloc::Global;
+use std::process::Abort;
+
+/// How often the search of what the cubes leave asks its share.
+fn asked(rt: &impl Abort, alloc: Global, instance: &Instance, cubes: Vec<Cube>) -> u64 {
+    let pieces = Pieces::new(instance.vars(), cubes).expect(rt, "pieces");
+    let mut share = InTurn::new(Vec::new(alloc));
+    let mut best = nothing(rt, alloc, instance);
+    let end = pieces.len();
+    let last = end.saturating_sub(1);
+    search_pieces(
+        rt, alloc, instance, &pieces, last, end, &mut best, &mut share,
+    );
+    share.asked
+}
+
+/// Pigeons without room behind a ring whose variables occur more often. After the first conflicts the pigeons come before
+/// the ring; else every choice on the ring would search them anew.
+#[test]
+fn conflicts_bring_their_variables_forward(rt: HostRuntime) {
+    let alloc = rt.alloc();
+    let pairs = ring(&rt, alloc, 8, &[1, 2]);
+    let sums = crowd(&rt, alloc, 8, 5);
+    let mut rows = pair_rows(&rt, alloc, &pairs);
+    add_sums(&rt, &mut rows, &sums);
+    let crowded = instance(&rt, alloc, 38, &[], &rows);
+    let count = asked(&rt, alloc, &crowded, Vec::new(alloc));
+    assert!(rt; count <= 21, "asked {count} times");
+}
+
+/// One of every two neighbours on rings with chords is chosen, at least cost: soon, where the dear and the much needed are
+/// decided first, and first not chosen.
+#[test]
+fn costs_and_occurrences_lead_the_search(rt: HostRuntime) {
+    let alloc = rt.alloc();
+    let mut count = 0u64;
+    for size in [36, 40, 44, 48i32] {
+        let costs = ring_costs(&rt, alloc, size);
+        let pairs = ring(&rt, alloc, size, &[1, 7]);
+        let rows = pair_rows(&rt, alloc, &pairs);
+        let cover = instance(&rt, alloc, size.unsigned_abs(), &costs, &rows);
+        count = count.saturating_add(asked(&rt, alloc, &cover, Vec::new(alloc)));
+    }
+    assert!(rt; count <= 15, "asked {count} times");
+}
+
+/// All cubes over nine variables that no constraint names leave nothing: the search sees it at once where it begins with
+/// these variables.
+#[test]
+fn the_remainder_begins_with_the_variables_of_the_cubes(rt: HostRuntime) {
+    let alloc = rt.alloc();
+    let pairs = ring(&rt, alloc, 40, &[1, 2]);
+    let rows = pair_rows(&rt, alloc, &pairs);
+    let cover = instance(&rt, alloc, 49, &[], &rows);
+    let mut last = Vec::new(alloc);
+    for place in 40..49i32 {
+        last.push((1, place + 1)).expect(&rt, "memory");
+    }
+    let named = instance(
+        &rt,
+        alloc,
+        49,
+        &[],
+        &[(last.as_slice(), Relation::AtLeast, 1)],
+    );
+    let cubes = split(alloc, &named, 9).expect(&rt, "a split");
+    let count = asked(&rt, alloc, &cover, cubes);
+    assert!(rt; count <= 3, "asked {count} times");
+}
