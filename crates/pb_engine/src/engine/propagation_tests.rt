@@ -2,7 +2,7 @@
 
 ghost use Rattle.std.specs.Prelude.{◌≡◌, ◌≤◌, true, All};
 
-use crate::engine::tests::{assume, form, lit, propagate, slack, undo_to};
+use crate::engine::tests::{Move, assume, form, lit, play, propagate, undo_to};
 use crate::{Engine, RowTerms, Step};
 use pb_inst::{Cube, Lit, Number};
 use pb_normal::Normal;
@@ -54,18 +54,21 @@ fn a_cube_that_is_nearly_true_forces_a_literal(rt: HostRuntime) {
     let form = free(&rt, rt.alloc());
     let cubes = [cube(&rt, rt.alloc(), &[1, -2, 3])];
     let mut engine = engine(&rt, rt.alloc(), &form, &cubes);
-    assert!(rt; propagate(&rt, &mut engine) == Step::Fixed);
-    assert!(rt; assume(&rt, &mut engine, 3) == Step::Fixed);
-    assert!(rt; propagate(&rt, &mut engine) == Step::Fixed);
-    assert_eq!(rt; engine.value(2), None);
-    assert!(rt; assume(&rt, &mut engine, 1) == Step::Fixed);
-    assert!(rt; propagate(&rt, &mut engine) == Step::Fixed);
-    assert_eq!(rt; engine.value(2), Some(true));
-    undo_to(&rt, &mut engine, 1);
-    assert_eq!(rt; engine.value(2), None);
-    assert!(rt; assume(&rt, &mut engine, -2) == Step::Fixed);
-    assert!(rt; propagate(&rt, &mut engine) == Step::Fixed);
-    assert_eq!(rt; engine.value(1), Some(false));
+    let moves = [
+        Move::Propagate(Step::Fixed),
+        Move::Assume(3),
+        Move::Propagate(Step::Fixed),
+        Move::Value(2, None),
+        Move::Assume(1),
+        Move::Propagate(Step::Fixed),
+        Move::Value(2, Some(true)),
+        Move::UndoTo(1),
+        Move::Value(2, None),
+        Move::Assume(-2),
+        Move::Propagate(Step::Fixed),
+        Move::Value(1, Some(false)),
+    ];
+    assert_eq!(rt; play(&rt, &mut engine, &moves), None);
 }
 
 #[test]
@@ -73,12 +76,15 @@ fn repeats_in_a_cube_count_once(rt: HostRuntime) {
     let form = free(&rt, rt.alloc());
     let cubes = [cube(&rt, rt.alloc(), &[2, 1, 2, 1, 2])];
     let mut engine = engine(&rt, rt.alloc(), &form, &cubes);
-    assert_eq!(rt; slack(&rt, &engine, 0), Some(1));
-    assert!(rt; propagate(&rt, &mut engine) == Step::Fixed);
-    assert!(rt; assume(&rt, &mut engine, 2) == Step::Fixed);
-    assert_eq!(rt; slack(&rt, &engine, 0), Some(0));
-    assert!(rt; propagate(&rt, &mut engine) == Step::Fixed);
-    assert_eq!(rt; engine.value(1), Some(false));
+    let moves = [
+        Move::Slack(0, Some(1)),
+        Move::Propagate(Step::Fixed),
+        Move::Assume(2),
+        Move::Slack(0, Some(0)),
+        Move::Propagate(Step::Fixed),
+        Move::Value(1, Some(false)),
+    ];
+    assert_eq!(rt; play(&rt, &mut engine, &moves), None);
 }
 
 #[test]
