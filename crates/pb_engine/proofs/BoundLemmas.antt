@@ -8,7 +8,7 @@ use mir.Val.{to_z, of_z}
 use Rattle.std.proofs.lemmas.List.Sums.{sum_by-le-sum_by}
 use Rattle.pb_inst.specs.Literal.{Literal}
 use Rattle.pb_normal.specs.declared.terms.PositiveTerm.{PositiveTerm}
-use Rattle.pb_engine.specs.Trail.{is_true, reached}
+use Rattle.pb_trail.specs.Trail.{is_true, reached}
 
 pub reached-le-total : (trail : List Literal) (terms : List PositiveTerm) → reached trail terms ≤ sum_by (λ (t : PositiveTerm). t.coef) terms
 unfolding reached

@@ -5,15 +5,16 @@ use Rattle.std.proofs.lemmas.List.Sums.{sum_by-cons}
 use Rattle.pb_inst.specs.Literal.{Literal}
 use Rattle.pb_normal.specs.declared.terms.PositiveTerm.{PositiveTerm}
 use Rattle.pb_normal.specs.NormalForm.{PositiveRow, NormalForm, HasSmallSums}
-use Rattle.pb_engine.specs.Constraints.{row_at}
+use Rattle.pb_rows.specs.Constraints.{row_at}
 use Rattle.pb_engine.specs.DisjointRows.{gain, loss}
 use Rattle.pb_engine.specs.Needs.{wants, IsLackOf, AreCounters}
-use Rattle.pb_engine.specs.Soundness.{IsProperTrail}
-use Rattle.pb_engine.specs.Trail.{negation, is_true, value_on, weight_of, reached}
+use Rattle.pb_trail.specs.Soundness.{IsProperTrail}
+use Rattle.pb_normal.specs.Literals.{negation, weight_of}
+use Rattle.pb_trail.specs.Trail.{is_true, value_on, reached}
 use Rattle.pb_engine.proofs.BoundLemmas.{reached-le-total}
 use Rattle.pb_engine.proofs.NeedLemmas.{lack-joined, lack-pushed, lack-left, lack-popped}
 use Rattle.pb_engine.proofs.SpareLemmas.{reached-push}
-use Rattle.pb_engine.proofs.TrailLemmas.{is_true-nil}
+use Rattle.pb_trail.proofs.TrailLemmas.{is_true-nil}
 
 pub counters-push : (form : NormalForm) (rows : List PositiveRow) (trail : List Literal) (paid new_paid : ℕ) (lacks new_lacks : List ℕ) (wanting new_wanting : List Bool) (l : Literal) → AreCounters form rows trail paid lacks wanting → value_on trail l.var ≡ None → new_paid ≡ paid + weight_of l form.objective → length new_lacks ≡ length lacks → ((r : ℕ) → r < length lacks → get_or new_lacks r 0 + gain form.objective l (row_at rows r).terms ≡ get_or lacks r 0 + loss form.objective (negation l) (row_at rows r).terms) → new_wanting ≡ wants new_lacks → AreCounters form rows (trail ++ l ∷ []) new_paid new_lacks new_wanting
 counters-push form rows trail paid new_paid lacks new_lacks wanting new_wanting l are free pays count changed wanting_is = record {

@@ -10,11 +10,12 @@ use Rattle.pb_inst.specs.Meaning.{literal_value}
 use Rattle.pb_inst.specs.Cubes.{MakesTrue}
 use Rattle.pb_normal.specs.declared.terms.PositiveTerm.{PositiveTerm}
 use Rattle.pb_normal.specs.NormalForm.{PositiveRow, positive_value, NormalForm}
-use Rattle.pb_engine.specs.Trail.{negation, is_true, value_on, reached}
-use Rattle.pb_engine.specs.Completion.{IsCompletion, IsLowerBound}
+use Rattle.pb_normal.specs.Literals.{negation}
+use Rattle.pb_trail.specs.Trail.{is_true, value_on, reached}
+use Rattle.pb_trail.specs.Completion.{IsCompletion, IsLowerBound}
 use Rattle.pb_engine.specs.DisjointRows.{has_cost, is_free, is_spare, spare, is_costly, costly, extras, disjoint_bound}
-use Rattle.pb_engine.proofs.AssumptionLemmas.{true_or_false}
-use Rattle.pb_engine.proofs.CompletionLemmas.{true_in_completion, literal_value-negation}
+use Rattle.pb_trail.proofs.AssumptionLemmas.{true_or_false}
+use Rattle.pb_trail.proofs.CompletionLemmas.{true_in_completion, literal_value-negation}
 use Rattle.pb_engine.proofs.DisjointLemmas.{worth, open_worth, Suffices, MarksFree, AreDisjointable, costly-cons, extras_at_most}
 
 -- a literal on the trail has a value

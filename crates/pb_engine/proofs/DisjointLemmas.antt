@@ -11,10 +11,11 @@ use Rattle.pb_inst.specs.Literal.{Literal}
 use Rattle.pb_normal.specs.declared.terms.PositiveTerm.{PositiveTerm}
 use Rattle.pb_normal.specs.NormalForm.{PositiveRow}
 use Rattle.pb_normal.proofs.LiteralLemmas.{AreRising, rising-tail, rising-head}
-use Rattle.pb_engine.specs.Trail.{same_literal, value_on, weight_of}
+use Rattle.pb_normal.specs.Literals.{same_literal, weight_of}
+use Rattle.pb_trail.specs.Trail.{value_on}
 use Rattle.pb_engine.specs.DisjointRows.{has_cost, is_free, need, is_costly, costly, greatest, cheapest, top_cost, extra_of, extra, is_marked, meets_marks, marked_by, is_picked, extras}
-use Rattle.pb_engine.proofs.TrailLemmas.{same_literal-is}
-use Rattle.pb_engine.proofs.EntryLemmas.{weight_of-cons, weight_of-none}
+use Rattle.pb_normal.proofs.LiteralLemmas.{same_literal-is}
+use Rattle.pb_normal.proofs.LiteralLemmas.{weight_of-cons, weight_of-nil}
 
 -- what the terms are worth where a literal counts f, what they cost, and how many they are
 abbrev pub worth : (Literal → ℕ) → List PositiveTerm → ℕ
@@ -123,7 +124,7 @@ marked_other marks i l apart = rw get_or-set_other refl
 -- one more variable is marked
 covered-mark : (f : Literal → ℕ) (marks : List Bool) (l : Literal) (objective : List PositiveTerm) → l.var - 1 < length marks → is_marked marks l ≡ false → covered f marks objective + weight_of l objective * f l ≤ covered f (set marks (l.var - 1) true) objective
 covered-mark f marks l [] within unmarked =
-    let none = weight_of-none l in
+    let none = weight_of-nil l in
     let product : weight_of l [] * f l ≡ 0 = rw none (omega arith) in
     omega arith
 covered-mark f marks l (u ∷ us) within unmarked =

@@ -6,10 +6,10 @@ use Rattle.std.proofs.lemmas.List.{get_or-map}
 use Rattle.pb_inst.specs.Literal.{Literal}
 use Rattle.pb_normal.specs.declared.terms.PositiveTerm.{PositiveTerm}
 use Rattle.pb_normal.specs.NormalForm.{PositiveRow, NormalForm, IsNormal}
-use Rattle.pb_engine.specs.Constraints.{row_at, AreRowsOver, HaveRisingVariables}
+use Rattle.pb_rows.specs.Constraints.{row_at, AreRowsOver, HaveRisingVariables}
 use Rattle.pb_engine.specs.DisjointRows.{need, costly, extra, extra_of, is_picked, marked_by, extras}
 use Rattle.pb_engine.specs.Needs.{wants, AreCounters}
-use Rattle.pb_engine.specs.RowSet.{HasNoneBetween}
+use Rattle.pb_bits.specs.RowSet.{HasNoneBetween}
 use Rattle.pb_engine.specs.declared.needs.TheConstants.{MET}
 use Rattle.pb_engine.proofs.DisjointBound.{ArePickable}
 use Rattle.pb_engine.proofs.NeedLemmas.{length-wants}

@@ -6,7 +6,8 @@ use Rattle.pb_inst.specs.Literal.{Literal}
 use Rattle.pb_normal.specs.declared.terms.PositiveTerm.{PositiveTerm}
 use Rattle.pb_normal.specs.NormalForm.{PositiveRow, HasSmallSums}
 use Rattle.pb_engine.specs.DisjointRows.{gain, loss}
-use Rattle.pb_engine.specs.Trail.{negation, value_on}
+use Rattle.pb_normal.specs.Literals.{negation}
+use Rattle.pb_trail.specs.Trail.{value_on}
 use Rattle.pb_engine.proofs.SpareLemmas.{spare-push}
 use Rattle.pb_engine.specs.declared.needs.TheConstants.{MET}
 use Rattle.pb_engine.specs.Needs.{wants, IsLackOf}

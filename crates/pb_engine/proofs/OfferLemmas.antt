@@ -16,7 +16,7 @@ use Rattle.pb_engine.specs.DisjointRows.{has_cost, is_free, is_costly, costly, g
 use Rattle.pb_engine.specs.Needs.{IsLackOf}
 use Rattle.pb_engine.specs.declared.needs.TheConstants.{MET}
 use Rattle.pb_engine.specs.Offers.{no_offer, offer_with, offer_by, offer_of, offer_joined, extra_in}
-use Rattle.pb_engine.specs.Trail.{weight_of}
+use Rattle.pb_normal.specs.Literals.{weight_of}
 use Rattle.pb_engine.proofs.DisjointBound.{one_each, times_one, ones_suffice}
 use Rattle.pb_engine.proofs.DisjointLemmas.{AreWithin, number, worth_at_most, at_most_greatest, covered-marked_by, row_extra, costly-cons, costly-nil}
 

@@ -5,10 +5,12 @@ use Rattle.std.proofs.lemmas.Bool.{cases_Bool, eq-eqb, lt-ltb, le-ltb}
 use Rattle.std.proofs.lemmas.List.Sums.{sum_by-cons, sum_by_more, sum_by_more_le_part, sum_by-le-sum_by}
 use Rattle.pb_inst.specs.Literal.{Literal}
 use Rattle.pb_normal.specs.declared.terms.PositiveTerm.{PositiveTerm}
-use Rattle.pb_engine.specs.Trail.{negation, same_sign, same_literal, is_true, value_on, weight_of, reached}
+use Rattle.pb_normal.specs.Literals.{negation, same_sign, same_literal, weight_of}
+use Rattle.pb_trail.specs.Trail.{is_true, value_on, reached}
 use Rattle.pb_engine.specs.DisjointRows.{has_cost, is_free, is_spare, spare, gain, loss}
-use Rattle.pb_engine.proofs.TrailLemmas.{is_true-push, is_true-nil, no_value, value_on-same, value_on-other, same_literal-itself, same_literal-is, same_literal-other}
-use Rattle.pb_engine.proofs.EntryLemmas.{weight_of-cons, weight_of-none}
+use Rattle.pb_normal.proofs.LiteralLemmas.{same_literal-itself, same_literal-is, same_literal-other}
+use Rattle.pb_trail.proofs.TrailLemmas.{is_true-push, is_true-nil, no_value, value_on-same, value_on-other}
+use Rattle.pb_normal.proofs.LiteralLemmas.{weight_of-cons, weight_of-nil}
 
 own_negation : (l : Literal) → (same_literal l (negation l) ≡ false) × (same_literal (negation l) l ≡ false)
 own_negation l = rw (eq-eqb l.var l.var refl) (by_sign l.positive)
@@ -110,14 +112,14 @@ loss-cons objective l t terms = rw (weight_of-cons l t terms) (by_cases (has_cos
     by_cases false m n = refl
 
 gain-nil : (objective : List PositiveTerm) (l : Literal) → gain objective l [] ≡ 0
-gain-nil objective l = rw (weight_of-none l) (by_case (has_cost objective l))
+gain-nil objective l = rw (weight_of-nil l) (by_case (has_cost objective l))
   where
     by_case : (b : Bool) → ◌≡◌ {A = ℕ} (cond b 0 0) 0
     by_case true = refl
     by_case false = refl
 
 loss-nil : (objective : List PositiveTerm) (l : Literal) → loss objective l [] ≡ 0
-loss-nil objective l = rw (weight_of-none l) (by_case (has_cost objective l))
+loss-nil objective l = rw (weight_of-nil l) (by_case (has_cost objective l))
   where
     by_case : (b : Bool) → ◌≡◌ {A = ℕ} (cond b 0 0) 0
     by_case true = refl
@@ -140,7 +142,7 @@ spare-push objective trail l (t ∷ terms) free =
 -- a literal that joins the trail is paid
 pub reached-push : (trail : List Literal) (l : Literal) (terms : List PositiveTerm) → value_on trail l.var ≡ None → reached (trail ++ l ∷ []) terms ≡ reached trail terms + weight_of l terms
 unfolding reached
-reached-push trail l [] free = omega (arith, weight_of-none l)
+reached-push trail l [] free = omega (arith, weight_of-nil l)
 reached-push trail l (t ∷ terms) free =
     let rest = reached-push trail l terms free in
     let after = sum_by-cons (λ (u : PositiveTerm). cond (is_true (trail ++ l ∷ []) u.lit) u.coef 0) t terms in

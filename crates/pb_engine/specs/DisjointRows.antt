@@ -5,7 +5,8 @@ use Rattle.std.specs.List.{list_any}
 use Rattle.pb_inst.specs.Literal.{Literal}
 use Rattle.pb_normal.specs.declared.terms.PositiveTerm.{PositiveTerm}
 use Rattle.pb_normal.specs.NormalForm.{PositiveRow, NormalForm, total_coefficient}
-use Rattle.pb_engine.specs.Trail.{is_true, value_on, weight_of, reached}
+use Rattle.pb_normal.specs.Literals.{weight_of}
+use Rattle.pb_trail.specs.Trail.{is_true, value_on, reached}
 
 -- the objective has the literal
 abbrev pub has_cost : List PositiveTerm → Literal → Bool

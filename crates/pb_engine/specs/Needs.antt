@@ -5,10 +5,10 @@ use Rattle.pb_normal.specs.declared.terms.PositiveTerm.{PositiveTerm}
 use Rattle.pb_normal.specs.NormalForm.{PositiveRow, NormalForm}
 use Rattle.pb_engine.specs.declared.needs.Needs.{Needs}
 use Rattle.pb_engine.specs.declared.needs.TheConstants.{MET}
-use Rattle.pb_engine.specs.Constraints.{row_at}
+use Rattle.pb_rows.specs.Constraints.{row_at}
 use Rattle.pb_engine.specs.DisjointRows.{spare}
-use Rattle.pb_engine.specs.Tracked.{Tracked}
-use Rattle.pb_engine.specs.Trail.{reached}
+use Rattle.pb_trail.specs.EngineState.{EngineState}
+use Rattle.pb_trail.specs.Trail.{reached}
 
 -- the degree less what the row has at no cost, which may be below 0, and 2^63 more
 abbrev pub IsLackOf : List PositiveTerm → List Literal → PositiveRow → ℕ → Type 0
@@ -26,11 +26,11 @@ pub record AreCounters (form : NormalForm) (rows : List PositiveRow) (trail : Li
   pub wanting_are : wanting ≡ wants lacks
 
 -- the first literals of the trail are counted
-pub record AreNeeds {C : Type 0} (s : Tracked) (needs : Needs C) : Type 0 where
-  pub within : needs.counted ≤ length s.trail
-  pub counters : AreCounters s.form s.rows (take needs.counted s.trail) needs.paid needs.lacks.items needs.wanting
+pub record AreNeeds {C : Type 0} (form : NormalForm) (rows : List PositiveRow) (trail : List Literal) (needs : Needs C) : Type 0 where
+  pub within : needs.counted ≤ length trail
+  pub counters : AreCounters form rows (take needs.counted trail) needs.paid needs.lacks.items needs.wanting
 
 -- the counters are those of the trail, and there is a mark for each variable
-pub record HasCounters {C : Type 0} (s : Tracked) (needs : Needs C) (marks : List Bool) : Type 0 where
-  pub needs_are : AreNeeds s needs
-  pub room : length marks ≡ s.vars
+pub record HasCounters {C : Type 0} (e : EngineState) (needs : Needs C) (marks : List Bool) : Type 0 where
+  pub needs_are : AreNeeds e.form e.rows e.trail needs
+  pub room : length marks ≡ e.vars

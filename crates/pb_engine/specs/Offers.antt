@@ -5,7 +5,7 @@ use Rattle.pb_inst.specs.Literal.{Literal}
 use Rattle.pb_normal.specs.declared.terms.PositiveTerm.{PositiveTerm}
 use Rattle.pb_normal.specs.NormalForm.{total_coefficient}
 use Rattle.pb_engine.specs.DisjointRows.{has_cost, is_free, costly, greatest, cheapest, top_cost, is_marked}
-use Rattle.pb_engine.specs.Trail.{weight_of}
+use Rattle.pb_normal.specs.Literals.{weight_of}
 
 -- the sum and the greatest of the coefficients of costly literals, and the least cost of one of them
 pub record Offer : Type 0 where

@@ -2,21 +2,19 @@
 
 ghost use Rattle.std.specs.Prelude.{◌≡◌, ℕ, ◌+◌, ◌-◌, ◌^◌, ◌<◌, ◌≤◌, None, true, false, All, length, map, replicate, sum_by, slice_set, if◌then◌else◌};
 ghost use Rattle.std.specs.Option.{ForSome};
-ghost use Rattle.pb_engine.specs.Clauses.{unit_term};
-ghost use Rattle.pb_engine.specs.Constraints.{row_at};
+ghost use Rattle.pb_rows.specs.Clauses.{unit_term};
+ghost use Rattle.pb_rows.specs.Constraints.{row_at};
 ghost use Rattle.pb_engine.specs.DisjointRows.{is_free, is_picked, extra, extras, meets_marks, marked_by};
 ghost use Rattle.pb_engine.specs.Needs.{AreNeeds};
 ghost use Rattle.pb_engine.specs.Offers.{no_offer, offer_with, offer_of, offer_joined, extra_in};
-ghost use Rattle.pb_engine.specs.Tables.{terms_in};
+ghost use Rattle.pb_rows.specs.Tables.{terms_in};
 
-use crate::count::Count;
-use crate::marks::Marks;
 use crate::needs::Needs;
-use crate::slacks::Slacks;
-use crate::tables::RowTerms;
-use crate::tally::Tally;
+use pb_bits::Marks;
 use pb_inst::{Lit, Magnitude};
 use pb_normal::PositiveTerm;
+use pb_rows::{Count, RowTerms, Tally};
+use pb_trail::Slacks;
 use std::marker::Model;
 
 /// The sum and the greatest of the coefficients of costly literals, and the least cost of one of them.
@@ -210,7 +208,7 @@ fn pick<C: Count>(
     row: usize,
 ) -> Tally<C>
     requires row { row < length slacks.now.rows }
-    requires needs { AreNeeds slacks.now needs.now }
+    requires needs { AreNeeds slacks.now.form slacks.now.rows slacks.now.trail needs.now }
     requires counted { needs.now.counted ≡ length slacks.now.trail }
     requires marks { length marks.old ≡ slacks.now.vars }
     ensures extra { result ≡ (if is_picked slacks.now.form.objective slacks.now.trail marks.old (row_at slacks.now.rows row) then extra slacks.now.form.objective slacks.now.trail (row_at slacks.now.rows row) else 0) }
@@ -234,7 +232,7 @@ fn pick<C: Count>(
 
 /// The extras of the rows that are picked in order.
 pub fn extras<C: Count>(needs: &Needs<C>, marks: &mut Marks, slacks: &Slacks<'_, C>) -> Tally<C>
-    requires needs { AreNeeds slacks.now needs.now }
+    requires needs { AreNeeds slacks.now.form slacks.now.rows slacks.now.trail needs.now }
     requires counted { needs.now.counted ≡ length slacks.now.trail }
     requires marks { length marks.old ≡ slacks.now.vars }
     ensures extras { result ≡ extras slacks.now.form.objective slacks.now.trail (replicate slacks.now.vars false) slacks.now.rows }

@@ -2,24 +2,21 @@
 
 ghost use Rattle.std.specs.Prelude.{◌≡◌, ℕ, ◌+◌, ◌-◌, ◌^◌, ◌<◌, ◌≤◌, None, [], length, map, take, All, IfOk, OnOk, slice_index, sum_by, nat_lt, if◌then◌else◌};
 ghost use Rattle.std.specs.Option.{ForSome};
-ghost use Rattle.pb_engine.specs.RowSet.{HasNoneBetween};
+ghost use Rattle.pb_bits.specs.RowSet.{HasNoneBetween};
 ghost use Rattle.pb_engine.specs.declared.needs.TheConstants.{MET};
-ghost use Rattle.pb_engine.specs.Clauses.{unit_term};
-ghost use Rattle.pb_engine.specs.Constraints.{row_at};
+ghost use Rattle.pb_rows.specs.Clauses.{unit_term};
+ghost use Rattle.pb_rows.specs.Constraints.{row_at};
 ghost use Rattle.pb_engine.specs.DisjointRows.{spare, gain, loss};
-ghost use Rattle.pb_engine.specs.Index.{total_for};
+ghost use Rattle.pb_rows.specs.Index.{total_for};
 ghost use Rattle.pb_engine.specs.Needs.{AreNeeds, IsLackOf, wants};
-ghost use Rattle.pb_engine.specs.Tables.{terms_in};
-ghost use Rattle.pb_engine.specs.Trail.{negation, weight_of};
+ghost use Rattle.pb_rows.specs.Tables.{terms_in};
+ghost use Rattle.pb_normal.specs.Literals.{negation, weight_of};
 
-use crate::count::Count;
-use crate::occurrences::{Occurrence, UnitOccurrence};
-use crate::row_set::RowSet;
-use crate::slacks::Slacks;
-use crate::tables::{RowTerms, Tables};
-use crate::tally::Tally;
+use pb_bits::RowSet;
 use pb_inst::{Lit, Magnitude, Memory};
 use pb_normal::PositiveTerm;
+use pb_rows::{Count, Occurrence, RowTerms, Tables, Tally, UnitOccurrence};
+use pb_trail::Slacks;
 use std::alloc::Global;
 
 /// 2^63: what a row lacks that needs nothing more.
@@ -38,7 +35,7 @@ pub struct Needs<C: Count> {
 impl<C: Count> Needs<C> {
     /// No literal is counted.
     pub fn new(alloc: Global, slacks: &Slacks<'_, C>) -> Result<Needs<C>, Memory>
-        ensures { IfOk result (λ needs. AreNeeds slacks.now needs) }
+        ensures { IfOk result (λ needs. AreNeeds slacks.now.form slacks.now.rows slacks.now.trail needs) }
     {
         let lacks = lacks_of(alloc, slacks.tables())?;
         let wanting = wanting_of(alloc, &lacks)?;
@@ -52,8 +49,8 @@ impl<C: Count> Needs<C> {
 
     /// Counts the literals of the trail that were not counted yet.
     pub fn count(&mut self, slacks: &Slacks<'_, C>)
-        requires { AreNeeds slacks.now self.old }
-        ensures needs { AreNeeds slacks.now self.new }
+        requires { AreNeeds slacks.now.form slacks.now.rows slacks.now.trail self.old }
+        ensures needs { AreNeeds slacks.now.form slacks.now.rows slacks.now.trail self.new }
         ensures all { self.new.counted ≡ length slacks.now.trail }
     {
         while self.counted < slacks.len() {
@@ -63,8 +60,8 @@ impl<C: Count> Needs<C> {
 
     /// Takes back the literals of the trail from a place on.
     pub fn take_back(&mut self, slacks: &Slacks<'_, C>, start: usize)
-        requires { AreNeeds slacks.now self.old }
-        ensures needs { AreNeeds slacks.now self.new }
+        requires { AreNeeds slacks.now.form slacks.now.rows slacks.now.trail self.old }
+        ensures needs { AreNeeds slacks.now.form slacks.now.rows slacks.now.trail self.new }
         ensures before { self.new.counted ≤ start }
     {
         while self.counted > start {
@@ -97,9 +94,9 @@ impl<C: Count> Needs<C> {
 
     /// Counts the next literal.
     fn count_next(&mut self, slacks: &Slacks<'_, C>)
-        requires needs { AreNeeds slacks.now self.old }
+        requires needs { AreNeeds slacks.now.form slacks.now.rows slacks.now.trail self.old }
         requires next { self.old.counted < length slacks.now.trail }
-        ensures needs { AreNeeds slacks.now self.new }
+        ensures needs { AreNeeds slacks.now.form slacks.now.rows slacks.now.trail self.new }
         ensures counted { self.new.counted ≡ self.old.counted + 1 }
     {
         let tables = slacks.tables();
@@ -112,9 +109,9 @@ impl<C: Count> Needs<C> {
 
     /// Takes back the last literal that is counted.
     fn take_back_last(&mut self, slacks: &Slacks<'_, C>)
-        requires needs { AreNeeds slacks.now self.old }
+        requires needs { AreNeeds slacks.now.form slacks.now.rows slacks.now.trail self.old }
         requires some { 0 < self.old.counted }
-        ensures needs { AreNeeds slacks.now self.new }
+        ensures needs { AreNeeds slacks.now.form slacks.now.rows slacks.now.trail self.new }
         ensures counted { self.new.counted + 1 ≡ self.old.counted }
     {
         let tables = slacks.tables();

@@ -16,7 +16,7 @@ fn look<C: Count>(rt: &impl Abort, alloc: Global, engine: &mut Engine<'_, C>) ->
         values.push(engine.value(var)).expect(rt, "memory");
     }
     let mut slacks = Vec::new(alloc);
-    for row in 0..engine.slacks.rows() {
+    for row in 0..engine.propagator.slacks().rows() {
         slacks.push(slack(rt, engine, row)).expect(rt, "memory");
     }
     (engine.bound(), values, slacks)

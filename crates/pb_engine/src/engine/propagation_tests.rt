@@ -95,7 +95,7 @@ fn a_cube_that_contradicts_itself_gives_no_clause(rt: HostRuntime) {
         cube(&rt, rt.alloc(), &[2]),
     ];
     let mut engine = engine(&rt, rt.alloc(), &form, &cubes);
-    assert_eq!(rt; engine.slacks.rows(), 1);
+    assert_eq!(rt; engine.propagator.slacks().rows(), 1);
     assert!(rt; propagate(&rt, &mut engine) == Step::Fixed);
     assert_eq!(rt; engine.value(1), None);
     assert_eq!(rt; engine.value(2), Some(false));
@@ -133,7 +133,7 @@ fn the_last_of_a_million_literals_is_forced(rt: HostRuntime) {
 
 /// The literals of the row.
 fn lits_of(rt: &impl Abort, alloc: Global, engine: &Engine<'_>, row: usize) -> Vec<Lit> {
-    assert!(rt; row < engine.slacks.rows());
+    assert!(rt; row < engine.propagator.slacks().rows());
     let mut lits = Vec::new(alloc);
     match engine.row_terms(row) {
         RowTerms::Weighted(terms) => {

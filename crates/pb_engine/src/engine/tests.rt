@@ -46,12 +46,12 @@ pub fn form(
 
 /// The slack of a row by its counter, or none where it is negative.
 pub fn slack<C: Count>(rt: &impl Abort, engine: &Engine<'_, C>, row: usize) -> Option<Magnitude> {
-    assert!(rt; row < engine.slacks.rows());
-    engine
-        .slacks
+    let slacks = engine.propagator.slacks();
+    assert!(rt; row < slacks.rows());
+    slacks
         .reachable(row)
         .number()
-        .checked_sub(engine.slacks.degree(row))
+        .checked_sub(slacks.degree(row))
 }
 
 pub fn assume<C: Count>(rt: &impl Abort, engine: &mut Engine<'_, C>, number: i32) -> Step {

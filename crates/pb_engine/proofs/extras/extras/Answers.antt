@@ -3,11 +3,11 @@ use Rattle.std.proofs.lemmas.List.{take_all, length-replicate}
 use Rattle.pb_inst.specs.declared.TheConstants.{SUM_BOUND}
 use Rattle.pb_inst.specs.Literal.{Literal}
 use Rattle.pb_normal.specs.declared.terms.PositiveTerm.{PositiveTerm}
-use Rattle.pb_engine.specs.Constraints.{row_at}
+use Rattle.pb_rows.specs.Constraints.{row_at}
 use Rattle.pb_engine.specs.DisjointRows.{extras, marked_by, is_picked}
 use Rattle.pb_engine.specs.Needs.{AreCounters}
-use Rattle.pb_engine.specs.RowSet.{HasNoneBetween}
-use Rattle.pb_engine.specs.Tracked.{Tracked}
+use Rattle.pb_bits.specs.RowSet.{HasNoneBetween}
+use Rattle.pb_trail.specs.Tracked.{Tracked}
 use Rattle.pb_engine.proofs.DisjointBound.{ArePickable, extras_in_total}
 use Rattle.pb_engine.proofs.DisjointLemmas.{length-marked_by}
 use Rattle.pb_engine.proofs.ExtrasLemmas.{extras-next, extras-step, extras-end, none-needed, wanting-count, pickable}

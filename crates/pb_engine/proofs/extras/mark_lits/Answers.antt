@@ -1,7 +1,7 @@
 use Rattle.std.proofs.Common.{◌≡◌, ◌≤◌, ◌<◌, List, length, get_or, map, take, ap, sym, subst, ◌∙◌, arith, Bool}
 use Rattle.std.proofs.lemmas.List.{length-map, get_or-map}
 use Rattle.pb_normal.specs.declared.terms.PositiveTerm.{PositiveTerm}
-use Rattle.pb_engine.specs.Clauses.{unit_term}
+use Rattle.pb_rows.specs.Clauses.{unit_term}
 use Rattle.pb_engine.proofs.DisjointLemmas.{length-marked_by}
 use Rattle.pb_engine.proofs.OfferLemmas.{marked_by-none, marked_by-next}
 use Rattle.pb_engine.proofs.extras.mark_lits.Goals as goal

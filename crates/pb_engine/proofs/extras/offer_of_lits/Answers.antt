@@ -1,7 +1,7 @@
 use Rattle.std.proofs.Common.{◌≡◌, ℕ, ◌≤◌, ◌<◌, length, get_or, map, ap, sym, subst, ◌∙◌, arith}
 use Rattle.std.proofs.lemmas.List.{length-map, get_or-map}
 use Rattle.pb_normal.specs.declared.terms.PositiveTerm.{PositiveTerm}
-use Rattle.pb_engine.specs.Clauses.{unit_term}
+use Rattle.pb_rows.specs.Clauses.{unit_term}
 use Rattle.pb_engine.specs.Offers.{offer_joined}
 use Rattle.pb_engine.proofs.OfferLemmas.{offer-none, unmet-none, offer-fits, offer-met, offer-next}
 use Rattle.pb_engine.proofs.extras.offer_of_lits.Goals as goal

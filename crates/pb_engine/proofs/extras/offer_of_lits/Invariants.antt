@@ -1,5 +1,5 @@
 use Rattle.std.proofs.Common.{◌≡◌, take, false, map}
-use Rattle.pb_engine.specs.Clauses.{unit_term}
+use Rattle.pb_rows.specs.Clauses.{unit_term}
 use Rattle.pb_engine.specs.DisjointRows.{meets_marks}
 use Rattle.pb_engine.specs.Offers.{offer_of}
 use Rattle.pb_engine.proofs.extras.offer_of_lits.Given as goal

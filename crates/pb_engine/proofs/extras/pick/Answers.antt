@@ -3,14 +3,14 @@ use Rattle.std.proofs.lemmas.List.{take_all}
 use Rattle.pb_inst.specs.declared.TheConstants.{SUM_BOUND}
 use Rattle.pb_inst.specs.Literal.{Literal}
 use Rattle.pb_normal.specs.declared.terms.PositiveTerm.{PositiveTerm}
-use Rattle.pb_engine.specs.Constraints.{row_at, AreRowsOver, HaveRisingVariables}
+use Rattle.pb_rows.specs.Constraints.{row_at, AreRowsOver, HaveRisingVariables}
 use Rattle.pb_engine.specs.DisjointRows.{need, extra, meets_marks, marked_by}
 use Rattle.pb_engine.specs.Needs.{IsLackOf}
 use Rattle.pb_engine.specs.Offers.{Offer, offer_of, extra_in}
-use Rattle.pb_engine.specs.Tables.{terms_in}
-use Rattle.pb_engine.specs.Tracked.{Tracked}
+use Rattle.pb_rows.specs.Tables.{terms_in}
+use Rattle.pb_trail.specs.Tracked.{Tracked}
 use Rattle.pb_engine.proofs.DisjointLemmas.{AreWithin}
-use Rattle.pb_engine.proofs.TallyLemmas.{is_zero-true, is_zero-false}
+use Rattle.pb_rows.proofs.TallyLemmas.{is_zero-true, is_zero-false}
 use Rattle.pb_engine.proofs.OfferLemmas.{need-is, extra-is, extra-within, some-greatest, not_picked, is-picked}
 use Rattle.pb_engine.proofs.extras.pick.Goals as goal
 

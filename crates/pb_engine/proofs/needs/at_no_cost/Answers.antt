@@ -1,9 +1,9 @@
 use Rattle.std.proofs.Common.{◌≤◌, All, subst, arith}
 use Rattle.std.proofs.lemmas.List.{length-map, get_or-map}
 use Rattle.pb_normal.specs.declared.terms.PositiveTerm.{PositiveTerm}
-use Rattle.pb_engine.specs.Clauses.{unit_term}
-use Rattle.pb_engine.specs.declared.tables.RowTerms.{RowTerms}
-use Rattle.pb_engine.specs.Tables.{terms_in}
+use Rattle.pb_rows.specs.Clauses.{unit_term}
+use Rattle.pb_rows.specs.declared.tables.RowTerms.{RowTerms}
+use Rattle.pb_rows.specs.Tables.{terms_in}
 use Rattle.pb_engine.proofs.needs.at_no_cost.Goals as goal
 
 pub costless_units-requires : goal.costless_units-requires

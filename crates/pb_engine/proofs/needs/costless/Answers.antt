@@ -1,6 +1,6 @@
 use Rattle.std.proofs.Common.{[], ap, sym, arith}
 use Rattle.pb_normal.specs.declared.terms.PositiveTerm.{PositiveTerm}
-use Rattle.pb_engine.proofs.TallyLemmas.{is_zero-true, is_zero-false}
+use Rattle.pb_rows.proofs.TallyLemmas.{is_zero-true, is_zero-false}
 use Rattle.pb_engine.proofs.SpareLemmas.{spare-more, spare-same, spare-within, spare-none}
 use Rattle.pb_engine.proofs.needs.costless.Goals as goal
 use Rattle.pb_engine.proofs.needs.costless.Goals.{then-is_zero, else-is_zero}

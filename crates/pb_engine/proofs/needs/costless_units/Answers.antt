@@ -1,8 +1,8 @@
 use Rattle.std.proofs.Common.{◌≡◌, ◌+◌, ℕ, [], take, map, get_or, ap, sym, ◌∙◌, arith}
 use Rattle.std.proofs.lemmas.List.{take-map, length-map, get_or-map}
-use Rattle.pb_engine.specs.Clauses.{unit_term}
+use Rattle.pb_rows.specs.Clauses.{unit_term}
 use Rattle.pb_engine.specs.DisjointRows.{spare}
-use Rattle.pb_engine.proofs.TallyLemmas.{is_zero-true, is_zero-false}
+use Rattle.pb_rows.proofs.TallyLemmas.{is_zero-true, is_zero-false}
 use Rattle.pb_engine.proofs.SpareLemmas.{spare-more, spare-same, spare-none}
 use Rattle.pb_engine.proofs.needs.costless_units.Goals as goal
 use Rattle.pb_engine.proofs.needs.costless_units.Goals.{then-is_zero, else-is_zero}

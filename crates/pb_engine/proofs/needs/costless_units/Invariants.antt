@@ -1,5 +1,5 @@
 use Rattle.std.proofs.Common.{◌≡◌, ◌≤◌, [], take, map}
-use Rattle.pb_engine.specs.Clauses.{unit_term}
+use Rattle.pb_rows.specs.Clauses.{unit_term}
 use Rattle.pb_engine.specs.DisjointRows.{spare}
 use Rattle.pb_engine.proofs.needs.costless_units.Given as goal
 

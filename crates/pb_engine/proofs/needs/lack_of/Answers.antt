@@ -1,5 +1,5 @@
 use Rattle.std.proofs.Common.{◌≡◌, [], ap, ◌∙◌, arith}
-use Rattle.pb_engine.specs.Constraints.{row_at}
+use Rattle.pb_rows.specs.Constraints.{row_at}
 use Rattle.pb_engine.specs.DisjointRows.{spare}
 use Rattle.pb_engine.proofs.SpareLemmas.{spare-le-total}
 use Rattle.pb_engine.proofs.needs.lack_of.Goals as goal

@@ -1,5 +1,5 @@
 use Rattle.std.proofs.Common.{◌≡◌, ◌<◌, ℕ, [], length, get_or}
-use Rattle.pb_engine.specs.Constraints.{row_at}
+use Rattle.pb_rows.specs.Constraints.{row_at}
 use Rattle.pb_engine.specs.Needs.{IsLackOf}
 use Rattle.pb_engine.proofs.needs.lacks_of.Given as goal
 

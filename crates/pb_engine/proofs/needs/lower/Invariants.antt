@@ -1,5 +1,5 @@
 use Rattle.std.proofs.Common.{◌≡◌, ◌+◌, ◌<◌, ℕ, length, take, get_or}
-use Rattle.pb_engine.specs.Index.{total_for}
+use Rattle.pb_rows.specs.Index.{total_for}
 use Rattle.pb_engine.specs.Needs.{wants}
 use Rattle.pb_engine.proofs.needs.lower.Given as goal
 

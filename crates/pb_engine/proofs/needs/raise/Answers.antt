@@ -1,8 +1,8 @@
 use Rattle.std.proofs.Common.{◌≡◌, ◌<◌, ℕ, arith, ap, ◌∙◌, get_or, length, length-set}
 use Rattle.std.proofs.lemmas.List.{get_or_default, get_or_read}
-use Rattle.pb_engine.specs.Occurrences.{Occurrence}
+use Rattle.pb_rows.specs.Occurrences.{Occurrence}
 use Rattle.pb_engine.proofs.NeedLemmas.{wants-put, wants-room}
-use Rattle.pb_engine.proofs.TableLemmas.{total_for-nil, total_for-within, raise_step, none}
+use Rattle.pb_rows.proofs.TableLemmas.{total_for-nil, total_for-within, raise_step, none}
 use Rattle.pb_engine.proofs.needs.raise.Goals as goal
 
 pub loop-occurrence-init : goal.loop-occurrence-init

@@ -1,16 +1,8 @@
 use Rattle.std.proofs.Common.{subst}
-use Rattle.std.specs.Vec.{vec_capacity}
-use Rattle.pb_engine.specs.EngineState.{EngineState}
-use Rattle.pb_engine.specs.Completion.{HasNoCompletion}
-use Rattle.pb_engine.specs.Soundness.{IsSoundTrail}
-use Rattle.pb_engine.proofs.EngineLemmas.{sound-IsEngine}
+use Rattle.pb_trail.specs.Completion.{HasNoCompletion}
+use Rattle.pb_trail.specs.EngineState.{EngineState}
 use Rattle.pb_engine.proofs.engine.Engine.conflict.Goals as goal
-
-pub returns-clause-sound : goal.returns-clause-sound
-returns-clause-sound g c =
-    let inside = c.self.inside in
-    subst IsSoundTrail c.self.view_is (sound-IsEngine inside.slacks.form inside.slacks.vars inside.slacks.rows inside.slacks.trail inside.levels.items inside.settled_until inside.conflict inside.conflict (vec_capacity inside.levels) c.self.invariant.0)
 
 pub returns-clause-no_completion : goal.returns-clause-no_completion
 returns-clause-no_completion g c = λ found.
-    subst (λ (e : EngineState). HasNoCompletion e.rows e.trail) c.self.view_is (c.self.invariant.0.stands found)
+    subst (λ (e : EngineState). HasNoCompletion e.rows e.trail) c.self.view_is (c.conflict.ensures.no_completion found)

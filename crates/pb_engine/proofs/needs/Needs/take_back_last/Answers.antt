@@ -1,11 +1,11 @@
 use Rattle.std.proofs.Common.{◌≡◌, ℕ, ◌+◌, ◌-◌, ◌<◌, ◌++◌, ◌∷◌, [], List, length, get_or, take, drop, ap, sym, subst, ◌∙◌, arith}
 use Rattle.pb_inst.specs.Literal.{Literal}
-use Rattle.pb_engine.specs.Constraints.{row_at}
+use Rattle.pb_rows.specs.Constraints.{row_at}
 use Rattle.pb_engine.specs.DisjointRows.{gain, loss}
 use Rattle.pb_engine.specs.Needs.{AreCounters}
-use Rattle.pb_engine.specs.Tracked.{Tracked}
-use Rattle.pb_engine.specs.Trail.{negation, weight_of}
-use Rattle.pb_engine.proofs.IndexLemmas.{changed_in_place}
+use Rattle.pb_trail.specs.Tracked.{Tracked}
+use Rattle.pb_normal.specs.Literals.{negation, weight_of}
+use Rattle.pb_rows.proofs.IndexLemmas.{changed_in_place}
 use Rattle.pb_engine.proofs.CounterLemmas.{counters-pop, can_leave, at_place}
 use Rattle.pb_engine.proofs.SpareLemmas.{reached-push}
 use Rattle.pb_engine.proofs.needs.Needs.take_back_last.Goals as goal

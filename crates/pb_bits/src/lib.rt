@@ -1,0 +1,11 @@
+//! Sets of places that are gone through in order, and marks that are all taken back in one step.
+#![tactic(auto)]
+
+mod bits;
+mod flags;
+mod marks;
+mod row_set;
+mod summary;
+
+pub use marks::Marks;
+pub use row_set::RowSet;

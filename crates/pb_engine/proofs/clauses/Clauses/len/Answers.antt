@@ -1,8 +1,0 @@
-use Rattle.std.proofs.Common.{All, subst}
-use Rattle.pb_normal.specs.NormalForm.{PositiveRow, HasSmallSums}
-use Rattle.pb_engine.specs.Table.{ClauseRows}
-use Rattle.pb_engine.proofs.TablesLemmas.{small_clauses}
-use Rattle.pb_engine.proofs.clauses.Clauses.len.Goals as goal
-
-pub returns-clause-limits : goal.returns-clause-limits
-returns-clause-limits c = subst (λ (k : ClauseRows). All (λ (row : PositiveRow). HasSmallSums row) k.rows) c.self.view_is (small_clauses c.self.inside.clauses c.len.ensures.short)

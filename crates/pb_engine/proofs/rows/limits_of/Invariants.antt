@@ -1,5 +1,0 @@
-use Rattle.pb_engine.specs.Table.{AreLimitsOf}
-use Rattle.pb_engine.proofs.rows.limits_of.Given as goal
-
-abbrev pub invariant-loop-row : goal.invariant-loop-row
-invariant-loop-row g l = AreLimitsOf l.form.rows l.row l.limits.items

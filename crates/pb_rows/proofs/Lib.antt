@@ -1,0 +1,10 @@
+pub mod IndexLemmas
+pub mod EntryLemmas
+pub mod ClauseEntryLemmas
+pub mod CostLemmas
+pub mod LimitLemmas
+pub mod LiteralListLemmas
+pub mod NegatedLemmas
+pub mod TablesLemmas
+pub mod TallyLemmas
+pub mod TableLemmas

@@ -1,0 +1,28 @@
+//! What the objective says of each literal.
+
+ghost use Rattle.std.specs.Prelude.{◌≡◌, ℕ, ◌*◌, ◌^◌, ◌<◌, ◌≤◌, IfOk, All, length, sum_by};
+ghost use Rattle.pb_rows.specs.Costs.{AreCosts};
+
+use crate::count::Count;
+use crate::occurrences::place_of;
+use crate::tally::Tally;
+use pb_inst::Memory;
+use pb_normal::PositiveTerm;
+use std::alloc::Global;
+
+/// The objective's coefficient of each literal, at the literal's place, and 0 where it has none.
+pub fn costs_of<C: Count>(
+    alloc: Global,
+    objective: &[PositiveTerm],
+    vars: u32,
+) -> Result<Vec<Tally<C>>, Memory>
+    requires variables { All (λ t. t.lit.var ≤ vars) objective.now }
+    requires fits { sum_by (λ t. t.coef) objective.now < 2 ^ 64 }
+    ensures { IfOk result (λ costs. AreCosts vars objective.now costs.items) }
+{
+    let mut costs = vec![in alloc; Tally::of(0); 2 * vars as usize]?;
+    for term in objective {
+        costs[place_of(term.lit)] += Tally::of(term.coef);
+    }
+    Ok(costs)
+}

@@ -1,0 +1,20 @@
+//! The rows of a normal form and the clauses of negated cubes, with the rows in which each literal occurs.
+#![tactic(auto)]
+
+mod clauses;
+mod costs;
+mod count;
+mod index;
+mod literal_lists;
+mod negated;
+mod occurrences;
+mod rows;
+mod tables;
+mod tally;
+
+pub use clauses::Clauses;
+pub use count::Count;
+pub use occurrences::{Occurrence, Part, UnitOccurrence};
+pub use rows::{Limits, Rows};
+pub use tables::{RowTerms, Tables};
+pub use tally::Tally;

@@ -1,0 +1,105 @@
+//! Where literals occur.
+
+ghost use Rattle.std.specs.Prelude.{◌≡◌, ◌+◌, ◌*◌, ◌^◌, ◌<◌, ◌≤◌, IfOk};
+ghost use Rattle.pb_rows.specs.Index.{literal_place};
+
+use crate::count::Count;
+use crate::tally::Tally;
+use pb_inst::{Lit, Memory};
+use std::alloc::AllocError;
+use std::marker::Model;
+
+/// A row in which a literal occurs, and with which coefficient.
+#[derive(Clone, Copy, Debug)]
+pub struct Occurrence<C: Count> {
+    pub row: u32,
+    pub coef: Tally<C>,
+}
+
+impl<C: Count> Model for Occurrence<C> {
+    ghost use Rattle.pb_rows.specs.Occurrences.{Occurrence as Weighted};
+
+    ghost Value = { Weighted };
+
+    ghost view = { λ o. record { row = o.row; coef = o.coef } };
+
+    ghost inverse = { λ o. record { row = o.row; coef = o.coef } };
+}
+
+/// A row in which a literal occurs with the coefficient 1, which is not stored. Contracts see an `Occurrence`.
+#[derive(Clone, Copy, Debug)]
+pub struct UnitOccurrence {
+    row: u32,
+}
+
+const _: () = prove!(size_of::<UnitOccurrence>() == 4);
+
+impl Model for UnitOccurrence {
+    ghost use Rattle.pb_rows.specs.Occurrences.{Occurrence as Weighted};
+
+    ghost Value = { Weighted };
+
+    ghost view = { λ o. record { row = o.row; coef = 1 } };
+
+    ghost inverse = { λ o. record { row = o.row } };
+}
+
+impl UnitOccurrence {
+    pub fn new(row: u32) -> UnitOccurrence
+        ensures { result ≡ record { row = row; coef = 1 } }
+    {
+        UnitOccurrence { row }
+    }
+
+    pub fn row(self) -> usize
+        ensures value { result ≡ self.row }
+        ensures unit { self.coef ≡ 1 }
+    {
+        self.row as usize
+    }
+}
+
+/// A part of a list of occurrences. Unlike a slice it does not keep the list from being lent.
+#[derive(Clone, Copy, Debug)]
+pub struct Part {
+    pub start: usize,
+    pub len: usize,
+}
+
+/// An occurrence, and the place of its literal. The occurrence's parts stand beside the place, since so an entry takes no more
+/// room than an occurrence alone: while tables are built there is one of each for every term. Contracts see an `Occurrence` in it.
+#[derive(Clone, Copy, Debug)]
+pub struct Entry<C: Count> {
+    pub place: u32,
+    pub row: u32,
+    pub coef: Tally<C>,
+}
+
+const _: () = prove!(size_of::<Entry<u64>>() == 16);
+
+impl<C: Count> Model for Entry<C> {
+    ghost use Rattle.pb_rows.specs.Occurrences.{Entry as Placed};
+
+    ghost Value = { Placed };
+
+    ghost view = { λ e. record { place = e.place; occurrence = record { row = e.row; coef = e.coef } } };
+
+    ghost inverse = { λ e. record { place = e.place; row = e.occurrence.row; coef = e.occurrence.coef } };
+}
+
+/// The place of a literal: two for each variable, the negation first.
+pub fn place_of(lit: Lit) -> usize
+    ensures place { result ≡ literal_place lit }
+    ensures within { (1 ≤ lit.var) × (result < 2 * lit.var) }
+    ensures small { result < 2 ^ 32 }
+{
+    2 * (lit.var() as usize - 1) + usize::from(lit.positive())
+}
+
+/// The number of a row as occurrences keep it. More rows than 32 bits can number are refused as if memory had run out; no
+/// instance and its cubes have as many.
+pub fn row_number(row: usize) -> Result<u32, Memory>
+    ensures { IfOk result (λ number. number ≡ row) }
+{
+    u32::try_from(row).map_err(|_| AllocError)
+}

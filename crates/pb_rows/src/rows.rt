@@ -1,0 +1,226 @@
+//! The rows of a normal form, with the rows in which each literal occurs.
+
+ghost use Rattle.std.specs.Prelude.{◌≡◌, ℕ, ◌+◌, ◌*◌, ◌^◌, ◌<◌, ◌≤◌, ◌++◌, length, All, IfOk, OnOk, slice_index_or};
+ghost use Rattle.pb_normal.specs.NormalForm.{IsNormal};
+ghost use Rattle.pb_rows.specs.Constraints.{AreRowsOver, row_at};
+ghost use Rattle.pb_rows.specs.Index.{IsPartOf, occurrences_of, total_for, entries_of_row, entries_from};
+ghost use Rattle.pb_rows.specs.Occurrences.{Occurrence as Weighted};
+ghost use Rattle.pb_rows.specs.Table.{AreLimits, AreLimitsOf};
+ghost use Rattle.pb_normal.specs.Literals.{weight_of};
+
+use crate::costs::costs_of;
+use crate::count::Count;
+use crate::index::{Index, part};
+use crate::occurrences::{Entry, Occurrence, Part, place_of, row_number};
+use crate::tally::Tally;
+use pb_inst::{Lit, Magnitude, Memory};
+use pb_normal::{Normal, PositiveTerm};
+use std::alloc::Global;
+use std::marker::Model;
+
+/// The degree of a row, and what it must be able to reach so that it forces no literal, side by side for the test of its sum.
+#[derive(Clone, Copy, Debug)]
+pub struct Limits<C: Count> {
+    pub degree: Tally<C>,
+    pub enough: Tally<C>,
+}
+
+/// The rows of a normal form, with the rows in which each literal occurs and what the objective says of it. They are built
+/// once and lent to engines.
+#[derive(Debug, Drop)]
+pub struct Rows<'a, C: Count = u64> {
+    form: &'a Normal,
+    limits: Vec<Limits<C>>,
+    index: Index<C>,
+    costs: Vec<Tally<C>>,
+}
+
+impl<'a, C: Count> Model for Rows<'a, C> {
+    ghost use Rattle.pb_rows.specs.Table.{FormRows, AreFormRows};
+
+    ghost Value = { FormRows };
+
+    ghost view = { λ r. record { form = r.form.now; occurrences = r.index.occurrences.items; starts = r.index.starts.items } };
+
+    ghost invariant = { λ r. AreFormRows r.form.now r.limits.items r.index.occurrences.items r.index.starts.items r.costs.items };
+}
+
+impl<'a, C: Count> Rows<'a, C> {
+    /// The rows of the normal form.
+    pub fn new(alloc: Global, form: &'a Normal) -> Result<Rows<'a, C>, Memory>
+        ensures { IfOk result (λ rows. rows.form ≡ form.now) }
+    {
+        let entries = entries_of(alloc, form)?;
+        let index = Index::new(alloc, &entries, 2 * form.vars() as usize)?;
+        drop(entries);
+        let limits = limits_of(alloc, form)?;
+        let costs = costs_of(alloc, form.objective(), form.vars())?;
+        Ok(Rows {
+            form,
+            limits,
+            index,
+            costs,
+        })
+    }
+
+    pub fn form(&self) -> &'a Normal
+        ensures { result.now ≡ self.now.form }
+    {
+        self.form
+    }
+
+    /// The number of variables.
+    pub fn vars(&self) -> u32
+        ensures value { result ≡ self.now.form.vars }
+        ensures normal { IsNormal self.now.form }
+    {
+        self.form.vars()
+    }
+
+    /// The number of rows.
+    pub fn len(&self) -> usize
+        ensures value { result ≡ length self.now.form.rows }
+        ensures small { result < 2 ^ 63 }
+    {
+        self.limits.len()
+    }
+
+    pub fn degree(&self, row: usize) -> Magnitude
+        requires { row < length self.now.form.rows }
+        ensures { result ≡ (row_at self.now.form.rows row).degree }
+    {
+        self.form.degree(row)
+    }
+
+    /// The degree of the row, and at least what it and any coefficient of the row add up to.
+    pub fn limits(&self, row: usize) -> Limits<C>
+        requires { row < length self.now.form.rows }
+        ensures { AreLimits (row_at self.now.form.rows row) result }
+    {
+        self.limits[row]
+    }
+
+    /// The terms of the row.
+    pub fn terms(&self, row: usize) -> &'a [PositiveTerm]
+        requires { row < length self.now.form.rows }
+        ensures { result.now ≡ (row_at self.now.form.rows row).terms }
+    {
+        self.form.terms(row)
+    }
+
+    /// The rows in which the literal occurs.
+    pub fn occurrences(&self, lit: Lit) -> &[Occurrence<C>]
+        requires { lit.var ≤ self.now.form.vars }
+        ensures value { result.now ≡ occurrences_of self.now.occurrences self.now.starts lit }
+        ensures rows_exist { All (λ o. o.row < length self.now.form.rows) result.now }
+        ensures weights { (r : ℕ) → total_for r result.now ≡ weight_of lit (row_at self.now.form.rows r).terms }
+    {
+        let place = place_of(lit);
+        let (start, end) = (self.index.starts[place], self.index.starts[place + 1]);
+        part(&self.index.occurrences, start, end)
+    }
+
+    /// Which part of all occurrences the literal's are.
+    pub fn part(&self, lit: Lit) -> Part
+        requires { lit.var ≤ self.now.form.vars }
+        ensures part { IsPartOf self.now.occurrences self.now.starts lit result }
+        ensures fits { result.start + result.len < 2 ^ 64 }
+        ensures rows_exist { All (λ o. o.row < length self.now.form.rows) (occurrences_of self.now.occurrences self.now.starts lit) }
+    {
+        let place = place_of(lit);
+        let (start, end) = (self.index.starts[place], self.index.starts[place + 1]);
+        let len = end - start;
+        Part { start, len }
+    }
+
+    /// The row of an occurrence.
+    pub fn row_of(&self, occurrence: usize) -> usize
+        requires { occurrence < length self.now.occurrences }
+        ensures { (d : Weighted) → result ≡ (slice_index_or self.now.occurrences occurrence d).row }
+    {
+        self.index.occurrences[occurrence].row as usize
+    }
+
+    /// The objective's coefficient of the literal, 0 where it has none.
+    pub fn cost(&self, lit: Lit) -> Tally<C>
+        requires { lit.var ≤ self.now.form.vars }
+        ensures { result ≡ weight_of lit self.now.form.objective }
+    {
+        self.costs[place_of(lit)]
+    }
+}
+
+/// Where each literal of the rows occurs, row by row.
+fn entries_of<C: Count>(alloc: Global, form: &Normal) -> Result<Vec<Entry<C>>, Memory>
+    ensures { IfOk result (λ entries. entries.items ≡ entries_from 0 form.now.rows (length form.now.rows)) }
+{
+    let mut entries = Vec::with_capacity(alloc, room(form))?;
+    for row in 0..form.len() {
+        push_row(&mut entries, row_number(row)?, form.terms(row))?;
+    }
+    Ok(entries)
+}
+
+/// How many entries the rows need: with that room the list never grows.
+fn room(form: &Normal) -> usize {
+    let mut room = 0_usize;
+    for row in 0..form.len() {
+        room = room.saturating_add(form.terms(row).len());
+    }
+    room
+}
+
+/// Adds where the literals of the terms occur.
+fn push_row<C: Count>(
+    entries: &mut Vec<Entry<C>>,
+    row: u32,
+    terms: &[PositiveTerm],
+) -> Result<(), Memory>
+    ensures { OnOk result (entries.new.items ≡ entries.old.items ++ entries_of_row row terms.now) }
+{
+    for term in terms {
+        let place = place_of(term.lit) as u32;
+        let coef = Tally::of(term.coef);
+        entries.push(Entry { place, row, coef })?;
+    }
+    Ok(())
+}
+
+/// The limits of each row.
+fn limits_of<C: Count>(alloc: Global, form: &Normal) -> Result<Vec<Limits<C>>, Memory>
+    ensures { IfOk result (λ limits. AreLimitsOf form.now.rows (length form.now.rows) limits.items) }
+{
+    let mut limits = Vec::with_capacity(alloc, form.len())?;
+    for row in 0..form.len() {
+        limits.push(limits_at(form, row))?;
+    }
+    Ok(limits)
+}
+
+/// The limits of one row.
+fn limits_at<C: Count>(form: &Normal, row: usize) -> Limits<C>
+    requires { row < length form.now.rows }
+    ensures { AreLimits (row_at form.now.rows row) result }
+{
+    let _vars = form.vars();
+    let degree = form.degree(row);
+    let enough = enough(degree, form.terms(row));
+    Limits {
+        degree: Tally::of(degree),
+        enough: Tally::of(enough),
+    }
+}
+
+/// The degree and the greatest coefficient together.
+fn enough(degree: Magnitude, terms: &[PositiveTerm]) -> Magnitude
+    requires small { degree < 2 ^ 63 }
+    requires clipped { All (λ t. t.coef ≤ degree) terms.now }
+    ensures degree { degree ≤ result }
+    ensures each { All (λ t. degree + t.coef ≤ result) terms.now }
+{
+    let mut enough = degree;
+    for term in terms {
+        enough = enough.max(degree + term.coef);
+    }
+    enough
+}

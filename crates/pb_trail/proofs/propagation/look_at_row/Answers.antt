@@ -1,0 +1,10 @@
+use Rattle.std.proofs.Common.{subst, sym}
+use Rattle.pb_trail.specs.Tracked.{Tracked}
+use Rattle.pb_trail.specs.Propagation.{AddsForced, nothing}
+use Rattle.pb_trail.proofs.propagation.look_at_row.Goals as goal
+
+pub returns-then-not-is_below-clause-forced : goal.returns-then-not-is_below-clause-forced
+returns-then-not-is_below-clause-forced g c = nothing
+
+pub returns-then-is_below-clause-forced : goal.returns-then-is_below-clause-forced
+returns-then-is_below-clause-forced g c = subst (λ (k : Tracked). AddsForced c.args.slacks.now.rows c.args.slacks.now.trail k.trail) (sym c.blame.ensures) nothing

@@ -1,0 +1,9 @@
+pub mod Trail
+pub mod Tracked
+pub mod Completion
+pub mod Propagation
+pub mod EngineState
+pub mod Levels
+pub mod Soundness
+pub use Rattle.pb_rows.specs.Constraints
+pub use Rattle.pb_rows.specs.Tables

@@ -1,0 +1,39 @@
+-- A trail with the sums and values that are kept up to date beside it.
+use Rattle.std.specs.Prelude.{◌≡◌, ℕ, ◌-◌, ◌<◌, ◌≤◌, ◌^◌, Bool, List, length, take, All, Option, None, is_some, count_by, slice_index, slice_index_or, sum_by}
+use Rattle.pb_inst.specs.Literal.{Literal}
+use Rattle.pb_rows.specs.Occurrences.{Occurrence}
+use Rattle.pb_normal.specs.NormalForm.{PositiveRow, NormalForm}
+use Rattle.pb_trail.specs.Trail.{value_on, reachable}
+use Rattle.pb_rows.specs.Constraints.{AreRowsOver, Constraints, row_at}
+
+-- rows with the occurrences of their literals, and a trail over their variables
+pub record Tracked : Type 0 where
+  pub form : NormalForm
+  pub vars : ℕ
+  pub rows : List PositiveRow
+  pub occurrences : List Occurrence
+  pub starts : List ℕ
+  pub units : List Occurrence
+  pub unit_starts : List ℕ
+  pub trail : List Literal
+
+-- the trail over the rows
+abbrev pub tracked_of : Constraints → List Literal → Tracked
+tracked_of c trail = record { form = c.form; vars = c.vars; rows = c.rows; occurrences = c.occurrences; starts = c.starts; units = c.units; unit_starts = c.unit_starts; trail = trail }
+
+-- no variable comes twice: before each literal its variable has no value
+abbrev pub IsConsistent : List Literal → Type 0
+IsConsistent trail = (k : ℕ) (d : Literal) → k < length trail → value_on (take k trail) (slice_index_or trail k d).var ≡ None
+
+-- each row's sum is that of the trail, and each variable's value is its value on the trail
+pub record IsUpToDate (c : Constraints) (counters : List ℕ) (marks : List (Option Bool)) (trail : List Literal) (capacity : ℕ) : Type 0 where
+  pub rows_over : AreRowsOver c.vars c.rows
+  pub sum_count : length counters ≡ length c.rows
+  pub sums : (r : ℕ) → r < length c.rows → slice_index counters r ≡ reachable trail (row_at c.rows r).terms
+  pub value_count : length marks ≡ c.vars
+  pub values : (v : ℕ) → 1 ≤ v → v ≤ c.vars → slice_index_or marks (v - 1) None ≡ value_on trail v
+  pub assigned : count_by is_some marks ≡ length trail
+  pub within : All (λ l. (1 ≤ l.var) × (l.var ≤ c.vars)) trail
+  pub consistent : IsConsistent trail
+  pub room : c.vars ≤ capacity
+  pub fits : (r : ℕ) → r < length c.rows → sum_by (λ t. t.coef) (row_at c.rows r).terms < 2 ^ 64

@@ -1,0 +1,10 @@
+//! A trail with assumptions, the slack that it leaves each row, and what follows from it by single rows.
+#![tactic(auto)]
+
+mod propagation;
+mod propagator;
+mod slacks;
+
+pub use propagation::Step;
+pub use propagator::Propagator;
+pub use slacks::Slacks;

@@ -1,0 +1,229 @@
+//! A trail with assumptions, and what follows from them.
+
+ghost use Rattle.std.specs.Prelude.{◌≡◌, ◌+◌, ◌<◌, ◌≤◌, [], ◌∷◌, ◌++◌, false, true, length, take, None, Some, All, IfOk, IfSome, slice_index_or};
+ghost use Rattle.std.specs.Option.{ForSome};
+ghost use Rattle.pb_rows.specs.Constraints.{row_at};
+ghost use Rattle.pb_rows.specs.Tables.{terms_in};
+ghost use Rattle.pb_trail.specs.Trail.{value_on};
+ghost use Rattle.pb_trail.specs.Completion.{HasNoCompletion, IsSettled};
+ghost use Rattle.pb_trail.specs.Propagation.{AddsForced, IsBrokenAt};
+ghost use Rattle.pb_trail.specs.EngineState.{trail_before, is_conflict, HasNegativeSlack};
+ghost use Rattle.pb_trail.specs.Soundness.{IsFull, IsSolved, IsSoundTrail};
+
+use crate::propagation::{Step, propagate_all};
+use crate::slacks::{Slacks, cut};
+use pb_inst::{Lit, Memory};
+use pb_rows::{Count, RowTerms, Tables};
+use std::alloc::Global;
+use std::marker::Model;
+
+/// Where an assumption stands on the trail, and whether every row was settled before it.
+#[derive(Clone, Copy, Debug)]
+struct Level {
+    start: usize,
+    settled: bool,
+}
+
+/// A trail over the variables of rows with some literals assumed, and whether a conflict stands.
+#[derive(Debug, Drop)]
+pub struct Propagator<'a, C: Count> {
+    slacks: Slacks<'a, C>,
+    levels: Vec<Level>,
+    settled_until: Option<usize>,
+    conflict: bool,
+}
+
+impl<'a, C: Count> Model for Propagator<'a, C> {
+    ghost use Rattle.std.specs.Vec.{vec_capacity};
+    ghost use Rattle.pb_trail.specs.EngineState.{EngineState};
+
+    ghost Value = { EngineState };
+
+    ghost use Rattle.pb_trail.specs.Levels.{starts_of, IsEngine};
+
+    ghost view = { λ p. record { form = p.slacks.form; vars = p.slacks.vars; rows = p.slacks.rows; trail = p.slacks.trail; levels = starts_of p.levels.items; conflict = p.conflict } };
+
+    ghost invariant = { λ p. IsEngine p.slacks.vars p.slacks.rows p.slacks.trail p.levels.items p.settled_until p.conflict (vec_capacity p.levels) };
+}
+
+impl<'a, C: Count> Propagator<'a, C> {
+    /// The empty trail over the rows. Nothing after it takes memory.
+    pub fn new(alloc: Global, tables: Tables<'a, C>) -> Result<Propagator<'a, C>, Memory>
+        ensures { IfOk result (λ p. p ≡ record { form = tables.entry.form; vars = tables.entry.vars; rows = tables.entry.rows; trail = []; levels = []; conflict = false }) }
+    {
+        let levels = Vec::with_capacity(alloc, tables.vars() as usize)?;
+        let slacks = Slacks::new(alloc, tables)?;
+        Ok(Propagator {
+            slacks,
+            levels,
+            settled_until: None,
+            conflict: false,
+        })
+    }
+
+    /// The trail with the slacks of the rows.
+    pub fn slacks(&self) -> &Slacks<'a, C>
+        ensures form { result.now.form ≡ self.now.form }
+        ensures vars { result.now.vars ≡ self.now.vars }
+        ensures rows { result.now.rows ≡ self.now.rows }
+        ensures trail { result.now.trail ≡ self.now.trail }
+    {
+        &self.slacks
+    }
+
+    /// Where the assumption after as many others stands on the trail, and the trail's length where there is none.
+    pub fn start_of(&self, level: u32) -> usize
+        ensures { result ≡ slice_index_or self.now.levels level (length self.now.trail) }
+    {
+        let level = level as usize;
+        if level < self.levels.len() {
+            self.levels[level].start
+        } else {
+            self.slacks.len()
+        }
+    }
+
+    /// The value that the trail gives the variable, if any.
+    pub fn value(&self, var: u32) -> Option<bool>
+        ensures value { result ≡ value_on self.now.trail var }
+        ensures sound { IsSoundTrail self.now }
+    {
+        if var == 0 || var > self.slacks.vars() {
+            return None;
+        }
+        self.slacks.value(var)
+    }
+
+    /// The number of variables.
+    pub fn vars(&self) -> u32
+        ensures { result ≡ self.now.vars }
+    {
+        self.slacks.vars()
+    }
+
+    /// The number of assumptions on the trail.
+    pub fn level(&self) -> u32
+        ensures count { result ≡ length self.now.levels }
+        ensures sound { IsSoundTrail self.now }
+    {
+        self.levels.len() as u32
+    }
+
+    /// Whether a conflict came since the last `undo_to`.
+    pub fn conflict(&self) -> bool
+        ensures stands { result ≡ self.now.conflict }
+        ensures no_completion { result ≡ true → HasNoCompletion self.now.rows self.now.trail }
+        ensures sound { IsSoundTrail self.now }
+    {
+        self.conflict
+    }
+
+    /// The number of literals on the trail.
+    pub fn trail_len(&self) -> usize
+        ensures { result ≡ length self.now.trail }
+    {
+        self.slacks.len()
+    }
+
+    /// The literal at a place of the trail, from 0 on.
+    pub fn literal(&self, place: usize) -> Lit
+        requires { place < length self.now.trail }
+        ensures value { result ≡ slice_index_or self.now.trail place result }
+        ensures within { result.var ≤ self.now.vars }
+    {
+        self.slacks.literal(place)
+    }
+
+    /// Where a conflict stands: the row at which it was found, which can't be met under the trail.
+    pub fn conflict_row(&self) -> Option<usize>
+        ensures stands { IfSome result (λ _. self.now.conflict ≡ true) }
+        ensures broken { IfSome result (λ row. IsBrokenAt self.now.rows self.now.trail row) }
+    {
+        if self.conflict {
+            self.slacks.broken_row()
+        } else {
+            None
+        }
+    }
+
+    /// The terms of a row.
+    pub fn row_terms(&self, row: usize) -> RowTerms<'_>
+        requires { row < length self.now.rows }
+        ensures { terms_in result ≡ (row_at self.now.rows row).terms }
+    {
+        self.slacks.tables().terms(row)
+    }
+
+    /// Puts a literal without a value on the trail, as an assumption.
+    pub fn assume(&mut self, lit: Lit) -> Step
+        requires variable { lit.var ≤ self.old.vars }
+        requires no_value { value_on self.old.trail lit.var ≡ None }
+        requires no_conflict { self.old.conflict ≡ false }
+        ensures assumed { self.new ≡ record self.old { trail = self.old.trail ++ lit ∷ []; levels = self.old.levels ++ length self.old.trail ∷ []; conflict = is_conflict result } }
+        ensures conflict { result ≡ Step.Conflict → HasNegativeSlack self.old.rows self.new.trail }
+        ensures fixed { result ≡ Step.Fixed }
+        ensures sound { IsSoundTrail self.new }
+    {
+        let start = self.slacks.len();
+        let settled = is_at(self.settled_until, start);
+        self.slacks.push(lit);
+        self.levels.push_reserved(Level { start, settled });
+        Step::Fixed
+    }
+
+    /// Adds literals that are forced until no more are found by single rows, or a row can't be met any more.
+    pub fn propagate(&mut self) -> Step
+        requires { self.old.conflict ≡ false }
+        ensures added { self.new ≡ record self.old { trail = self.new.trail; conflict = is_conflict result } }
+        ensures forced { AddsForced self.old.rows self.old.trail self.new.trail }
+        ensures fixed { result ≡ Step.Fixed → All (λ row. IsSettled self.new.trail row) self.old.rows }
+        ensures solved { result ≡ Step.Fixed → IsFull self.new → IsSolved self.new }
+        ensures conflict { result ≡ Step.Conflict → HasNegativeSlack self.old.rows self.new.trail }
+        ensures no_completion { result ≡ Step.Conflict → HasNoCompletion self.old.rows self.new.trail }
+        ensures sound { IsSoundTrail self.new }
+    {
+        let step = propagate_all(&mut self.slacks, self.settled_until);
+        let length = self.slacks.len();
+        match step {
+            Step::Fixed => self.settled_until = Some(length),
+            Step::Conflict => self.conflict = true,
+        }
+        step
+    }
+
+    /// Takes back every assumption above the level, and what was added since.
+    pub fn undo_to(&mut self, level: u32)
+        requires { level ≤ length self.old.levels }
+        ensures undone { self.new ≡ record self.old { trail = trail_before self.old level; levels = take level self.old.levels; conflict = false } }
+        ensures sound { IsSoundTrail self.new }
+    {
+        let level = level as usize;
+        if level == self.levels.len() {
+            self.settled_until = known_if(!self.conflict, self.settled_until);
+            self.conflict = false;
+            return;
+        }
+        let Level { start, settled } = self.levels[level];
+        cut(&mut self.slacks, start);
+        self.levels.truncate(level);
+        self.settled_until = known_if(settled, Some(start));
+        self.conflict = false;
+    }
+}
+
+/// Whether rows are known to be settled up to just this place.
+fn is_at(settled_until: Option<usize>, place: usize) -> bool
+    ensures { result ≡ true → settled_until ≡ Some place }
+{
+    match settled_until {
+        Some(until) => until == place,
+        None => false,
+    }
+}
+
+/// The place where it is known, and else none.
+fn known_if(known: bool, settled_until: Option<usize>) -> Option<usize>
+    ensures { ForSome result (λ place. (known ≡ true) × (settled_until ≡ Some place)) }
+{
+    if known { settled_until } else { None }
+}
