@@ -12,9 +12,9 @@ use Rattle.pb_engine.specs.Clauses.{AreClausesOf}
 use Rattle.pb_engine.specs.EngineState.{EngineState}
 use Rattle.pb_engine.proofs.ClauseLemmas.{both_met, both_from}
 use Rattle.pb_cubes.specs.Pieces.{CubeList}
-use Rattle.pb_search.specs.declared.trees.Tree.{Tree}
+use Rattle.pb_search.specs.declared.search_state.SearchState.{SearchState}
 use Rattle.pb_search.specs.Layout.{IsLaidOut}
-use Rattle.pb_search.specs.Trees.{IsTreeOf}
+use Rattle.pb_search.specs.SearchState.{IsStateOf}
 
 -- the rows are those of the form and the clauses of the cubes
 abbrev pub HasRowsOf : NormalForm → List (List Literal) → EngineState → Type 0
@@ -27,16 +27,16 @@ rows_mean p f cubes s feasible rows a = (
   (λ h. subst (λ (x : List PositiveRow). MeetsRows a x) (sym rows.1) (both_from a f.rows rows.0 cubes rows.2 ((feasible a).1 h.0) h.1)),
 )
 
--- what a tree has that was made over the form, to make the cubes false
-pub record IsMade (f : NormalForm) (cubes : List (List Literal)) (t : Tree) : Type 0 where
+-- what a state has that was made over the form, to make the cubes false
+pub record IsMade (f : NormalForm) (cubes : List (List Literal)) (t : SearchState) : Type 0 where
   pub form : t.engine.form ≡ f
   pub vars : t.engine.vars ≡ f.vars
   pub rows : HasRowsOf f cubes t.engine
   pub candidate : length t.candidate ≡ f.vars
   pub room : f.vars ≤ vec_capacity t.branches
 
-made_tree : (p : Problem) (f : NormalForm) (cubes : List (List Literal)) (t : Tree) → f.vars ≡ p.vars → KeepsFeasible p f → KeepsCost p f → p.vars ≤ MAX_VARS → IsMade f cubes t → IsTreeOf p t
-made_tree p f cubes t vars feasible costs few made = record {
+made_state : (p : Problem) (f : NormalForm) (cubes : List (List Literal)) (t : SearchState) → f.vars ≡ p.vars → KeepsFeasible p f → KeepsCost p f → p.vars ≤ MAX_VARS → IsMade f cubes t → IsStateOf p t
+made_state p f cubes t vars feasible costs few made = record {
   engine = record {
     vars = made.vars ∙ vars;
     feasible = λ a h. ((rows_mean p f cubes t.engine feasible made.rows a).0 h).0;
@@ -47,11 +47,11 @@ made_tree p f cubes t vars feasible costs few made = record {
   room = subst (λ (n : ℕ). n ≤ vec_capacity t.branches) vars made.room;
 }
 
-pub laid_out : (p : Problem) (f : NormalForm) (pieces : CubeList) (cube rest : Tree) → f.vars ≡ p.vars → KeepsFeasible p f → KeepsCost p f → p.vars ≤ MAX_VARS → pieces.vars ≡ p.vars → IsMade f [] cube → IsMade f pieces.cubes rest → IsLaidOut p pieces cube rest
+pub laid_out : (p : Problem) (f : NormalForm) (pieces : CubeList) (cube rest : SearchState) → f.vars ≡ p.vars → KeepsFeasible p f → KeepsCost p f → p.vars ≤ MAX_VARS → pieces.vars ≡ p.vars → IsMade f [] cube → IsMade f pieces.cubes rest → IsLaidOut p pieces cube rest
 laid_out p f pieces cube rest vars feasible costs few same none all = record {
   vars = same;
-  cube_tree = made_tree p f [] cube vars feasible costs few none;
-  rest_tree = made_tree p f pieces.cubes rest vars feasible costs few all;
+  cube_state = made_state p f [] cube vars feasible costs few none;
+  rest_state = made_state p f pieces.cubes rest vars feasible costs few all;
   cube_rows = λ a h. (rows_mean p f [] cube.engine feasible none.rows a).1 (h, All-nil (λ (c : List Literal). MakesFalse a c));
   rest_rows = rows_mean p f pieces.cubes rest.engine feasible all.rows;
 }

@@ -20,7 +20,7 @@ use Rattle.pb_engine.specs.EngineState.{EngineState}
 use Rattle.pb_engine.specs.Soundness.{IsFull, IsSolved, IsSoundTrail}
 use Rattle.pb_search.specs.Held.{IsImprovement}
 use Rattle.pb_search.specs.Solutions.{Completes}
-use Rattle.pb_search.specs.Trees.{IsEngineOf, IsFilledFrom, IsClosed, IsNotBefore, DifferAt, HasOnesWithin, bit_on}
+use Rattle.pb_search.specs.SearchState.{IsEngineOf, IsFilledFrom, IsClosed, IsNotBefore, DifferAt, HasOnesWithin, bit_on}
 use Rattle.pb_search.proofs.HeldLemmas.{IsTaken}
 use Rattle.pb_search.proofs.Engines.{value_on-true, value_on-entry}
 

@@ -2,7 +2,7 @@ pub mod HeldLemmas
 pub mod PathLemmas
 pub mod Engines
 pub mod LeafLemmas
-pub mod OnesLemmas
+pub mod AgreedPrefixLemmas
 pub mod Moves
 pub mod SearchLemmas
 pub mod RootLemmas

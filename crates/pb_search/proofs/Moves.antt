@@ -1,4 +1,4 @@
--- Decisions and retreats keep the trail and the path together.
+-- Decisions and backtracking keep the trail and the path together.
 use Rattle.std.proofs.Common.{◌≡◌, ℕ, ◌+◌, ◌-◌, ◌<◌, ◌≤◌, List, [], ◌∷◌, ◌++◌, length, take, refl, sym, ◌∙◌, ap, subst, arith, suc, Bool, false, All, append_assoc, length-append}
 use Rattle.std.proofs.lemmas.List.{map-append, length-map}
 use Rattle.std.proofs.lemmas.List.Elements.{All-nil, All-cons, All-append}
@@ -6,9 +6,9 @@ use Rattle.pb_inst.specs.Literal.{Literal}
 use Rattle.pb_engine.specs.Trail.{value_on}
 use Rattle.pb_engine.specs.EngineState.{EngineState, trail_before}
 use Rattle.pb_engine.specs.Soundness.{assumptions, IsSoundTrail}
-use Rattle.pb_search.specs.declared.branches.Branch.{Branch}
+use Rattle.pb_search.specs.declared.branch.Branch.{Branch}
 use Rattle.pb_search.specs.Paths.{decided, IsOtherValue}
-use Rattle.pb_search.specs.Trees.{IsAtPath, IsFree}
+use Rattle.pb_search.specs.SearchState.{IsAtPath, IsFree}
 use Rattle.pb_search.proofs.Engines.{same_constraints, assumed, undone, assumptions-few}
 
 -- what holds of all holds of the front and of the last

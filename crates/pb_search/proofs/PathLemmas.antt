@@ -5,7 +5,7 @@ use Rattle.std.proofs.lemmas.List.Elements.{All-nil, All-cons}
 use Rattle.pb_inst.specs.Literal.{Literal}
 use Rattle.pb_inst.specs.Meaning.{literal_value}
 use Rattle.pb_inst.specs.Cubes.{MakesTrue}
-use Rattle.pb_search.specs.declared.branches.Branch.{Branch}
+use Rattle.pb_search.specs.declared.branch.Branch.{Branch}
 use Rattle.pb_search.specs.Paths.{decided, LeavesOpen, LiesOpen, steps_left, IsOtherValue}
 use Rattle.pb_inst.proofs.SumProofs.{literal_cases}
 

@@ -19,7 +19,7 @@ use Rattle.pb_cubes.specs.Pieces.{LiesIn}
 use Rattle.pb_search.specs.Done.{Division, IsCandidate, IsDone}
 use Rattle.pb_search.specs.Held.{IsImprovement}
 use Rattle.pb_search.specs.Solutions.{SameConstraints, Satisfies, SatisfiesUnder}
-use Rattle.pb_search.specs.Trees.{IsOwn}
+use Rattle.pb_search.specs.SearchState.{IsOwn}
 use Rattle.pb_search.proofs.Engines.{value_on-true}
 use Rattle.pb_search.proofs.Moves.{All_front, All_last}
 use Rattle.pb_search.proofs.LeafLemmas.{sign_is}

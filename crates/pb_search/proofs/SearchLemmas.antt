@@ -12,14 +12,14 @@ use Rattle.pb_normal.specs.NormalForm.{PositiveRow, NormalForm, MeetsRows, Keeps
 use Rattle.pb_engine.specs.EngineState.{EngineState}
 use Rattle.pb_engine.specs.Completion.{HasNoCompletion}
 use Rattle.pb_engine.specs.Soundness.{assumptions, literal_at, IsSoundTrail}
-use Rattle.pb_search.specs.declared.branches.Branch.{Branch}
-use Rattle.pb_search.specs.declared.trees.Tree.{Tree}
+use Rattle.pb_search.specs.declared.branch.Branch.{Branch}
+use Rattle.pb_search.specs.declared.search_state.SearchState.{SearchState}
 use Rattle.pb_cubes.specs.Pieces.{CubeList}
 use Rattle.pb_search.specs.Layout.{IsLaidOut}
 use Rattle.pb_search.specs.Held.{IsNotAfter}
 use Rattle.pb_search.specs.Paths.{decided, LiesOpen, LeavesOpen, IsOtherValue}
 use Rattle.pb_search.specs.Solutions.{SameConstraints, Satisfies, SatisfiesUnder, Completes}
-use Rattle.pb_search.specs.Trees.{IsEngineOf, IsTreeOf, IsAtPath, IsFree, IsClosed, SameBranches, IsUnderWay, IsLeaving, IsNext, IsOwn}
+use Rattle.pb_search.specs.SearchState.{IsEngineOf, IsStateOf, IsAtPath, IsFree, IsClosed, SameBranches, IsUnderWay, IsLeaving, IsNext, IsOwn}
 use Rattle.pb_search.proofs.HeldLemmas.{improvement_on_earlier}
 use Rattle.pb_search.proofs.PathLemmas.{decide_keeps, leaves_open, leaves_last, turn_keeps}
 use Rattle.pb_search.proofs.Engines.{same_constraints_onward, same_constraints_itself}
@@ -69,47 +69,47 @@ below_start root s t path a same at h = record {
 pub none_closed : (p : Problem) (s : EngineState) (held : Option Solution) → HasNoCompletion s.rows s.trail → IsClosed p s held
 none_closed p s held none a h better = none a (record { makes_true = h.makes_true; meets_rows = h.solution.meets_rows })
 
--- a visit keeps the place of the tree
-visited_at : (root : List Literal) (t u : Tree) → SameBranches t u → IsSoundTrail u.engine → IsAtPath root t.engine t.branches.items → IsAtPath root u.engine u.branches.items
-visited_at root t u same sound at = record {
+-- expanding a node keeps the place in the search tree
+expanded_at : (root : List Literal) (t u : SearchState) → SameBranches t u → IsSoundTrail u.engine → IsAtPath root t.engine t.branches.items → IsAtPath root u.engine u.branches.items
+expanded_at root t u same sound at = record {
   assumed = same.assumptions ∙ at.assumed ∙ ap (λ v. root ++ decided v.items) (sym same.branches);
   variables = subst (λ v. All (λ (b : Branch). b.lit.var ≤ u.engine.vars) v.items) (sym same.branches) (subst (λ (n : ℕ). All (λ (b : Branch). b.lit.var ≤ n) t.branches.items) (sym same.constraints.vars) at.variables);
   sound = sound;
 }
 
-pub visited_tree : (p : Problem) (t u : Tree) → SameBranches t u → IsTreeOf p t → IsTreeOf p u
-visited_tree p t u same h = record {
+pub expanded_state : (p : Problem) (t u : SearchState) → SameBranches t u → IsStateOf p t → IsStateOf p u
+expanded_state p t u same h = record {
   engine = same_engine p t.engine u.engine same.constraints h.engine;
   few_variables = h.few_variables;
   candidate = same.room ∙ h.candidate;
   room = subst (λ v. p.vars ≤ vec_capacity v) (sym same.branches) h.room;
 }
 
-pub tree_moves : (p : Problem) (u w : Tree) → SameConstraints u.engine w.engine → vec_capacity w.branches ≡ vec_capacity u.branches → length w.candidate ≡ length u.candidate → IsTreeOf p u → IsTreeOf p w
-tree_moves p u w same room candidate h = record {
+pub state_moves : (p : Problem) (u w : SearchState) → SameConstraints u.engine w.engine → vec_capacity w.branches ≡ vec_capacity u.branches → length w.candidate ≡ length u.candidate → IsStateOf p u → IsStateOf p w
+state_moves p u w same room candidate h = record {
   engine = same_engine p u.engine w.engine same h.engine;
   few_variables = h.few_variables;
   candidate = candidate ∙ h.candidate;
   room = subst (λ (n : ℕ). p.vars ≤ n) (sym room) h.room;
 }
 
--- after a visit that left the place open
-pub open_next : (p : Problem) (start : EngineState) (t u : Tree) (next : Branch) (old new : Option Solution) → SameBranches t u → IsSoundTrail u.engine → IsFree u.engine next.lit → next.flipped ≡ false → IsNotAfter p old new → IsUnderWay p start t old → IsNext p start u next new
+-- after an expansion that left the node open
+pub open_next : (p : Problem) (start : EngineState) (t u : SearchState) (next : Branch) (old new : Option Solution) → SameBranches t u → IsSoundTrail u.engine → IsFree u.engine next.lit → next.flipped ≡ false → IsNotAfter p old new → IsUnderWay p start t old → IsNext p start u next new
 open_next p start t u next old new same sound free fresh later h = record {
-  made_for = visited_tree p t u same h.made_for;
-  at_path = visited_at (assumptions start) t u same sound h.at_path;
+  made_for = expanded_state p t u same h.made_for;
+  at_path = expanded_at (assumptions start) t u same sound h.at_path;
   constraints = same_constraints_onward start t.engine u.engine h.constraints same.constraints;
   free = free;
   all_open = λ a below better. subst (λ v. LiesOpen a (v.items ++ next ∷ [])) (sym same.branches) (decide_keeps a t.branches.items next fresh (h.all_open a below (improvement_on_earlier p a old new later better)));
 }
 
--- after a visit that closed the place
-pub closed_leaving : (p : Problem) (start : EngineState) (t u : Tree) (old new : Option Solution) → SameBranches t u → IsSoundTrail u.engine → IsClosed p u.engine new → IsNotAfter p old new → IsUnderWay p start t old → IsLeaving p start u new
+-- after an expansion that closed the node
+pub closed_leaving : (p : Problem) (start : EngineState) (t u : SearchState) (old new : Option Solution) → SameBranches t u → IsSoundTrail u.engine → IsClosed p u.engine new → IsNotAfter p old new → IsUnderWay p start t old → IsLeaving p start u new
 closed_leaving p start t u old new same sound closed later h =
-    let at = visited_at (assumptions start) t u same sound h.at_path in
+    let at = expanded_at (assumptions start) t u same sound h.at_path in
     let constraints = same_constraints_onward start t.engine u.engine h.constraints same.constraints in
     record {
-      made_for = visited_tree p t u same h.made_for;
+      made_for = expanded_state p t u same h.made_for;
       at_path = at;
       constraints = constraints;
       all_leave = λ a below better.
@@ -118,26 +118,26 @@ closed_leaving p start t u old new same sound closed later h =
     }
 
 -- a decision was taken back
-pub record IsStep (p : Problem) (t u : Tree) (b : Branch) : Type 0 where
+pub record IsStep (p : Problem) (t u : SearchState) (b : Branch) : Type 0 where
   pub popped : t.branches.items ≡ u.branches.items ++ b ∷ []
   pub constraints : SameConstraints t.engine u.engine
   pub at_path : (root : List Literal) → IsAtPath root t.engine t.branches.items → IsAtPath root u.engine u.branches.items
-  pub made_for : IsTreeOf p t → IsTreeOf p u
+  pub made_for : IsStateOf p t → IsStateOf p u
   pub free : IsFree u.engine b.lit
 
-pub step_of : (p : Problem) (t u : Tree) (e : EngineState) (b : Branch) → t.branches.items ≡ u.branches.items ++ b ∷ [] → SameConstraints t.engine e → ((root : List Literal) → IsAtPath root t.engine t.branches.items → IsAtPath root e u.branches.items) → IsFree e b.lit → vec_capacity u.branches ≡ vec_capacity t.branches → length u.candidate ≡ length t.candidate → u.engine ≡ e → IsStep p t u b
+pub step_of : (p : Problem) (t u : SearchState) (e : EngineState) (b : Branch) → t.branches.items ≡ u.branches.items ++ b ∷ [] → SameConstraints t.engine e → ((root : List Literal) → IsAtPath root t.engine t.branches.items → IsAtPath root e u.branches.items) → IsFree e b.lit → vec_capacity u.branches ≡ vec_capacity t.branches → length u.candidate ≡ length t.candidate → u.engine ≡ e → IsStep p t u b
 step_of p t u e b popped same at free room candidate is =
     let constraints : SameConstraints t.engine u.engine = subst (λ (x : EngineState). SameConstraints t.engine x) (sym is) same in
     record {
       popped = popped;
       constraints = constraints;
       at_path = λ root h. subst (λ (x : EngineState). IsAtPath root x u.branches.items) (sym is) (at root h);
-      made_for = λ h. tree_moves p t u constraints room candidate h;
+      made_for = λ h. state_moves p t u constraints room candidate h;
       free = subst (λ (x : EngineState). IsFree x b.lit) (sym is) free;
     }
 
 -- nothing is left to try at the decision that was taken back
-pub leaving_on : (p : Problem) (start : EngineState) (t u : Tree) (b : Branch) (held : Option Solution) → IsStep p t u b → (b.flipped ≡ true) ⊎ IsClosed p u.engine held → IsLeaving p start t held → IsLeaving p start u held
+pub leaving_on : (p : Problem) (start : EngineState) (t u : SearchState) (b : Branch) (held : Option Solution) → IsStep p t u b → (b.flipped ≡ true) ⊎ IsClosed p u.engine held → IsLeaving p start t held → IsLeaving p start u held
 leaving_on p start t u b held step spent h =
     let constraints = same_constraints_onward start t.engine u.engine h.constraints step.constraints in
     let at = step.at_path (assumptions start) h.at_path in
@@ -158,7 +158,7 @@ leaving_on p start t u b held step spent h =
     no_choice flipped (inr closed) isnt none = none closed
 
 -- the other value of the decision that was taken back is tried next
-pub turn_next : (p : Problem) (start : EngineState) (t u : Tree) (b next : Branch) (held : Option Solution) → IsStep p t u b → IsOtherValue b next → IsLeaving p start t held → IsNext p start u next held
+pub turn_next : (p : Problem) (start : EngineState) (t u : SearchState) (b next : Branch) (held : Option Solution) → IsStep p t u b → IsOtherValue b next → IsLeaving p start t held → IsNext p start u next held
 turn_next p start t u b next held step other h = record {
   made_for = step.made_for h.made_for;
   at_path = step.at_path (assumptions start) h.at_path;
@@ -167,18 +167,18 @@ turn_next p start t u b next held step other h = record {
   all_open = λ a below better. turn_keeps a u.branches.items b next other (subst (λ (x : List Branch). LeavesOpen a x) step.popped (h.all_leave a below better));
 }
 
--- what a visit found lies below the start
-pub visit_own : (p : Problem) (start : EngineState) (t u : Tree) (old new : Incumbent) → SameBranches t u → IsSoundTrail u.engine → (new ≡ old) ⊎ IsSomeAnd new.held (λ s. Completes u.engine s.assignment) → IsUnderWay p start t old.held → IsOwn start old new
-visit_own p start t u old new same sound (inl is) h = inl is
-visit_own p start t u old new same sound (inr found) h =
+-- what an expansion found lies below the start
+pub expanded_own : (p : Problem) (start : EngineState) (t u : SearchState) (old new : Incumbent) → SameBranches t u → IsSoundTrail u.engine → (new ≡ old) ⊎ IsSomeAnd new.held (λ s. Completes u.engine s.assignment) → IsUnderWay p start t old.held → IsOwn start old new
+expanded_own p start t u old new same sound (inl is) h = inl is
+expanded_own p start t u old new same sound (inr found) h =
     inr (within new.held found)
   where
     within : (o : Option Solution) → IsSomeAnd o (λ s. Completes u.engine s.assignment) → IsSomeAnd o (λ s. SatisfiesUnder start (assumptions start) s.assignment)
     within None k = k
-    within (Some s) k = below_start (assumptions start) start u.engine u.branches.items s.assignment (same_constraints_onward start t.engine u.engine h.constraints same.constraints) (visited_at (assumptions start) t u same sound h.at_path) k
+    within (Some s) k = below_start (assumptions start) start u.engine u.branches.items s.assignment (same_constraints_onward start t.engine u.engine h.constraints same.constraints) (expanded_at (assumptions start) t u same sound h.at_path) k
 
 -- the search begins
-pub begins : (p : Problem) (t : Tree) (held : Option Solution) → IsTreeOf p t → IsSoundTrail t.engine → t.branches.items ≡ [] → IsUnderWay p t.engine t held
+pub begins : (p : Problem) (t : SearchState) (held : Option Solution) → IsStateOf p t → IsSoundTrail t.engine → t.branches.items ≡ [] → IsUnderWay p t.engine t held
 begins p t held made sound empty = record {
   made_for = made;
   at_path = record {
@@ -191,7 +191,7 @@ begins p t held made sound empty = record {
 }
 
 -- the decision is made, and what is held may have moved on
-pub goes_on : (p : Problem) (start : EngineState) (t u : Tree) (next : Branch) (old new : Option Solution) → IsNext p start t next old → IsNotAfter p old new → IsAtPath (assumptions start) u.engine u.branches.items → u.branches.items ≡ t.branches.items ++ next ∷ [] → SameConstraints t.engine u.engine → IsTreeOf p u → IsUnderWay p start u new
+pub goes_on : (p : Problem) (start : EngineState) (t u : SearchState) (next : Branch) (old new : Option Solution) → IsNext p start t next old → IsNotAfter p old new → IsAtPath (assumptions start) u.engine u.branches.items → u.branches.items ≡ t.branches.items ++ next ∷ [] → SameConstraints t.engine u.engine → IsStateOf p u → IsUnderWay p start u new
 goes_on p start t u next old new h later at added same made = record {
   made_for = made;
   at_path = at;
@@ -217,12 +217,12 @@ pub if_none_map : (o : Option Branch) (P Q : Type 0) → (P → Q) → IfNone o 
 if_none_map None P Q f h = f h
 if_none_map (Some b) P Q f h = h
 
--- a search is laid out as before where the tree of the remainder has the same constraints
-pub rest_laid_out : (p : Problem) (pieces : CubeList) (cube rest new : Tree) → IsLaidOut p pieces cube rest → IsTreeOf p new → SameConstraints rest.engine new.engine → IsLaidOut p pieces cube new
+-- a search is laid out as before where the state of the remainder has the same constraints
+pub rest_laid_out : (p : Problem) (pieces : CubeList) (cube rest new : SearchState) → IsLaidOut p pieces cube rest → IsStateOf p new → SameConstraints rest.engine new.engine → IsLaidOut p pieces cube new
 rest_laid_out p pieces cube rest new h made same = record {
   vars = h.vars;
-  cube_tree = h.cube_tree;
-  rest_tree = made;
+  cube_state = h.cube_state;
+  rest_state = made;
   cube_rows = h.cube_rows;
   rest_rows = subst (λ (rows : List PositiveRow). (a : List Bool) → MeetsRows a rows ↔ (IsFeasible p a × All (λ c. MakesFalse a c) pieces.cubes)) (sym same.rows) h.rest_rows;
 }

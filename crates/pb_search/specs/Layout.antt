@@ -1,4 +1,4 @@
--- How a search is laid out: one tree for the cubes, and one for the remainder, which makes each cube false.
+-- How a search is laid out: one state for the cubes, and one for the remainder, which makes each cube false.
 use Rattle.std.specs.Prelude.{◌≡◌, ◌≤◌, Bool, List, [], All, ◌↔◌}
 use Rattle.pb_inst.specs.Literal.{Literal}
 use Rattle.pb_inst.specs.Problem.{Problem}
@@ -10,13 +10,13 @@ use Rattle.pb_engine.specs.Clauses.{AreClausesOf}
 use Rattle.pb_engine.specs.Table.{FormRows, ClauseRows}
 use Rattle.pb_engine.specs.Tables.{AreBeside}
 use Rattle.pb_cubes.specs.Pieces.{CubeList}
-use Rattle.pb_search.specs.declared.trees.Tree.{Tree}
-use Rattle.pb_search.specs.Trees.{IsTreeOf}
+use Rattle.pb_search.specs.declared.search_state.SearchState.{SearchState}
+use Rattle.pb_search.specs.SearchState.{IsStateOf}
 
-pub record IsLaidOut (p : Problem) (pieces : CubeList) (cube rest : Tree) : Type 0 where
+pub record IsLaidOut (p : Problem) (pieces : CubeList) (cube rest : SearchState) : Type 0 where
   pub vars : pieces.vars ≡ p.vars
-  pub cube_tree : IsTreeOf p cube
-  pub rest_tree : IsTreeOf p rest
+  pub cube_state : IsStateOf p cube
+  pub rest_state : IsStateOf p rest
   pub cube_rows : (a : List Bool) → IsFeasible p a → MeetsRows a cube.engine.rows
   pub rest_rows : (a : List Bool) → MeetsRows a rest.engine.rows ↔ (IsFeasible p a × All (λ cube. MakesFalse a cube) pieces.cubes)
 

@@ -2,6 +2,6 @@ pub mod Held
 pub mod Solutions
 pub mod Done
 pub mod Paths
-pub mod Trees
+pub mod SearchState
 pub mod Layout
-pub mod Ones
+pub mod AgreedPrefix

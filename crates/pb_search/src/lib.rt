@@ -1,26 +1,27 @@
 //! Branch and bound on one piece: decisions stand on the engine's trail, and a subtree is left where it holds no
 //! assignment that comes before the best one.
+//!
+//! `search` assumes a piece's cube at the `root` and searches the subtree below it, `node` by node. At a node the engine
+//! propagates, `pruning` asks whether the subtree may be left, and `order` names the decision (`branch`) to make next.
+//! Where there is none, `incumbent` takes the full trail, and `backtrack` goes back to a decision whose other value is
+//! still to be tried.
 #![tactic(auto)]
 
-mod branches;
-mod cubes;
-mod decisions;
-mod heap;
-mod leaves;
-mod ones;
-mod orders;
-mod outlooks;
-mod paths;
-mod scores;
-mod searches;
-mod shares;
+mod agreed_prefix;
+mod backtrack;
+mod branch;
+mod incumbent;
+mod node;
+mod order;
+mod pruning;
+mod root;
+mod search;
+mod search_state;
+mod share;
 mod tables;
 #[cfg(test)]
 mod tests;
-mod trees;
-mod visits;
-mod weights;
 
-pub use searches::Search;
-pub use shares::{Alone, Share};
+pub use search::Search;
+pub use share::{Alone, Share};
 pub use tables::SearchTables;

@@ -4,7 +4,7 @@ ghost use Rattle.std.specs.Prelude.{◌≡◌, IfOk};
 ghost use Rattle.pb_normal.specs.NormalForm.{KeepsCost, KeepsFeasible};
 ghost use Rattle.pb_search.specs.Layout.{IsLaidOut, pieces_of};
 
-use crate::trees::Tree;
+use crate::search_state::SearchState;
 use pb_cubes::Pieces;
 use pb_engine::{Clauses, Rows};
 use pb_inst::{Instance, Memory};
@@ -74,12 +74,15 @@ impl<'a> SearchTables<'a> {
         self.pieces
     }
 
-    /// A tree for the cubes, and one for the remainder.
-    pub(crate) fn trees(&'a self, alloc: Global) -> Result<(Tree<'a>, Tree<'a>), Memory>
+    /// A state for the searches of cubes, and one for that of the remainder.
+    pub(crate) fn states(
+        &'a self,
+        alloc: Global,
+    ) -> Result<(SearchState<'a>, SearchState<'a>), Memory>
         ensures { IfOk result (λ t. IsLaidOut self.now.problem (pieces_of self.now.problem self.now.cubes) t.0 t.1) }
     {
-        let cube = Tree::over(alloc, &self.rows, &self.none, &[])?;
-        let rest = Tree::over(alloc, &self.rows, &self.rest, self.pieces.cubes())?;
+        let cube = SearchState::over(alloc, &self.rows, &self.none, &[])?;
+        let rest = SearchState::over(alloc, &self.rows, &self.rest, self.pieces.cubes())?;
         Ok((cube, rest))
     }
 }

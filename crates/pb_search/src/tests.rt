@@ -1,8 +1,7 @@
-//! Searches of worked instances, searches whose share hands over any bits, small instances beside the listing of all
-//! assignments, and the heap of variables.
+//! Searches of worked instances, searches whose share hands over any bits, and small instances beside the listing of all
+//! assignments.
 
 mod efforts;
-mod heaps;
 mod instances;
 mod lenders;
 mod listing;

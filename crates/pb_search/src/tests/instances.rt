@@ -1,6 +1,6 @@
 //! Instances, cubes and assignments by the numbers of their literals, and searches of pieces.
 
-ghost use Rattle.std.specs.Prelude.{◌≡◌, length, IfOk};
+ghost use Rattle.std.specs.Prelude.{◌≡◌, length};
 
 use crate::{Search, Share};
 use pb_cubes::Pieces;

@@ -7,45 +7,30 @@ use super::instances::{
 use super::lenders::{InTurn, Lender};
 use pb_cubes::Pieces;
 use pb_inst::{Number, Relation};
+use std::alloc::Global;
+use std::process::Abort;
+
+/// What the search of the tied instance ends with, where it is lent the assignment that makes these variables alone true.
+fn shown_with_lent(rt: &impl Abort, alloc: Global, made_true: &[u32]) -> String {
+    let tied = instance(rt, alloc, 3, TIED.0, TIED.1);
+    let pieces = Pieces::new(3, Vec::new(alloc)).expect(rt, "pieces");
+    let lent = assignment(rt, alloc, 3, made_true);
+    let mut lender = Lender { lent };
+    let mut best = nothing(rt, alloc, &tied);
+    search_pieces(rt, alloc, &tied, &pieces, 0, 1, &mut best, &mut lender);
+    shown(rt, alloc, &best)
+}
 
 #[test]
 fn infeasible_bits_are_dropped(rt: HostRuntime) {
-    let alloc = rt.alloc();
-    let tied = instance(&rt, alloc, 3, TIED.0, TIED.1);
-    let pieces = Pieces::new(3, Vec::new(alloc)).expect(&rt, "pieces");
-    let lent = assignment(&rt, alloc, 3, &[]);
-    let mut best = nothing(&rt, alloc, &tied);
-    search_pieces(
-        &rt,
-        alloc,
-        &tied,
-        &pieces,
-        0,
-        1,
-        &mut best,
-        &mut Lender { lent },
-    );
-    assert_eq!(rt; shown(&rt, alloc, &best).as_str(), "3: x2");
+    let held = shown_with_lent(&rt, rt.alloc(), &[]);
+    assert_eq!(rt; held.as_str(), "3: x2");
 }
 
 #[test]
 fn a_costly_assignment_is_improved(rt: HostRuntime) {
-    let alloc = rt.alloc();
-    let tied = instance(&rt, alloc, 3, TIED.0, TIED.1);
-    let pieces = Pieces::new(3, Vec::new(alloc)).expect(&rt, "pieces");
-    let lent = assignment(&rt, alloc, 3, &[1, 2, 3]);
-    let mut best = nothing(&rt, alloc, &tied);
-    search_pieces(
-        &rt,
-        alloc,
-        &tied,
-        &pieces,
-        0,
-        1,
-        &mut best,
-        &mut Lender { lent },
-    );
-    assert_eq!(rt; shown(&rt, alloc, &best).as_str(), "3: x2");
+    let held = shown_with_lent(&rt, rt.alloc(), &[1, 2, 3]);
+    assert_eq!(rt; held.as_str(), "3: x2");
 }
 
 /// `min: 1 x1 1 x65` with `x1 + x65 = 1`: of what is handed over in turn one is feasible, and comes second.

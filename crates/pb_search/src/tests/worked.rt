@@ -1,10 +1,14 @@
 //! Worked searches: ties, pieces, and a chain that propagation solves.
 
+ghost use Rattle.std.specs.Prelude.{◌≡◌};
+
 use super::instances::{TIED, assignment, cubes, instance, nothing, search_pieces, shown};
 use super::lenders::Pretender;
 use crate::Alone;
 use pb_cubes::Pieces;
-use pb_inst::Relation;
+use pb_inst::{Best, Instance, Relation};
+use std::alloc::Global;
+use std::process::Abort;
 
 /// The clause `x1 or x2`.
 const ONE_OF_TWO: &[super::instances::Row<'_>] = &[(&[(1, 1), (1, 2)], Relation::AtLeast, 1)];
@@ -26,46 +30,36 @@ fn an_equal_cost_that_comes_first_replaces_the_best(rt: HostRuntime) {
     assert_eq!(rt; shown(&rt, alloc, &best).as_str(), "3: x2");
 }
 
+/// Searches the pieces from `first` to before `end` with nobody to share with, and shows what is held then.
+fn shown_after(
+    rt: &impl Abort,
+    alloc: Global,
+    instance: &Instance,
+    pieces: &Pieces,
+    first: u32,
+    end: u32,
+    best: &mut Best<'_>,
+) -> String
+    requires { best.old.problem ≡ instance.now }
+    ensures { best.new.problem ≡ best.old.problem }
+{
+    search_pieces(rt, alloc, instance, pieces, first, end, best, &mut Alone);
+    shown(rt, alloc, best)
+}
+
 #[test]
 fn a_piece_is_searched_alone(rt: HostRuntime) {
     let alloc = rt.alloc();
     let one_of_two = instance(&rt, alloc, 2, &[], ONE_OF_TWO);
     let pieces = Pieces::new(2, cubes(&rt, alloc, &[&[1]])).expect(&rt, "pieces");
     let mut best = nothing(&rt, alloc, &one_of_two);
-    search_pieces(
-        &rt,
-        alloc,
-        &one_of_two,
-        &pieces,
-        1,
-        2,
-        &mut best,
-        &mut Alone,
-    );
-    assert_eq!(rt; shown(&rt, alloc, &best).as_str(), "0: x2");
+    let held = shown_after(&rt, alloc, &one_of_two, &pieces, 1, 2, &mut best);
+    assert_eq!(rt; held.as_str(), "0: x2");
     let mut best = nothing(&rt, alloc, &one_of_two);
-    search_pieces(
-        &rt,
-        alloc,
-        &one_of_two,
-        &pieces,
-        0,
-        1,
-        &mut best,
-        &mut Alone,
-    );
-    assert_eq!(rt; shown(&rt, alloc, &best).as_str(), "0: x1");
-    search_pieces(
-        &rt,
-        alloc,
-        &one_of_two,
-        &pieces,
-        1,
-        2,
-        &mut best,
-        &mut Alone,
-    );
-    assert_eq!(rt; shown(&rt, alloc, &best).as_str(), "0: x2");
+    let held = shown_after(&rt, alloc, &one_of_two, &pieces, 0, 1, &mut best);
+    assert_eq!(rt; held.as_str(), "0: x1");
+    let held = shown_after(&rt, alloc, &one_of_two, &pieces, 1, 2, &mut best);
+    assert_eq!(rt; held.as_str(), "0: x2");
 }
 
 #[test]
@@ -75,51 +69,15 @@ fn a_remainder_without_assignments_changes_nothing(rt: HostRuntime) {
     let lists: &[&[i32]] = &[&[1, -1], &[], &[]];
     let pieces = Pieces::new(2, cubes(&rt, alloc, lists)).expect(&rt, "pieces");
     let mut best = nothing(&rt, alloc, &one_of_two);
-    search_pieces(
-        &rt,
-        alloc,
-        &one_of_two,
-        &pieces,
-        0,
-        1,
-        &mut best,
-        &mut Alone,
-    );
-    assert_eq!(rt; shown(&rt, alloc, &best).as_str(), "none");
-    search_pieces(
-        &rt,
-        alloc,
-        &one_of_two,
-        &pieces,
-        1,
-        3,
-        &mut best,
-        &mut Alone,
-    );
-    assert_eq!(rt; shown(&rt, alloc, &best).as_str(), "0: x2");
-    search_pieces(
-        &rt,
-        alloc,
-        &one_of_two,
-        &pieces,
-        3,
-        4,
-        &mut best,
-        &mut Alone,
-    );
-    assert_eq!(rt; shown(&rt, alloc, &best).as_str(), "0: x2");
+    let held = shown_after(&rt, alloc, &one_of_two, &pieces, 0, 1, &mut best);
+    assert_eq!(rt; held.as_str(), "none");
+    let held = shown_after(&rt, alloc, &one_of_two, &pieces, 1, 3, &mut best);
+    assert_eq!(rt; held.as_str(), "0: x2");
+    let held = shown_after(&rt, alloc, &one_of_two, &pieces, 3, 4, &mut best);
+    assert_eq!(rt; held.as_str(), "0: x2");
     let mut best = nothing(&rt, alloc, &one_of_two);
-    search_pieces(
-        &rt,
-        alloc,
-        &one_of_two,
-        &pieces,
-        3,
-        4,
-        &mut best,
-        &mut Alone,
-    );
-    assert_eq!(rt; shown(&rt, alloc, &best).as_str(), "none");
+    let held = shown_after(&rt, alloc, &one_of_two, &pieces, 3, 4, &mut best);
+    assert_eq!(rt; held.as_str(), "none");
 }
 
 /// `x1 >= 1`, and each of sixty variables is other than the one before it.

@@ -1,0 +1,42 @@
+use Rattle.std.proofs.Common.{◌≡◌, ◌++◌, ◌∷◌, [], ◌<◌, ◌⊎◌, List, true, refl, subst, sym}
+use Rattle.pb_engine.specs.EngineState.{EngineState}
+use Rattle.pb_search.specs.declared.branch.Branch.{Branch}
+use Rattle.pb_search.specs.declared.search_state.SearchState.{SearchState}
+use Rattle.pb_search.specs.Paths.{steps_left}
+use Rattle.pb_search.specs.AgreedPrefix.{KnowsHeldPrefix}
+use Rattle.pb_search.specs.SearchState.{IsClosed}
+use Rattle.pb_search.proofs.Engines.{same_constraints_onward}
+use Rattle.pb_search.proofs.Moves.{shortened_more}
+use Rattle.pb_search.proofs.PathLemmas.{turn_falls}
+use Rattle.pb_search.proofs.SearchLemmas.{IsStep, step_of, leaving_on, turn_next}
+use Rattle.pb_search.proofs.backtrack.backtrack.Goals as goal
+
+pub returns-then-not-is_spent-clause-next : goal.returns-then-not-is_spent-clause-next
+returns-then-not-is_spent-clause-next c start h =
+    let u : SearchState = record { engine = c.is_spent.new.engine; branches = c.undo_decision.new.path; candidate = c.loop-branch.state.candidate; order = c.loop-branch.state.order } in
+    let step : IsStep c.args.best.now.problem c.loop-branch.state u c.in-Some.branch = step_of c.args.best.now.problem c.loop-branch.state u c.undo_decision.new.engine c.in-Some.branch c.in-Some.ensures.popped c.undo_decision.ensures.constraints c.undo_decision.ensures.at_path c.in-Some.ensures.free c.undo_decision.ensures.same_room refl c.is_spent.ensures.unchanged in
+    turn_next c.args.best.now.problem start c.loop-branch.state u c.in-Some.branch c.other_value.result c.args.best.now.held step c.other_value.ensures (c.loop-branch.invariant.leaving start h)
+
+pub returns-then-not-is_spent-clause-fewer : goal.returns-then-not-is_spent-clause-fewer
+returns-then-not-is_spent-clause-fewer c few =
+    let s = shortened_more c.args.state.now.branches.items c.loop-branch.state.branches.items c.undo_decision.new.path.items c.in-Some.branch c.loop-branch.invariant.shortened c.in-Some.ensures.popped in
+    subst (λ (x : List Branch). steps_left c.args.best.now.problem.vars (c.undo_decision.new.path.items ++ c.other_value.result ∷ []) < steps_left c.args.best.now.problem.vars x) (sym s.1)
+    (turn_falls c.args.best.now.problem.vars c.undo_decision.new.path.items s.0 c.in-Some.branch c.other_value.result (c.is_spent.ensures.fresh c.if-not-is_spent.true) c.other_value.ensures.flipped)
+
+pub loop-branch-preserved : goal.loop-branch-preserved
+loop-branch-preserved c =
+    let u : SearchState = record { engine = c.is_spent.new.engine; branches = c.undo_decision.new.path; candidate = c.loop-branch.state.candidate; order = c.loop-branch.state.order } in
+    let step : IsStep c.args.best.now.problem c.loop-branch.state u c.in-Some.branch = step_of c.args.best.now.problem c.loop-branch.state u c.undo_decision.new.engine c.in-Some.branch c.in-Some.ensures.popped c.undo_decision.ensures.constraints c.undo_decision.ensures.at_path c.in-Some.ensures.free c.undo_decision.ensures.same_room refl c.is_spent.ensures.unchanged in
+    let s = shortened_more c.args.state.now.branches.items c.loop-branch.state.branches.items c.undo_decision.new.path.items c.in-Some.branch c.loop-branch.invariant.shortened c.in-Some.ensures.popped in
+    let spent : (c.in-Some.branch.flipped ≡ true) ⊎ IsClosed c.args.best.now.problem u.engine c.args.best.now.held = subst (λ (e : EngineState). (c.in-Some.branch.flipped ≡ true) ⊎ IsClosed c.args.best.now.problem e c.args.best.now.held) (sym c.is_spent.ensures.unchanged) (c.is_spent.ensures.spent c.if-not-is_spent.false) in
+    record {
+      made_for = step.made_for c.loop-branch.invariant.made_for;
+      at_path = record { root = c.loop-branch.invariant.at_path.root; at = step.at_path c.loop-branch.invariant.at_path.root c.loop-branch.invariant.at_path.at };
+      shortened = record { taken_back = c.in-Some.branch ∷ s.0; path = s.1 };
+      constraints = same_constraints_onward c.args.state.now.engine c.loop-branch.state.engine u.engine c.loop-branch.invariant.constraints step.constraints;
+      leaving = λ start h. leaving_on c.args.best.now.problem start c.loop-branch.state u c.in-Some.branch c.args.best.now.held step spent (c.loop-branch.invariant.leaving start h);
+      known = subst (λ (e : EngineState). KnowsHeldPrefix e.trail c.args.best.now.held c.is_spent.new.agreed) (sym c.is_spent.ensures.unchanged) c.is_spent.ensures.known;
+    }
+
+pub returns-then-not-is_spent-clause-known : goal.returns-then-not-is_spent-clause-known
+returns-then-not-is_spent-clause-known c = subst (λ (e : EngineState). KnowsHeldPrefix e.trail c.args.best.now.held c.is_spent.new.agreed) (sym c.is_spent.ensures.unchanged) c.is_spent.ensures.known

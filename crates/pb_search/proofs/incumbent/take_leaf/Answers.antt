@@ -1,0 +1,19 @@
+use Rattle.std.proofs.Common.{◌∙◌, sym}
+use Rattle.pb_search.proofs.HeldLemmas.{taken}
+use Rattle.pb_search.proofs.LeafLemmas.{leaf_closes, leaf_own}
+use Rattle.pb_search.proofs.incumbent.take_leaf.Goals as goal
+
+pub returns-then-not-take-clause-closed : goal.returns-then-not-take-clause-closed
+returns-then-not-take-clause-closed g c =
+    leaf_closes c.args.engine.now c.args.best.now c.take.new.self c.fill.new.into c.take.result c.requires.engine c.requires.full c.fill.ensures.filled (c.fill.ensures.same_length ∙ c.requires.room ∙ sym c.requires.engine.vars)
+    (taken c.args.best.now c.take.new.self c.fill.new.into c.take.result c.take.ensures.decides c.take.ensures.same_instance c.take.ensures.held c.take.ensures.sound c.take.ensures.was_sound)
+
+pub returns-in-Some-clause-closed : goal.returns-in-Some-clause-closed
+returns-in-Some-clause-closed g c =
+    leaf_closes c.args.engine.now c.args.best.now c.take.new.self c.fill.new.into c.take.result c.requires.engine c.requires.full c.fill.ensures.filled (c.fill.ensures.same_length ∙ c.requires.room ∙ sym c.requires.engine.vars)
+    (taken c.args.best.now c.take.new.self c.fill.new.into c.take.result c.take.ensures.decides c.take.ensures.same_instance c.take.ensures.held c.take.ensures.sound c.take.ensures.was_sound)
+
+pub returns-in-Some-clause-own : goal.returns-in-Some-clause-own
+returns-in-Some-clause-own g c =
+    leaf_own c.args.engine.now c.args.best.now c.take.new.self c.fill.new.into c.take.result c.fill.ensures.filled (c.fill.ensures.same_length ∙ c.requires.room ∙ sym c.requires.engine.vars) c.requires.sound c.requires.solved
+    (taken c.args.best.now c.take.new.self c.fill.new.into c.take.result c.take.ensures.decides c.take.ensures.same_instance c.take.ensures.held c.take.ensures.sound c.take.ensures.was_sound)

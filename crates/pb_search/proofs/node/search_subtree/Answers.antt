@@ -1,0 +1,56 @@
+use Rattle.std.proofs.Common.{◌≡◌, ◌∙◌, ◌∷◌, [], arith, refl, subst}
+use Rattle.pb_inst.specs.Problem.{Problem}
+use Rattle.pb_search.specs.Held.{IsNotAfter}
+use Rattle.pb_search.specs.declared.search_state.SearchState.{SearchState}
+use Rattle.pb_search.specs.SearchState.{IsUnderWay, IsNext, IsOwn, IsStateOf}
+use Rattle.pb_search.proofs.AgreedPrefixLemmas.{knows_longer}
+use Rattle.pb_search.proofs.HeldLemmas.{moves_onward, not_after_itself}
+use Rattle.pb_search.proofs.SearchLemmas.{goes_on, at_problem, own_onward, state_moves}
+use Rattle.std.proofs.Common.{inl}
+use Rattle.pb_search.proofs.node.search_subtree.Goals as goal
+
+pub loop-branch-preserved-then-decisions-eq0 : goal.loop-branch-preserved-then-decisions-eq0
+loop-branch-preserved-then-decisions-eq0 g c =
+    let start = c.args.state.now.engine in
+    let same : c.loop-branch.best.problem ≡ c.args.best.now.problem = c.loop-branch.invariant.moves_on.same_instance in
+    let now : c.next_branch.new.best.problem ≡ c.args.best.now.problem = c.next_branch.ensures.moves_on.same_instance ∙ same in
+    let u : SearchState = record { engine = c.decide.new.engine; branches = c.decide.new.path; candidate = c.borrow_on_the_way.new.scratch; order = c.next_branch.new.state.order } in
+    let next : IsNext c.args.best.now.problem start c.next_branch.new.state c.in-Some.branch c.next_branch.new.best.held =
+    at_problem c.args.best.now.problem c.loop-branch.best.problem (λ p. IsUnderWay p start c.loop-branch.state c.loop-branch.best.held) (λ p. IsNext p start c.next_branch.new.state c.in-Some.branch c.next_branch.new.best.held) same (c.in-Some.ensures.next start) c.loop-branch.invariant.under_way in
+    let found : IsOwn start c.loop-branch.best c.next_branch.new.best =
+    at_problem c.args.best.now.problem c.loop-branch.best.problem (λ p. IsUnderWay p start c.loop-branch.state c.loop-branch.best.held) (λ _. IsOwn start c.loop-branch.best c.next_branch.new.best) same (c.next_branch.ensures.own start) c.loop-branch.invariant.under_way in
+    let later : IsNotAfter c.args.best.now.problem c.next_branch.new.best.held c.borrow_on_the_way.new.best.held = subst (λ (p : Problem). IsNotAfter p c.next_branch.new.best.held c.borrow_on_the_way.new.best.held) now c.borrow_on_the_way.ensures.moves_on.not_after in
+    let made : IsStateOf c.args.best.now.problem u = state_moves c.args.best.now.problem c.next_branch.new.state u c.decide.ensures.constraints c.decide.ensures.same_room c.borrow_on_the_way.ensures.same_length next.made_for in
+    record {
+      under_way = goes_on c.args.best.now.problem start c.next_branch.new.state u c.in-Some.branch c.next_branch.new.best.held c.borrow_on_the_way.new.best.held next later (c.decide.ensures.at_path _ next.at_path) c.decide.ensures.added c.decide.ensures.constraints made;
+      moves_on = moves_onward c.args.best.now c.loop-branch.best c.borrow_on_the_way.new.best c.loop-branch.invariant.moves_on (moves_onward c.loop-branch.best c.next_branch.new.best c.borrow_on_the_way.new.best c.next_branch.ensures.moves_on c.borrow_on_the_way.ensures.moves_on);
+      own = λ none. own_onward start c.args.best.now c.loop-branch.best c.borrow_on_the_way.new.best (c.loop-branch.invariant.own none)
+          (own_onward start c.loop-branch.best c.next_branch.new.best c.borrow_on_the_way.new.best found (inl (c.borrow_on_the_way.ensures.own (c.next_branch.ensures.same_lending ∙ c.loop-branch.invariant.same_lending ∙ none))));
+      kept = g.met.S.Share.keeps_onward _ _ _ c.loop-branch.invariant.kept (g.met.S.Share.keeps_onward _ _ _ c.next_branch.ensures.kept c.borrow_on_the_way.ensures.kept);
+      same_lending = c.borrow_on_the_way.ensures.same_lending ∙ c.next_branch.ensures.same_lending ∙ c.loop-branch.invariant.same_lending;
+      counted = omega arith;
+      known = c.borrow_on_the_way.ensures.known c.decide.new.engine.trail (knows_longer c.next_branch.new.state.engine.trail c.decide.new.engine.trail (c.in-Some.branch.lit ∷ []) c.next_branch.new.best.held c.next_branch.new.agreed c.decide.ensures.longer c.next_branch.ensures.known);
+    }
+
+pub loop-branch-preserved : goal.loop-branch-preserved
+loop-branch-preserved g c =
+    let start = c.args.state.now.engine in
+    let same : c.loop-branch.best.problem ≡ c.args.best.now.problem = c.loop-branch.invariant.moves_on.same_instance in
+    let u : SearchState = record { engine = c.decide.new.engine; branches = c.decide.new.path; candidate = c.next_branch.new.state.candidate; order = c.next_branch.new.state.order } in
+    let next : IsNext c.args.best.now.problem start c.next_branch.new.state c.in-Some.branch c.next_branch.new.best.held =
+    at_problem c.args.best.now.problem c.loop-branch.best.problem (λ p. IsUnderWay p start c.loop-branch.state c.loop-branch.best.held) (λ p. IsNext p start c.next_branch.new.state c.in-Some.branch c.next_branch.new.best.held) same (c.in-Some.ensures.next start) c.loop-branch.invariant.under_way in
+    let found : IsOwn start c.loop-branch.best c.next_branch.new.best =
+    at_problem c.args.best.now.problem c.loop-branch.best.problem (λ p. IsUnderWay p start c.loop-branch.state c.loop-branch.best.held) (λ _. IsOwn start c.loop-branch.best c.next_branch.new.best) same (c.next_branch.ensures.own start) c.loop-branch.invariant.under_way in
+    let made : IsStateOf c.args.best.now.problem u = state_moves c.args.best.now.problem c.next_branch.new.state u c.decide.ensures.constraints c.decide.ensures.same_room refl next.made_for in
+    record {
+      under_way = goes_on c.args.best.now.problem start c.next_branch.new.state u c.in-Some.branch c.next_branch.new.best.held c.next_branch.new.best.held next (not_after_itself c.args.best.now.problem c.next_branch.new.best.held) (c.decide.ensures.at_path _ next.at_path) c.decide.ensures.added c.decide.ensures.constraints made;
+      moves_on = moves_onward c.args.best.now c.loop-branch.best c.next_branch.new.best c.loop-branch.invariant.moves_on c.next_branch.ensures.moves_on;
+      own = λ none. own_onward start c.args.best.now c.loop-branch.best c.next_branch.new.best (c.loop-branch.invariant.own none) found;
+      kept = g.met.S.Share.keeps_onward _ _ _ c.loop-branch.invariant.kept c.next_branch.ensures.kept;
+      same_lending = c.next_branch.ensures.same_lending ∙ c.loop-branch.invariant.same_lending;
+      counted = omega arith;
+      known = knows_longer c.next_branch.new.state.engine.trail c.decide.new.engine.trail (c.in-Some.branch.lit ∷ []) c.next_branch.new.best.held c.next_branch.new.agreed c.decide.ensures.longer c.next_branch.ensures.known;
+    }
+
+pub returns-clause-moves_on : goal.returns-clause-moves_on
+returns-clause-moves_on g c = moves_onward c.args.best.now c.loop-branch.best c.next_branch.new.best c.loop-branch.invariant.moves_on c.next_branch.ensures.moves_on

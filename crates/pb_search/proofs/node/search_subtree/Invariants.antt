@@ -1,0 +1,20 @@
+use Rattle.std.proofs.Common.{◌≡◌, ◌<◌, false}
+use Rattle.pb_search.specs.Held.{MovesOn}
+use Rattle.pb_search.specs.AgreedPrefix.{KnowsHeldPrefix}
+use Rattle.pb_search.specs.SearchState.{IsUnderWay, IsOwn}
+use Rattle.pb_search.specs.Paths.{steps_left}
+use Rattle.pb_search.proofs.node.search_subtree.Given as goal
+
+abbrev pub invariant-loop-branch : goal.invariant-loop-branch
+invariant-loop-branch g l = record {
+  under_way : IsUnderWay l.fn.best.problem l.fn.state.engine l.state l.best.held;
+  moves_on : MovesOn l.fn.best l.best;
+  own : g.S.Share.lends l.fn.share ≡ false → IsOwn l.fn.state.engine l.fn.best l.best;
+  kept : g.S.Share.keeps l.fn.share l.share;
+  same_lending : g.S.Share.lends l.share ≡ g.S.Share.lends l.fn.share;
+  counted : l.decisions < 256;
+  known : KnowsHeldPrefix l.state.engine.trail l.best.held l.agreed;
+}
+
+abbrev pub decreases-loop-branch : goal.decreases-loop-branch
+decreases-loop-branch g l = steps_left l.fn.best.problem.vars l.state.branches.items

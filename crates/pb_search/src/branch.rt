@@ -1,0 +1,57 @@
+//! A decision of the search, and how one is made.
+
+ghost use Rattle.std.specs.Prelude.{◌≡◌, ◌++◌, ◌∷◌, [], ◌≤◌, List, length, vec_capacity};
+ghost use Rattle.pb_inst.specs.Literal.{Literal};
+ghost use Rattle.pb_search.specs.Solutions.{SameConstraints};
+ghost use Rattle.pb_search.specs.SearchState.{IsAtPath, IsAtSomePath, IsFree};
+
+use pb_engine::Engine;
+use pb_inst::{Lit, Number};
+
+/// A decision of the search.
+#[derive(Clone, Copy, Debug)]
+pub struct Branch {
+    /// The literal that is assumed.
+    pub lit: Lit,
+    /// Whether the other value was tried before it.
+    pub flipped: bool,
+    /// The bound of the trail before the decision, or the least number where none was taken: no more than a hint of whether
+    /// to ask the engine again.
+    pub bound: Number,
+    pub hints: Hints,
+}
+
+/// Where to look on at a node. No answer depends on it, so nothing is promised of it.
+#[derive(Clone, Copy, Debug)]
+pub struct Hints {
+    /// How many variables of the order of decisions were left, the others having values.
+    pub left: u32,
+    /// How many variables, from the first on, were found to have values.
+    pub settled: u32,
+}
+
+impl Hints {
+    /// The hints at the root: none.
+    pub fn none() -> Hints {
+        Hints {
+            left: u32::MAX,
+            settled: 0,
+        }
+    }
+}
+
+/// Adds a decision to the path and assumes its literal.
+pub fn decide(engine: &mut Engine<'_>, path: &mut Vec<Branch>, branch: Branch)
+    requires at_path { IsAtSomePath engine.old path.old.items }
+    requires free { IsFree engine.old branch.lit }
+    requires room { engine.old.vars ≤ vec_capacity path.old }
+    ensures added { path.new.items ≡ path.old.items ++ branch ∷ [] }
+    ensures few { length path.new.items ≤ engine.old.vars }
+    ensures at_path { (root : List Literal) → IsAtPath root engine.old path.old.items → IsAtPath root engine.new path.new.items }
+    ensures constraints { SameConstraints engine.old engine.new }
+    ensures same_room { vec_capacity path.new ≡ vec_capacity path.old }
+    ensures longer { engine.new.trail ≡ engine.old.trail ++ branch.lit ∷ [] }
+{
+    engine.assume(branch.lit);
+    path.push_reserved(branch);
+}

@@ -1,0 +1,123 @@
+//! The search of a subtree, node by node.
+
+ghost use Rattle.std.specs.Prelude.{◌≡◌, ◌⊎◌, ◌+◌, ◌<◌, false, [], IfSome, IfNone, IsSomeAnd};
+ghost use Rattle.pb_inst.specs.Incumbent.{IsSound};
+ghost use Rattle.pb_engine.specs.EngineState.{EngineState};
+ghost use Rattle.pb_engine.specs.Soundness.{IsSoundTrail};
+ghost use Rattle.pb_search.specs.Held.{MovesOn};
+ghost use Rattle.pb_search.specs.Solutions.{SameConstraints, Completes};
+ghost use Rattle.pb_search.specs.AgreedPrefix.{KnowsHeldPrefix};
+ghost use Rattle.pb_search.specs.SearchState.{IsStateOf, IsAtSomePath, IsFree, IsClosed, SameBranches, IsUnderWay, IsNext, LeavesFewer, IsSearched, IsOwn};
+
+use crate::Share;
+use crate::agreed_prefix::AgreedPrefix;
+use crate::backtrack::backtrack;
+use crate::branch::{Branch, decide};
+use crate::incumbent::{borrow_on_the_way, take_leaf};
+use crate::order::next_decision;
+use crate::pruning::{Pruning, check_bound};
+use crate::search_state::SearchState;
+use pb_engine::Step;
+use pb_inst::Best;
+
+/// After how many decisions the search asks its share for an assignment.
+const BORROW_INTERVAL: u32 = 256;
+
+/// Expands the node where the trail stands: propagates, compares the bound, and takes a full trail. Gives the decision to make next, or none where no completion of the trail is before what is held.
+fn expand_node<S: Share>(
+    state: &mut SearchState<'_>,
+    best: &mut Best<'_>,
+    share: &mut S,
+    agreed: &mut AgreedPrefix,
+) -> Option<Branch>
+    requires state { IsStateOf best.old.problem state.old }
+    requires sound { IsSoundTrail state.old.engine }
+    requires known { KnowsHeldPrefix state.old.engine.trail best.old.held agreed.old }
+    ensures open { IfSome result (λ b. IsFree state.new.engine b.lit) }
+    ensures fresh { IfSome result (λ b. b.flipped ≡ false) }
+    ensures closed { IfNone result (IsClosed best.old.problem state.new.engine best.new.held) }
+    ensures same_branches { SameBranches state.old state.new }
+    ensures sound { IsSoundTrail state.new.engine }
+    ensures moves_on { MovesOn best.old best.new }
+    ensures own { (best.new ≡ best.old) ⊎ IsSomeAnd best.new.held (λ s. Completes state.new.engine s.assignment) }
+    ensures kept { S.keeps share.old share.new }
+    ensures same_lending { S.lends share.new ≡ S.lends share.old }
+    ensures known { KnowsHeldPrefix state.new.engine.trail best.new.held agreed.new }
+{
+    if state.engine.conflict() {
+        return None;
+    }
+    if state.engine.propagate() == Step::Conflict {
+        state.order.bump_conflict(&state.engine);
+        return None;
+    }
+    // The bound is asked for after propagation alone: it counts what the trail forces, and a node that ends in a conflict
+    // never pays for it.
+    let (pruning, bound) = check_bound(&mut state.engine, best, agreed);
+    if pruning == Pruning::Closed {
+        return None;
+    }
+    let (vars, hints) = (state.candidate.len(), state.hints());
+    let Some(branch) = next_decision(&state.engine, vars, &mut state.order, hints, pruning, bound)
+    else {
+        take_leaf(&state.engine, &mut state.candidate, best, share);
+        *agreed = AgreedPrefix::none();
+        return None;
+    };
+    Some(branch)
+}
+
+/// Expands the node where the search stands, or backtracks. Gives the decision to make next, or none where the search is finished.
+fn next_branch<S: Share>(
+    state: &mut SearchState<'_>,
+    best: &mut Best<'_>,
+    share: &mut S,
+    agreed: &mut AgreedPrefix,
+) -> Option<Branch>
+    requires state { IsStateOf best.old.problem state.old }
+    requires at_path { IsAtSomePath state.old.engine state.old.branches.items }
+    requires known { KnowsHeldPrefix state.old.engine.trail best.old.held agreed.old }
+    ensures next { IfSome result (λ b. (start : EngineState) → IsUnderWay best.old.problem start state.old best.old.held → IsNext best.old.problem start state.new b best.new.held) }
+    ensures fewer { IfSome result (λ b. LeavesFewer best.old.problem state.old.branches.items state.new.branches.items b) }
+    ensures finished { IfNone result ((start : EngineState) → IsUnderWay best.old.problem start state.old best.old.held → IsSearched best.old.problem start best.new.held) }
+    ensures moves_on { MovesOn best.old best.new }
+    ensures own { (start : EngineState) → IsUnderWay best.old.problem start state.old best.old.held → IsOwn start best.old best.new }
+    ensures kept { S.keeps share.old share.new }
+    ensures same_lending { S.lends share.new ≡ S.lends share.old }
+    ensures made_for { IsStateOf best.old.problem state.new }
+    ensures constraints { SameConstraints state.old.engine state.new.engine }
+    ensures known { KnowsHeldPrefix state.new.engine.trail best.new.held agreed.new }
+{
+    match expand_node(state, best, share, agreed) {
+        Some(branch) => Some(branch),
+        None => backtrack(state, best, agreed),
+    }
+}
+
+/// Searches all solutions below the trail. No call of it recurses, and it takes no memory.
+pub fn search_subtree<S: Share>(state: &mut SearchState<'_>, best: &mut Best<'_>, share: &mut S)
+    requires state { IsStateOf best.old.problem state.old }
+    requires sound { IsSoundTrail state.old.engine }
+    requires no_decisions { state.old.branches.items ≡ [] }
+    requires held_sound { IsSound best.old }
+    ensures searched { IsSearched best.old.problem state.old.engine best.new.held }
+    ensures moves_on { MovesOn best.old best.new }
+    ensures held_sound { IsSound best.new }
+    ensures own { S.lends share.old ≡ false → IsOwn state.old.engine best.old best.new }
+    ensures kept { S.keeps share.old share.new }
+    ensures same_lending { S.lends share.new ≡ S.lends share.old }
+    ensures made_for { IsStateOf best.old.problem state.new }
+    ensures constraints { SameConstraints state.old.engine state.new.engine }
+{
+    let mut decisions = 0;
+    let mut agreed = AgreedPrefix::none();
+    while let Some(branch) = next_branch(state, best, share, &mut agreed) {
+        decide(&mut state.engine, &mut state.branches, branch);
+        // Any moment would do. Seldom enough, asking costs nothing beside the search, and the bound still soon profits from
+        // what another search found.
+        decisions = (decisions + 1) % BORROW_INTERVAL;
+        if decisions == 0 {
+            borrow_on_the_way(&mut state.candidate, best, share, &mut agreed);
+        }
+    }
+}

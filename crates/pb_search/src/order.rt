@@ -1,0 +1,88 @@
+//! In which order variables are decided. No answer depends on it, so nothing is promised.
+
+mod activity;
+mod decide;
+mod heap;
+mod initial;
+
+use activity::Activities;
+pub use decide::next_decision;
+use heap::Heap;
+use initial::{initial_activities, initial_phases};
+use pb_engine::{Engine, RowTerms};
+use pb_inst::{Cube, Lit, Memory};
+use pb_normal::Normal;
+use std::alloc::Global;
+
+/// The literals in which variables are first decided, those of the variables of the greatest activity first.
+#[derive(Debug, Drop)]
+pub struct Order {
+    activities: Activities,
+    heap: Heap,
+    /// Of each variable the literal that is tried first. No search changes it.
+    phases: Vec<Lit>,
+}
+
+impl Order {
+    /// All variables of the normal form. Where cubes are to be false, their variables come first.
+    pub fn new(alloc: Global, normal: &Normal, negated: &[Cube]) -> Result<Order, Memory> {
+        let activities = Activities::new(initial_activities(alloc, normal, negated)?);
+        let heap = Heap::new(alloc, normal.vars(), &activities)?;
+        let phases = initial_phases(alloc, normal)?;
+        Ok(Order {
+            activities,
+            heap,
+            phases,
+        })
+    }
+
+    /// How many variables are left, those that were not passed over.
+    pub fn left(&self) -> u32 {
+        self.heap.len()
+    }
+
+    /// The first literal that is left.
+    pub fn first(&self) -> Option<Lit> {
+        let index = self.heap.first()?;
+        self.phases.get(index as usize).copied()
+    }
+
+    /// Passes over the first literal.
+    pub fn pass(&mut self) {
+        self.heap.take_first(&self.activities);
+    }
+
+    /// Takes back what was passed over last, until so many are left.
+    pub fn return_to(&mut self, left: u32) {
+        self.heap.put_back(left, &self.activities);
+    }
+
+    /// Bumps the activities of the variables of the row at which the engine found a conflict.
+    pub fn bump_conflict(&mut self, engine: &Engine<'_>) {
+        // Where a row could not be met the search is hard, so its variables come sooner from now on. Beside the order that
+        // the search begins with, kept as it is, this took 2 to 7 times fewer decisions on some kinds of instances, and at
+        // most 1.3 times as many on others.
+        let Some(row) = engine.conflict_row() else {
+            return;
+        };
+        match engine.row_terms(row) {
+            RowTerms::Weighted(terms) => {
+                for term in terms {
+                    self.bump(term.lit);
+                }
+            }
+            RowTerms::Units(lits) => {
+                for lit in lits {
+                    self.bump(*lit);
+                }
+            }
+        }
+    }
+
+    /// Bumps the activity of the literal's variable.
+    fn bump(&mut self, lit: Lit) {
+        let index = lit.var() - 1;
+        self.activities.bump(index);
+        self.heap.bumped(index, &self.activities);
+    }
+}

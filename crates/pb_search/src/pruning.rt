@@ -1,0 +1,124 @@
+//! Whether a subtree may be left.
+
+ghost use Rattle.std.specs.Prelude.{◌≡◌, false, length, IsTrue, ◌⊎◌, true};
+ghost use Rattle.pb_engine.specs.Completion.{IsLowerBound};
+ghost use Rattle.pb_search.specs.SearchState.{IsClosed, IsEngineOf, IsNotBefore};
+ghost use Rattle.pb_search.specs.AgreedPrefix.{KnowsPrefix, KnowsHeldPrefix};
+
+use crate::agreed_prefix::AgreedPrefix;
+use crate::branch::Branch;
+use pb_engine::Engine;
+use pb_inst::{Assignment, Best, Number};
+
+/// What the bound says of a subtree.
+#[derive(Clone, Copy, Debug, PartialEq, Eq)]
+pub enum Pruning {
+    /// Something in it may cost less than the best assignment.
+    Open,
+    /// Nothing in it costs less, but an assignment that costs as much may come before the best one, whose first
+    /// difference to the trail with zeros elsewhere is at this variable.
+    Tied(u32),
+    /// Nothing in it comes before the best assignment.
+    Closed,
+}
+
+/// What the bound says of the subtree below the trail, and the bound itself: the least number where none was taken.
+pub fn check_bound(
+    engine: &mut Engine<'_>,
+    best: &Best<'_>,
+    agreed: &mut AgreedPrefix,
+) -> (Pruning, Number)
+    requires engine { IsEngineOf best.now.problem engine.old }
+    requires known { KnowsHeldPrefix engine.old.trail best.now.held agreed.old }
+    ensures closed { result.0 ≡ Pruning.Closed → IsClosed best.now.problem engine.old best.now.held }
+    ensures unchanged { engine.new ≡ engine.old }
+    ensures known { KnowsHeldPrefix engine.old.trail best.now.held agreed.new }
+{
+    // Where nothing is held there is nothing to compare a bound with, and taking one would go through rows for nothing:
+    // the first descent to a solution costs propagation alone.
+    if best.cost().is_none() {
+        return (Pruning::Open, Number::MIN);
+    }
+    let bound = engine.bound();
+    (judge_bound(engine, bound, best, agreed), bound)
+}
+
+/// Compares a bound of the trail's completions with the best cost. Where they are equal the order of assignments decides.
+fn judge_bound(
+    engine: &Engine<'_>,
+    bound: Number,
+    best: &Best<'_>,
+    agreed: &mut AgreedPrefix,
+) -> Pruning
+    requires engine { IsEngineOf best.now.problem engine.now }
+    requires bound { IsLowerBound engine.now.form engine.now.rows engine.now.trail bound }
+    requires known { KnowsHeldPrefix engine.now.trail best.now.held agreed.old }
+    ensures closed { result ≡ Pruning.Closed → IsClosed best.now.problem engine.now best.now.held }
+    ensures known { KnowsHeldPrefix engine.now.trail best.now.held agreed.new }
+{
+    let Some(cost) = best.cost() else {
+        return Pruning::Open;
+    };
+    let Some(held) = best.assignment() else {
+        return Pruning::Open;
+    };
+    if bound < cost {
+        return Pruning::Open;
+    }
+    if bound > cost {
+        return Pruning::Closed;
+    }
+    judge_tie(engine, held, agreed)
+}
+
+/// The same where the bound equals the cost of this assignment. Of assignments of one cost the lexicographically first is
+/// wanted, so that the answer is a function of the instance alone.
+fn judge_tie(engine: &Engine<'_>, held: &Assignment, agreed: &mut AgreedPrefix) -> Pruning
+    requires room { length held.now ≡ engine.now.vars }
+    requires known { KnowsPrefix engine.now.trail held.now agreed.old }
+    ensures closed { result ≡ Pruning.Closed → IsNotBefore engine.now.trail held.now }
+    ensures known { KnowsPrefix engine.now.trail held.now agreed.new }
+{
+    // With zeros elsewhere the trail is the first of its completions, so all of them come after the best assignment where
+    // that one does, or is the best one itself. One comparison settles the subtree.
+    if agreed.has_surplus(engine, held) {
+        return Pruning::Closed;
+    }
+    let count = agreed.extend(engine, held);
+    if count >= held.len() {
+        return Pruning::Closed;
+    }
+    if held.get(count + 1) {
+        return Pruning::Tied(count + 1);
+    }
+    Pruning::Closed
+}
+
+/// Whether nothing is left to try at a branch whose decision was taken back: both values were tried, or by now no
+/// completion of the trail before it comes before the best assignment.
+pub fn is_spent(
+    engine: &mut Engine<'_>,
+    branch: &Branch,
+    best: &Best<'_>,
+    agreed: &mut AgreedPrefix,
+) -> bool
+    requires engine { IsEngineOf best.now.problem engine.old }
+    requires known { KnowsHeldPrefix engine.old.trail best.now.held agreed.old }
+    ensures spent { IsTrue result → (branch.now.flipped ≡ true) ⊎ IsClosed best.now.problem engine.old best.now.held }
+    ensures fresh { result ≡ false → branch.now.flipped ≡ false }
+    ensures unchanged { engine.new ≡ engine.old }
+    ensures known { KnowsHeldPrefix engine.old.trail best.now.held agreed.new }
+{
+    if branch.flipped {
+        return true;
+    }
+    let Some(cost) = best.cost() else {
+        return false;
+    };
+    // The best may have improved since the first value was decided, so the bound is compared before the second one too.
+    // The trail is the same again, so the bound that the branch keeps tells where asking the engine would be in vain.
+    if branch.bound < cost {
+        return false;
+    }
+    check_bound(engine, best, agreed).0 == Pruning::Closed
+}

@@ -1,0 +1,135 @@
+//! Searches of pieces.
+
+ghost use Rattle.std.specs.Prelude.{◌≡◌, ◌⊎◌, ◌≤◌, [], false, List, Bool, All, length, IfOk, IsSomeAnd};
+ghost use Rattle.pb_inst.specs.Incumbent.{IsSound};
+ghost use Rattle.pb_normal.specs.NormalForm.{KeepsCost, KeepsFeasible};
+ghost use Rattle.pb_cubes.specs.Pieces.{LiesIn};
+ghost use Rattle.pb_search.specs.Held.{IsImprovement, IsNotAfter, MovesOn};
+ghost use Rattle.pb_search.specs.Solutions.{SameConstraints, SatisfiesUnder};
+ghost use Rattle.pb_search.specs.SearchState.{IsStateOf};
+
+use crate::Share;
+use crate::incumbent::borrow;
+use crate::node::search_subtree;
+use crate::root::{assume_cube, return_to_root};
+use crate::search_state::SearchState;
+use crate::tables::SearchTables;
+use pb_cubes::{Piece, Pieces};
+use pb_engine::Step;
+use pb_inst::{Best, Instance, Lit, Memory};
+use pb_normal::Normal;
+use std::alloc::Global;
+use std::marker::Model;
+
+/// Searches all solutions of the state's constraints under the assumption that the cube is true.
+fn search_under<S: Share>(
+    state: &mut SearchState<'_>,
+    cube: &[Lit],
+    best: &mut Best<'_>,
+    share: &mut S,
+)
+    requires state { IsStateOf best.old.problem state.old }
+    requires variables { All (λ l. l.var ≤ state.old.engine.vars) cube.now }
+    ensures searched { (a : List Bool) → SatisfiesUnder state.old.engine cube.now a → ¬ IsImprovement best.old.problem a best.new.held }
+    ensures moves_on { MovesOn best.old best.new }
+    ensures held_sound { IsSound best.new }
+    ensures own { S.lends share.old ≡ false → (best.new ≡ best.old) ⊎ IsSomeAnd best.new.held (λ s. SatisfiesUnder state.old.engine cube.now s.assignment) }
+    ensures kept { S.keeps share.old share.new }
+    ensures same_lending { S.lends share.new ≡ S.lends share.old }
+    ensures made_for { IsStateOf best.old.problem state.new }
+    ensures constraints { SameConstraints state.old.engine state.new.engine }
+{
+    // Before the first bound is compared: what another piece gave may close this one at its root.
+    borrow(&mut state.candidate, best, share);
+    state.branches.clear();
+    if return_to_root(&mut state.engine) == Step::Conflict {
+        return;
+    }
+    if assume_cube(&mut state.engine, cube) == Step::Fixed {
+        search_subtree(state, best, share);
+    }
+}
+
+/// What the searches of an instance's pieces need: an engine for the cubes and one for the remainder, which all searches
+/// use again, and the room for decisions and assignments.
+#[derive(Drop)]
+pub struct Search<'a> {
+    instance: &'a Instance,
+    pieces: &'a Pieces,
+    cube: SearchState<'a>,
+    rest: SearchState<'a>,
+}
+
+impl<'a> Model for Search<'a> {
+    ghost use Rattle.pb_search.specs.Done.{Division};
+
+    ghost Value = { Division };
+
+    ghost use Rattle.pb_search.specs.Layout.{IsLaidOut};
+
+    ghost view = { λ s. record { problem = s.instance.now; cubes = s.pieces.now.cubes } };
+
+    ghost invariant = { λ s. IsLaidOut s.instance.now s.pieces.now s.cube s.rest };
+}
+
+impl<'a> Search<'a> {
+    ghost use Rattle.pb_search.specs.Done.{IsDone};
+
+    /// Makes all that the searches of the pieces need, over a normal form of the instance. Fails where memory is refused.
+    pub fn new(
+        alloc: Global,
+        instance: &'a Instance,
+        normal: &'a Normal,
+        pieces: &'a Pieces,
+    ) -> Result<Search<'a>, Memory>
+        requires vars { normal.now.vars ≡ instance.now.vars }
+        requires feasible { KeepsFeasible instance.now normal.now }
+        requires costs { KeepsCost instance.now normal.now }
+        requires pieces { pieces.now.vars ≡ instance.now.vars }
+        ensures { IfOk result (λ s. s ≡ record { problem = instance.now; cubes = pieces.now.cubes }) }
+    {
+        let _vars = instance.vars();
+        let cube = SearchState::new(alloc, normal, &[])?;
+        let rest = SearchState::new(alloc, normal, pieces.cubes())?;
+        Ok(Search {
+            instance,
+            pieces,
+            cube,
+            rest,
+        })
+    }
+
+    /// Makes all that the searches of the pieces need, over tables that are lent. Fails where memory is refused.
+    pub fn over(alloc: Global, tables: &'a SearchTables<'a>) -> Result<Search<'a>, Memory>
+        ensures { IfOk result (λ s. s ≡ tables.now) }
+    {
+        let (cube, rest) = tables.states(alloc)?;
+        Ok(Search {
+            instance: tables.instance(),
+            pieces: tables.pieces(),
+            cube,
+            rest,
+        })
+    }
+
+    /// Searches a piece: that of a cube, or the remainder as the last one. Afterwards no feasible assignment of the piece
+    /// is before the best one, which is not after what it was; it is none only where it was none. It asks the share for an
+    /// assignment at the beginning and after every 256th decision, and tells it of each improvement of its own. Takes no
+    /// memory.
+    pub fn run<S: Share>(&mut self, piece: u32, best: &mut Best<'_>, share: &mut S)
+        requires piece { piece ≤ length self.old.cubes }
+        requires same_instance { best.old.problem ≡ self.old.problem }
+        ensures done { IsDone self.old piece best.new.held }
+        ensures not_after { IsNotAfter self.old.problem best.old.held best.new.held }
+        ensures own { S.lends share.old ≡ false → (best.new ≡ best.old) ⊎ IsSomeAnd best.new.held (λ s. LiesIn self.old.cubes piece s.assignment) }
+        ensures kept { S.keeps share.old share.new }
+        ensures same_lending { S.lends share.new ≡ S.lends share.old }
+        ensures same_instance { best.new.problem ≡ best.old.problem }
+        ensures unchanged { self.new ≡ self.old }
+    {
+        match self.pieces.piece(piece) {
+            Piece::Cube(cube) => search_under(&mut self.cube, cube.lits(), best, share),
+            Piece::Rest(_) => search_under(&mut self.rest, &[], best, share),
+        }
+    }
+}

@@ -1,0 +1,87 @@
+//! The state of a search.
+
+ghost use Rattle.std.specs.Prelude.{◌≡◌, ◌++◌, ◌≤◌, List, All, IfOk, length, vec_capacity};
+ghost use Rattle.pb_normal.specs.NormalForm.{PositiveRow};
+ghost use Rattle.pb_engine.specs.Clauses.{AreClausesOf};
+ghost use Rattle.pb_engine.specs.Tables.{AreBeside};
+
+use crate::branch::{Branch, Hints};
+use crate::order::Order;
+use pb_engine::{Clauses, Engine, Rows};
+use pb_inst::{Assignment, Cube, Memory};
+use pb_normal::Normal;
+use std::alloc::Global;
+
+/// An engine, the decisions on its trail, room for one assignment, and the order in which variables are decided.
+#[derive(Drop)]
+pub struct SearchState<'a> {
+    pub engine: Engine<'a>,
+    pub branches: Vec<Branch>,
+    pub candidate: Assignment,
+    pub order: Order,
+}
+
+impl<'a> SearchState<'a> {
+    /// A state over the normal form, whose solutions make each of the cubes false.
+    pub fn new(
+        alloc: Global,
+        normal: &'a Normal,
+        negated: &'a [Cube],
+    ) -> Result<SearchState<'a>, Memory>
+        requires { All (λ cube. All (λ l. l.var ≤ normal.now.vars) cube) negated.now }
+        ensures form { IfOk result (λ t. t.engine.form ≡ normal.now) }
+        ensures vars { IfOk result (λ t. t.engine.vars ≡ normal.now.vars) }
+        ensures rows { IfOk result (λ t. (clauses : List PositiveRow) × (t.engine.rows ≡ normal.now.rows ++ clauses) × AreClausesOf negated.now clauses) }
+        ensures candidate { IfOk result (λ t. length t.candidate ≡ normal.now.vars) }
+        ensures room { IfOk result (λ t. normal.now.vars ≤ vec_capacity t.branches) }
+    {
+        let engine = Engine::new(alloc, normal, negated)?;
+        SearchState::around(alloc, engine, normal, negated)
+    }
+
+    /// A state over rows and clauses that are lent. Of the cubes to be false only the order of decisions knows.
+    pub fn over(
+        alloc: Global,
+        rows: &'a Rows<'a>,
+        clauses: &'a Clauses,
+        negated: &[Cube],
+    ) -> Result<SearchState<'a>, Memory>
+        requires { AreBeside rows.now clauses.now }
+        ensures form { IfOk result (λ t. t.engine.form ≡ rows.now.form) }
+        ensures vars { IfOk result (λ t. t.engine.vars ≡ rows.now.form.vars) }
+        ensures rows { IfOk result (λ t. t.engine.rows ≡ rows.now.form.rows ++ clauses.now.rows) }
+        ensures candidate { IfOk result (λ t. length t.candidate ≡ rows.now.form.vars) }
+        ensures room { IfOk result (λ t. rows.now.form.vars ≤ vec_capacity t.branches) }
+    {
+        let engine = Engine::over(alloc, rows, clauses)?;
+        SearchState::around(alloc, engine, rows.form(), negated)
+    }
+
+    /// The engine with no decisions, and room for one of each variable.
+    fn around(
+        alloc: Global,
+        engine: Engine<'a>,
+        normal: &Normal,
+        negated: &[Cube],
+    ) -> Result<SearchState<'a>, Memory>
+        ensures engine { IfOk result (λ t. t.engine ≡ engine.entry) }
+        ensures candidate { IfOk result (λ t. length t.candidate ≡ normal.now.vars) }
+        ensures room { IfOk result (λ t. normal.now.vars ≤ vec_capacity t.branches) }
+    {
+        let vars = normal.vars();
+        Ok(SearchState {
+            engine,
+            branches: Vec::with_capacity(alloc, vars as usize)?,
+            candidate: Assignment::new(alloc, vars)?,
+            order: Order::new(alloc, normal, negated)?,
+        })
+    }
+
+    /// Where to look on below the last decision.
+    pub fn hints(&self) -> Hints {
+        match self.branches.last() {
+            Some(branch) => branch.hints,
+            None => Hints::none(),
+        }
+    }
+}
