@@ -9,3 +9,4 @@ pub use Rattle.pb_trail.specs.Soundness
 pub use Rattle.pb_rows.specs.Clauses
 pub use Rattle.pb_rows.specs.Constraints
 pub use Rattle.pb_rows.specs.Tables
+pub use Rattle.pb_rows.specs.Table

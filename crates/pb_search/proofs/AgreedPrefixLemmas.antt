@@ -8,12 +8,13 @@ use Rattle.std.proofs.lemmas.List.Folds.{list_any-append}
 use Rattle.pb_inst.specs.Literal.{Literal}
 use Rattle.pb_inst.specs.Incumbent.{Solution}
 use Rattle.pb_normal.specs.NormalForm.{PositiveRow}
-use Rattle.pb_engine.specs.Trail.{is_true, same_literal, value_on}
-use Rattle.pb_engine.specs.Tracked.{IsConsistent}
+use Rattle.pb_normal.specs.Literals.{same_literal}
+use Rattle.pb_engine.specs.Trail.{is_true, value_on}
+use Rattle.pb_trail.specs.Tracked.{IsConsistent}
 use Rattle.pb_engine.specs.Propagation.{AddsForced}
-use Rattle.pb_engine.proofs.TrailLemmas.{value_on-same, value_on-other}
-use Rattle.pb_engine.proofs.CompletionLemmas.{length-AddsForced}
-use Rattle.pb_engine.proofs.EngineLemmas.{kept_front}
+use Rattle.pb_trail.proofs.TrailLemmas.{value_on-same, value_on-other}
+use Rattle.pb_trail.proofs.CompletionLemmas.{length-AddsForced}
+use Rattle.pb_trail.proofs.EngineLemmas.{kept_front}
 use Rattle.pb_search.specs.declared.agreed_prefix.AgreedPrefix.{AgreedPrefix}
 use Rattle.pb_search.specs.AgreedPrefix.{KnowsPrefix, KnowsHeldPrefix}
 use Rattle.pb_search.specs.SearchState.{HasOnesWithin, IsNotBefore, bit_on}

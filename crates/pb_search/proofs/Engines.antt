@@ -6,14 +6,14 @@ use Rattle.pb_inst.specs.Literal.{Literal}
 use Rattle.pb_inst.specs.Meaning.{literal_value}
 use Rattle.pb_inst.specs.Cubes.{MakesTrue}
 use Rattle.pb_engine.specs.Trail.{is_true, value_on}
-use Rattle.pb_engine.specs.Tracked.{IsConsistent}
+use Rattle.pb_trail.specs.Tracked.{IsConsistent}
 use Rattle.pb_engine.specs.Propagation.{AddsForced}
 use Rattle.pb_engine.specs.EngineState.{EngineState, trail_before}
 use Rattle.pb_engine.specs.Soundness.{assumptions, ArePlaces, IsSoundTrail}
-use Rattle.pb_engine.proofs.TrailLemmas.{value_on-same, value_on-other}
-use Rattle.pb_engine.proofs.CompletionLemmas.{true_in_completion}
-use Rattle.pb_engine.proofs.SoundLemmas.{last_of}
-use Rattle.pb_engine.proofs.AssumptionLemmas.{assumptions-assume, assumptions-propagate, assumptions-undo, freed-undo}
+use Rattle.pb_trail.proofs.TrailLemmas.{value_on-same, value_on-other}
+use Rattle.pb_trail.proofs.CompletionLemmas.{true_in_completion}
+use Rattle.pb_trail.proofs.SoundLemmas.{last_of}
+use Rattle.pb_trail.proofs.AssumptionLemmas.{assumptions-assume, assumptions-propagate, assumptions-undo, freed-undo}
 use Rattle.pb_search.specs.Solutions.{SameConstraints}
 
 -- the trail, its assumptions and the conflict may change; the constraints stay

@@ -10,7 +10,7 @@ use Rattle.pb_inst.specs.declared.TheConstants.{MAX_VARS}
 use Rattle.pb_normal.specs.NormalForm.{NormalForm, PositiveRow, MeetsRows, KeepsFeasible, KeepsCost}
 use Rattle.pb_engine.specs.Clauses.{AreClausesOf}
 use Rattle.pb_engine.specs.EngineState.{EngineState}
-use Rattle.pb_engine.proofs.ClauseLemmas.{both_met, both_from}
+use Rattle.pb_trail.proofs.ClauseLemmas.{both_met, both_from}
 use Rattle.pb_cubes.specs.Pieces.{CubeList}
 use Rattle.pb_search.specs.declared.search_state.SearchState.{SearchState}
 use Rattle.pb_search.specs.Layout.{IsLaidOut}

@@ -35,11 +35,6 @@ all_next a xs ys l e = (
   (λ h. subst (λ (x : List Literal). MakesTrue a x) (sym e) (All-append (True a) xs (l ∷ []) h.0 (All-cons (True a) l [] h.1 (All-nil (True a))))),
 )
 
-pub assumed_conflict : (s t : EngineState) (l : Literal) (a : List Bool) → SameConstraints s t → assumptions t ≡ assumptions s ++ l ∷ [] → IsSoundTrail t → HasNoCompletion t.rows t.trail → Satisfies s a → MakesTrue a (assumptions s) → ¬ True a l
-assumed_conflict s t l a same grown sound none h all one =
-    let sol = same_solution s t a same h in
-    none a (record { makes_true = sound.forced a sol.meets_rows ((all_next a (assumptions s) (assumptions t) l grown).1 (all, one)); meets_rows = sol.meets_rows })
-
 -- a literal that is on the trail already
 pub on_trail : (s : EngineState) (l : Literal) (a : List Bool) → IsSoundTrail s → value_on s.trail l.var ≡ Some l.positive → Satisfies s a → MakesTrue a (assumptions s) → True a l
 on_trail s l a sound is h all = value_on-true a s.trail l.var l.positive (sound.forced a h.meets_rows all) is

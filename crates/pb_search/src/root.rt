@@ -4,7 +4,6 @@ ghost use Rattle.std.specs.Prelude.{◌≡◌, ◌≤◌, ◌↔◌, ◌++◌, �
 ghost use Rattle.pb_inst.specs.Cubes.{MakesTrue};
 ghost use Rattle.pb_inst.specs.Meaning.{literal_value};
 ghost use Rattle.pb_engine.specs.Trail.{value_on};
-ghost use Rattle.pb_engine.specs.Completion.{HasNoCompletion};
 ghost use Rattle.pb_engine.specs.Soundness.{assumptions, IsSoundTrail};
 ghost use Rattle.pb_search.specs.Solutions.{SameConstraints, Satisfies};
 
@@ -22,7 +21,10 @@ fn assume_literal(engine: &mut Engine<'_>, lit: Lit) -> Step
     ensures conflict { result ≡ Step.Conflict → (a : List Bool) → Satisfies engine.old a → MakesTrue a (assumptions engine.old) → ¬ (literal_value a lit ≡ 1) }
 {
     match engine.value(lit.var()) {
-        None => assume_free(engine, lit),
+        None => {
+            assume_free(engine, lit);
+            Step::Fixed
+        }
         Some(value) => {
             if value == lit.positive() {
                 Step::Fixed
@@ -33,8 +35,8 @@ fn assume_literal(engine: &mut Engine<'_>, lit: Lit) -> Step
     }
 }
 
-/// Assumes a literal without a value.
-fn assume_free(engine: &mut Engine<'_>, lit: Lit) -> Step
+/// Assumes a literal without a value. No conflict comes of it before something is propagated.
+fn assume_free(engine: &mut Engine<'_>, lit: Lit)
     requires variable { lit.var ≤ engine.old.vars }
     requires no_value { value_on engine.old.trail lit.var ≡ None }
     requires no_conflict { engine.old.conflict ≡ false }
@@ -42,15 +44,9 @@ fn assume_free(engine: &mut Engine<'_>, lit: Lit) -> Step
     ensures constraints { SameConstraints engine.old engine.new }
     ensures sound { IsSoundTrail engine.new }
     ensures assumed { assumptions engine.new ≡ assumptions engine.old ++ lit ∷ [] }
-    ensures fixed { result ≡ Step.Fixed → engine.new.conflict ≡ false }
-    ensures conflict { result ≡ Step.Conflict → HasNoCompletion engine.new.rows engine.new.trail }
+    ensures no_conflict { engine.new.conflict ≡ false }
 {
     engine.assume(lit);
-    if engine.conflict() {
-        Step::Conflict
-    } else {
-        Step::Fixed
-    }
 }
 
 /// Takes back all assumptions, and adds what follows without any. A conflict means that no assignment meets the

@@ -1,6 +1,6 @@
 use Rattle.std.proofs.Common.{rules, ◌≡◌, ◌∙◌, refl, ap}
 use Rattle.pb_engine.specs.EngineState.{EngineState, is_conflict}
-use Rattle.pb_engine.specs.declared.propagation.Step.TheVariants.{Conflict}
+use Rattle.pb_trail.specs.declared.propagation.Step.TheVariants.{Conflict}
 use Rattle.pb_search.proofs.Engines.{same_constraints, propagated}
 use Rattle.pb_search.proofs.AgreedPrefixLemmas.{knows_added}
 use Rattle.pb_search.proofs.SearchLemmas.{none_closed, same_engine}

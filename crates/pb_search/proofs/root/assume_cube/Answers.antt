@@ -4,7 +4,7 @@ use Rattle.pb_inst.specs.Literal.{Literal}
 use Rattle.pb_inst.specs.Meaning.{literal_value}
 use Rattle.pb_inst.specs.Cubes.{MakesTrue}
 use Rattle.pb_engine.specs.Soundness.{assumptions}
-use Rattle.pb_engine.specs.declared.propagation.Step.TheVariants.{Fixed, Conflict}
+use Rattle.pb_trail.specs.declared.propagation.Step.TheVariants.{Fixed, Conflict}
 use Rattle.pb_search.proofs.Engines.{same_constraints_onward}
 use Rattle.pb_search.proofs.SearchLemmas.{same_solution}
 use Rattle.pb_search.proofs.RootLemmas.{front_true, cube_next}

@@ -1,14 +1,11 @@
 use Rattle.std.proofs.Common.{◌≡◌, ◌∙◌, sym, ap, Some, Bool}
 use Rattle.pb_engine.specs.Trail.{value_on}
 use Rattle.pb_engine.specs.Soundness.{assumptions}
-use Rattle.pb_search.proofs.RootLemmas.{all_next, assumed_conflict, on_trail, off_trail, same_bits, other_bits}
+use Rattle.pb_search.proofs.RootLemmas.{all_next, on_trail, off_trail, same_bits, other_bits}
 use Rattle.pb_search.proofs.root.assume_literal.Goals as goal
 
 pub returns-in-None-clause-kept : goal.returns-in-None-clause-kept
 returns-in-None-clause-kept c fixed a h = all_next a (assumptions c.args.engine.now) (assumptions c.assume_free.new.engine) c.args.lit c.assume_free.ensures.assumed
-
-pub returns-in-None-clause-conflict : goal.returns-in-None-clause-conflict
-returns-in-None-clause-conflict c is a h all = assumed_conflict c.args.engine.now c.assume_free.new.engine c.args.lit a c.assume_free.ensures.constraints c.assume_free.ensures.assumed c.assume_free.ensures.sound (c.assume_free.ensures.conflict is) h all
 
 pub returns-then-value-positive-clause-kept : goal.returns-then-value-positive-clause-kept
 returns-then-value-positive-clause-kept c is a h =

@@ -1,7 +1,7 @@
 use Rattle.std.proofs.Common.{rules, ◌≡◌, ◌∙◌, subst}
 use Rattle.pb_inst.specs.Problem.{Problem}
 use Rattle.pb_search.specs.Solutions.{SameConstraints}
-use Rattle.pb_engine.specs.declared.propagation.Step.TheVariants.{Fixed, Conflict}
+use Rattle.pb_trail.specs.declared.propagation.Step.TheVariants.{Fixed, Conflict}
 use Rattle.pb_search.specs.SearchState.{IsSearched}
 use Rattle.pb_search.proofs.HeldLemmas.{moves_onward}
 use Rattle.pb_search.proofs.Engines.{same_constraints_onward}
