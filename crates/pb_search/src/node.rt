@@ -23,7 +23,8 @@ use pb_inst::Best;
 /// After how many decisions the search asks its share for an assignment.
 const BORROW_INTERVAL: u32 = 256;
 
-/// Expands the node where the trail stands: propagates, compares the bound, and takes a full trail. Gives the decision to make next, or none where no completion of the trail is before what is held.
+/// Expands the node where the trail stands: propagates, compares the bound, and takes a full trail. Gives the decision to
+/// make next, or none where no completion of the trail is before what is held.
 fn expand_node<S: Share>(
     state: &mut SearchState<'_>,
     best: &mut Best<'_>,
@@ -67,7 +68,8 @@ fn expand_node<S: Share>(
     Some(branch)
 }
 
-/// Expands the node where the search stands, or backtracks. Gives the decision to make next, or none where the search is finished.
+/// Expands the node where the search stands, and backtracks where nothing is left below it. Gives the decision to make
+/// next, or none where the search is finished.
 fn next_branch<S: Share>(
     state: &mut SearchState<'_>,
     best: &mut Best<'_>,
@@ -113,7 +115,7 @@ pub fn search_subtree<S: Share>(state: &mut SearchState<'_>, best: &mut Best<'_>
     let mut agreed = AgreedPrefix::none();
     while let Some(branch) = next_branch(state, best, share, &mut agreed) {
         decide(&mut state.engine, &mut state.branches, branch);
-        // Any moment would do. Seldom enough, asking costs nothing beside the search, and the bound still soon profits from
+        // Any moment would do. Asked this seldom, the share costs next to nothing, and the bound is still soon compared with
         // what another search found.
         decisions = (decisions + 1) % BORROW_INTERVAL;
         if decisions == 0 {
