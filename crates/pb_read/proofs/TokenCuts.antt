@@ -9,7 +9,7 @@ use Rattle.std.proofs.Math.Seq.{take-length}
 use Rattle.pb_read.specs.Runs.{first_is, runs, skip_while}
 use Rattle.pb_read.proofs.Headers.{front_digits}
 use Rattle.pb_read.specs.Text.{is_blank, is_digit, are_digits, value}
-use Rattle.pb_read.specs.declared.token.Token as code
+use Rattle.pb_read.specs.declared.opb.token.Token as code
 use Rattle.pb_inst.specs.declared.constraints.Relation.TheVariants.{AtLeast, AtMost}
 use lib.Pointwise.{pointwise}
 use Rattle.pb_read.specs.Capped.{cap, capped}

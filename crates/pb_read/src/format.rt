@@ -5,9 +5,8 @@ ghost use Rattle.pb_inst.specs.Problem.{Problem};
 ghost use Rattle.pb_read.specs.Format.{Spells, text_refusal};
 ghost use Rattle.pb_read.specs.Reading.{IsMemory};
 
-use crate::cnf::read_cnf;
+use crate::dimacs::{read_cnf, read_icnf};
 use crate::fault::ReadFault;
-use crate::icnf::read_icnf;
 use crate::opb::read_opb;
 use pb_inst::{Cube, Instance};
 use std::alloc::Global;
