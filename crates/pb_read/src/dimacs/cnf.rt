@@ -48,12 +48,7 @@ pub fn read_cnf(alloc: Global, text: &[u8]) -> Result<Instance, ReadFault>
     ensures refused { IfErr result (λ f. IsMemory f ⊎ (cnf_refusal text.now ≡ Some f)) }
 {
     let mut lines = ContentLines::new(text);
-    let Some((head, number)) = lines.next() else {
-        return Err(ReadFault {
-            kind: ReadKind::BadHeader,
-            line: lines.last(),
-        });
-    };
+    let (head, number) = lines.header()?;
     let Some(Header { vars, clauses }) = read_header(head) else {
         return Err(ReadFault {
             kind: ReadKind::BadHeader,

@@ -1,9 +1,11 @@
 //! The lines of a text of clauses or cubes that say something.
-ghost use Rattle.std.specs.Prelude.{◌≡◌, ◌<◌, ◌+◌, ◌^◌, ◌||◌, not, length, max, option_map};
+ghost use Rattle.std.specs.Prelude.{◌≡◌, ◌<◌, ◌+◌, ◌^◌, ◌||◌, ◌∷◌, [], not, length, max, option_map, IfOk, IfErr};
 ghost use Rattle.std.specs.List.{list_all};
+ghost use Rattle.pb_read.specs.declared.fault.ReadKind.TheVariants.{BadHeader};
 ghost use Rattle.pb_read.specs.Text.{is_blank, is_marked, content, clause_lines};
 ghost use Rattle.pb_read.specs.ClauseReading.{content_from, lines_from, IsNextLine};
 
+use crate::fault::{ReadFault, ReadKind};
 use crate::line::{is_blank, is_marked};
 use bstr::{ByteSlice, LinesWithTerminator};
 
@@ -65,6 +67,23 @@ impl<'t> ContentLines<'t> {
             }
         }
         None
+    }
+
+    /// The first line that says something, with its number, which is to be the header.
+    pub(crate) fn header(&mut self) -> Result<(&'t [u8], u64), ReadFault>
+        requires counted { self.old.before + length self.old.rest < 2 ^ 64 }
+        ensures some { IfOk result (λ r. content_from (self.old.before + 1) self.old.rest ≡ record { item = r.0.now; line = r.1 } ∷ content_from (self.new.before + 1) self.new.rest) }
+        ensures none { IfErr result (λ f. (content_from (self.old.before + 1) self.old.rest ≡ []) × (f ≡ record { kind = BadHeader; line = max 1 (self.old.before + length (lines_from (self.old.before + 1) self.old.rest)) })) }
+        ensures lines { self.new.before + length (lines_from (self.new.before + 1) self.new.rest) ≡ self.old.before + length (lines_from (self.old.before + 1) self.old.rest) }
+        ensures counted { self.new.before + length self.new.rest < 2 ^ 64 }
+    {
+        match self.next() {
+            Some(head) => Ok(head),
+            None => Err(ReadFault {
+                kind: ReadKind::BadHeader,
+                line: self.last(),
+            }),
+        }
     }
 
     /// The number of the last of the lines that were passed, and 1 where there is none.

@@ -39,12 +39,7 @@ pub fn read_icnf(alloc: Global, text: &[u8]) -> Result<(Instance, Vec<Cube>), Re
     ensures refused { IfErr result (λ f. IsMemory f ⊎ (icnf_refusal text.now ≡ Some f)) }
 {
     let mut lines = ContentLines::new(text);
-    let Some((head, number)) = lines.next() else {
-        return Err(ReadFault {
-            kind: ReadKind::BadHeader,
-            line: lines.last(),
-        });
-    };
+    let (head, number) = lines.header()?;
     if !is_header(head) {
         return Err(ReadFault {
             kind: ReadKind::BadHeader,

@@ -1,5 +1,5 @@
 //! The words of a clause or a cube, one by one.
-ghost use Rattle.std.specs.Prelude.{◌≡◌, ◌<◌, ◌≤◌, ◌∷◌, ◌++◌, [], List, ℕ, Bool, OnOk, if◌then◌else◌, nat_le, Some, None, Option, map};
+ghost use Rattle.std.specs.Prelude.{◌≡◌, ◌<◌, ◌≤◌, ◌∷◌, ◌++◌, [], List, OnOk, if◌then◌else◌, nat_le, Some, None, map};
 ghost use Rattle.pb_inst.specs.declared.TheConstants.{MAX_VARS};
 ghost use Rattle.pb_read.specs.Refusal.{first_kind};
 ghost use Rattle.pb_read.specs.Clauses as clauses;

@@ -1,5 +1,5 @@
 //! The instance that statements of OPB make.
-ghost use Rattle.std.specs.Prelude.{◌≡◌, ◌≤◌, ◌<◌, ◌++◌, ◌∷◌, ◌⊎◌, [], List, true, length, IfOk, IfErr, OnOk, ◌+◌, ◌||◌, nat_lt, unsigned_abs, Some, None};
+ghost use Rattle.std.specs.Prelude.{◌≡◌, ◌++◌, ◌∷◌, ◌⊎◌, [], List, true, length, IfOk, IfErr, OnOk, ◌+◌, ◌||◌, nat_lt, unsigned_abs, Some, None};
 ghost use Rattle.std.specs.List.{list_any};
 ghost use Rattle.pb_read.specs.Opb as opb;
 ghost use Rattle.pb_read.specs.Terms.{greatest_index};

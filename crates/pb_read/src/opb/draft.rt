@@ -1,9 +1,9 @@
 //! A statement as far as it was read.
-ghost use Rattle.std.specs.Prelude.{◌≡◌, ◌∷◌, [], OnOk, nat_lt};
+ghost use Rattle.std.specs.Prelude.{◌≡◌, OnOk, nat_lt};
 ghost use Rattle.pb_inst.specs.declared.TheConstants.{SUM_BOUND};
 ghost use Rattle.pb_read.specs.Refusal.{first_kind};
 ghost use Rattle.pb_read.specs.Opb as opb;
-ghost use Rattle.pb_read.specs.Capped.{cap, read_back};
+ghost use Rattle.pb_read.specs.Capped.{read_back};
 ghost use Rattle.pb_read.specs.Building.{signed};
 ghost use Rattle.pb_read.specs.Places.{is_start};
 ghost use Rattle.pb_read.specs.Drafts.{number_after, relation_after, within_bound, good_literal, with_literal, gather, blank_draft, draft_faults};

@@ -1,5 +1,5 @@
 //! The number of variables that the first line may give.
-ghost use Rattle.std.specs.Prelude.{◌≡◌, ◌≤◌, option_map, List, ℕ, length, take, drop, take_while};
+ghost use Rattle.std.specs.Prelude.{◌≡◌, ◌≤◌, option_map, length, take, drop, take_while};
 ghost use Rattle.pb_read.specs.Capped.{cap, ends_word};
 ghost use Rattle.pb_read.specs.Runs.{skip_while};
 ghost use Rattle.pb_read.specs.Text.{is_digit};

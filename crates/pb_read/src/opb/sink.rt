@@ -1,7 +1,6 @@
 //! The tokens of a text, handed one by one to what reads its statements.
-ghost use Rattle.std.specs.Prelude.{◌≡◌, ◌∷◌, ◌++◌, [], List, ℕ, OnOk, IfErr};
-ghost use Rattle.pb_read.specs.declared.fault.ReadFault.{ReadFault};
-ghost use Rattle.pb_read.specs.Text.{Placed, numbered_lines};
+ghost use Rattle.std.specs.Prelude.{◌≡◌, ◌∷◌, ◌++◌, [], List, OnOk, IfErr};
+ghost use Rattle.pb_read.specs.Text.{Placed};
 ghost use Rattle.pb_read.specs.Opb as opb;
 ghost use Rattle.pb_read.specs.Capped.{capped};
 ghost use Rattle.pb_read.specs.Reading.{Fails};

@@ -1,11 +1,10 @@
 //! The tokens of a line of OPB.
-ghost use Rattle.std.specs.Prelude.{◌≡◌, ◌+◌, ◌*◌, ◌-◌, ◌≤◌, ◌||◌, ℕ, true, false, length, take_while, if◌then◌else◌, ◌∷◌, [], List, Some, None, Option, option_map};
-ghost use Rattle.pb_read.specs.Runs.{first_is, skip_while};
-ghost use Rattle.pb_read.specs.Text.{is_blank, is_digit, are_digits, value};
+ghost use Rattle.std.specs.Prelude.{◌≡◌, true, if◌then◌else◌, ◌∷◌, Some, None, option_map};
+ghost use Rattle.pb_read.specs.Text.{are_digits, value};
 ghost use Rattle.pb_read.specs.Opb.{is_sign};
 ghost use Rattle.pb_read.specs.Opb as opb;
 ghost use Rattle.pb_read.specs.Capped.{cap, capped, IsNextToken};
-ghost use Rattle.pb_read.specs.TokenCuts.{word_front, after_word, value_after, sign_token, after_sign};
+ghost use Rattle.pb_read.specs.TokenCuts.{word_front, after_word, sign_token, after_sign};
 
 use crate::digits::leading_value;
 use crate::line::{after_blanks, is_blank};
