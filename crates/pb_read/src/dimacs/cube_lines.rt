@@ -155,10 +155,5 @@ pub(crate) fn read_cube_lines(
     let mut reader = CubeReader::new(alloc, MAX_VARS);
     reader.take_line(alloc, line, number, ReadKind::ClauseAfterCube)?;
     reader.take_rest(alloc, lines, ReadKind::ClauseAfterCube)?;
-    let CubeReader {
-        cubes,
-        literal_count: _,
-        scan: _,
-    } = reader;
-    Ok(cubes)
+    Ok(reader.cubes)
 }
