@@ -10,14 +10,14 @@ use Rattle.pb_inst.specs.declared.TheConstants.{MAX_VARS, MAX_CONSTRAINTS}
 use Rattle.pb_read.specs.declared.fault.ReadKind.{ReadKind}
 use Rattle.pb_read.specs.declared.fault.ReadKind.TheVariants.{BadHeader, TooMany, TooFewClauses}
 use Rattle.pb_read.specs.declared.fault.ReadFault.{ReadFault}
-use Rattle.pb_read.specs.declared.clause_reader.ClauseReader.{ClauseReader}
+use Rattle.pb_read.specs.declared.dimacs.clause_reader.ClauseReader.{ClauseReader}
 use Rattle.pb_read.specs.Text.{Placed, items, content, clause_lines, last_line, words}
 use Rattle.pb_read.specs.Refusal.{first_fault, at_line, ◌or_else◌}
 use Rattle.pb_read.specs.Clauses.{Word, whole_words, placed_words, clauses_on, clauses_in, clause_instance, clause_faults, VarsUpTo}
 use Rattle.pb_read.specs.Cnf.{Header, header_words, CnfText, cnf_refusal, refusal_of_content, refusal_after_header, body_refusal}
 use Rattle.pb_read.specs.Reading.{IsMemory}
 use Rattle.pb_read.specs.Capped.{cap}
-use Rattle.pb_read.specs.declared.cnf.Header as code
+use Rattle.pb_read.specs.declared.dimacs.cnf.Header as code
 use Rattle.pb_read.specs.ClauseReading.{IsWhole, Fails, capped_header}
 use Rattle.pb_read.proofs.ClausesSpelled.{length_items, one_spelling, clauses_of_words}
 use Rattle.pb_read.proofs.ClauseIndices.{clauses_have_variables}

@@ -11,8 +11,8 @@ use Rattle.pb_inst.specs.declared.constraints.Term.{Term}
 use Rattle.pb_inst.specs.Literal.{Literal}
 use Rattle.pb_inst.specs.Problem.{LinearConstraint}
 use Rattle.pb_inst.specs.Limits.{total_magnitude}
-use Rattle.pb_read.specs.declared.form.Place.{Place}
-use Rattle.pb_read.specs.declared.form.Place.TheVariants.{Start, Terms, Coefficient, Literals, AfterRelation, AfterNumber, Whole, Wrong}
+use Rattle.pb_read.specs.declared.opb.form.Place.{Place}
+use Rattle.pb_read.specs.declared.opb.form.Place.TheVariants.{Start, Terms, Coefficient, Literals, AfterRelation, AfterNumber, Whole, Wrong}
 use Rattle.pb_read.specs.Runs.{first_is, any_neighbours}
 use Rattle.pb_read.specs.Opb.{Token, End, Min, Related, Number, Lit, Bad, objective_tokens, constraint_tokens, is_min, is_literal, has_bad_index, size, both_literals}
 use Rattle.pb_read.specs.Capped.{cap}

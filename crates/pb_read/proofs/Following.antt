@@ -13,7 +13,7 @@ use Rattle.pb_inst.specs.Constraints.{clause_constraint}
 use Rattle.pb_inst.specs.declared.TheConstants.{MAX_CONSTRAINTS, MAX_TERMS}
 use Rattle.pb_read.specs.declared.fault.ReadKind.{ReadKind}
 use Rattle.pb_read.specs.declared.fault.ReadFault.{ReadFault}
-use Rattle.pb_read.specs.declared.clause_reader.ClauseReader.{ClauseReader}
+use Rattle.pb_read.specs.declared.dimacs.clause_reader.ClauseReader.{ClauseReader}
 use Rattle.pb_read.specs.Text.{Placed, items}
 use Rattle.pb_read.specs.Refusal.{first_kind, first_fault, at_line, ◌or_else◌}
 use Rattle.pb_read.specs.Clauses.{Word, word_of, is_zero, clauses_in, statement_of, clause_faults, word_faults, whole_words, line_of, literals_in, greatest_var, all_there}

@@ -4,8 +4,8 @@ use Rattle.std.specs.Prelude.{◌⊎◌}
 use Rattle.std.specs.List.{list_any}
 use Rattle.std.proofs.lemmas.List.{append-nil, map-append}
 use Rattle.pb_read.specs.declared.fault.ReadKind.{ReadKind}
-use Rattle.pb_read.specs.declared.token.Token as code
-use Rattle.pb_read.specs.declared.token.Token.TheVariants as variants
+use Rattle.pb_read.specs.declared.opb.token.Token as code
+use Rattle.pb_read.specs.declared.opb.token.Token.TheVariants as variants
 use Rattle.pb_read.specs.Text.{Placed, items}
 use Rattle.pb_read.specs.declared.fault.ReadKind.TheVariants.{Unfinished}
 use Rattle.pb_read.specs.declared.fault.ReadFault.{ReadFault}

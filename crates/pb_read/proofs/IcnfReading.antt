@@ -10,7 +10,7 @@ use Rattle.pb_inst.specs.Limits.{HasVariablesWithin}
 use Rattle.pb_inst.specs.declared.TheConstants.{MAX_VARS}
 use Rattle.pb_read.specs.declared.fault.ReadKind.TheVariants.{BadHeader, ClauseAfterCube}
 use Rattle.pb_read.specs.declared.fault.ReadFault.{ReadFault}
-use Rattle.pb_read.specs.declared.clause_reader.ClauseReader.{ClauseReader}
+use Rattle.pb_read.specs.declared.dimacs.clause_reader.ClauseReader.{ClauseReader}
 use Rattle.pb_read.specs.Text.{Placed, items, content, clause_lines, last_line, words}
 use Rattle.pb_read.specs.Refusal.{first_fault, at_line, ◌or_else◌}
 use Rattle.pb_read.specs.Clauses.{whole_words, placed_words, clauses_on, clause_instance, clause_faults, VarsUpTo, greatest_var}

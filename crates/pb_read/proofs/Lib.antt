@@ -18,6 +18,7 @@ pub mod ClauseLines
 pub mod ClauseIndices
 pub mod CnfReading
 pub mod IcnfReading
+pub mod FormatLaws
 pub mod ContentLines
 pub mod FaultOnly
 pub mod Lexing

@@ -1,7 +1,7 @@
 -- The reader's test of a statement's form is the definition's.
 use Rattle.std.proofs.Common.{◌≡◌, refl, sym, ap, ◌∙◌, List, [], ◌∷◌, Bool, true, false, ◌||◌, ◌&&◌}
-use Rattle.pb_read.specs.declared.form.Place.{Place}
-use Rattle.pb_read.specs.declared.form.Place.TheVariants.{Start, Terms, Coefficient, Literals, AfterRelation, AfterNumber, Whole, Wrong}
+use Rattle.pb_read.specs.declared.opb.form.Place.{Place}
+use Rattle.pb_read.specs.declared.opb.form.Place.TheVariants.{Start, Terms, Coefficient, Literals, AfterRelation, AfterNumber, Whole, Wrong}
 use Rattle.pb_inst.specs.Literal.{Literal}
 use Rattle.pb_read.specs.Runs.{first_is, skip_while}
 use Rattle.pb_read.specs.Opb.{Token, End, Min, Related, Number, Lit, Bad, is_literal, without_products, are_terms_and_end, is_objective, is_constraint, has_shape}

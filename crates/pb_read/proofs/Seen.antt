@@ -3,9 +3,9 @@ use Rattle.std.proofs.Common.{◌≡◌, ℕ, zero, suc, ◌+◌, ◌<◌, ◌�
 use Rattle.std.specs.Prelude.{unsigned_abs, int_lt}
 use Rattle.std.proofs.lemmas.Bool.{cases_Bool, ltb-true, ltb-false, lt-ltb, le-ltb, ne_eqb, or_parts}
 use Rattle.pb_inst.specs.declared.TheConstants.{MAX_VARS, SUM_BOUND}
-use Rattle.pb_read.specs.declared.form.Place.{Place}
-use Rattle.pb_read.specs.declared.form.Place.TheVariants.{Start, Terms, Coefficient, Literals, AfterRelation, AfterNumber, Whole, Wrong}
-use Rattle.pb_read.specs.declared.token.Token as code
+use Rattle.pb_read.specs.declared.opb.form.Place.{Place}
+use Rattle.pb_read.specs.declared.opb.form.Place.TheVariants.{Start, Terms, Coefficient, Literals, AfterRelation, AfterNumber, Whole, Wrong}
+use Rattle.pb_read.specs.declared.opb.token.Token as code
 use Rattle.pb_read.specs.Opb.{Token, End, Min, Related, Number, Lit, Bad, is_min, is_literal, has_bad_index, size}
 use Rattle.pb_read.specs.Capped.{cap, capped, read_back}
 use Rattle.pb_read.specs.Building.{signed}

@@ -9,7 +9,7 @@ use Rattle.std.proofs.Math.Seq.{take-length}
 use Rattle.pb_read.specs.Runs.{first_is, runs, skip_while}
 use Rattle.pb_read.proofs.Headers.{front_digits}
 use Rattle.pb_read.specs.Text.{is_blank, is_digit, are_digits, value}
-use Rattle.pb_read.specs.declared.token.Token as code
+use Rattle.pb_read.specs.declared.opb.token.Token as code
 use Rattle.pb_inst.specs.declared.constraints.Relation.TheVariants.{AtLeast, AtMost}
 use lib.Pointwise.{pointwise}
 use Rattle.pb_read.specs.Capped.{cap, capped}
@@ -80,9 +80,9 @@ after_digits (b ∷ bs) = elim (cases_Bool (is_digit b)) [
   | inr f ↦ rw f refl
 ]
 
-skip_first : (bs : List ℕ) → first_is is_digit (skip_while is_digit bs) ≡ false
-skip_first [] = refl
-skip_first (b ∷ bs) = elim (cases_Bool (is_digit b)) [ inl t ↦ rw t (skip_first bs) | inr f ↦ rw (f, f) refl ]
+pub skip_first : (test : ℕ → Bool) (bs : List ℕ) → first_is test (skip_while test bs) ≡ false
+skip_first test [] = refl
+skip_first test (b ∷ bs) = elim (cases_Bool (test b)) [ inl t ↦ rw t (skip_first test bs) | inr f ↦ rw (f, f) refl ]
 
 front_length : (bs : List ℕ) → length (word_front bs) + length (after_word bs) ≡ length bs
 front_length [] = refl
@@ -163,7 +163,7 @@ goes_on bs h = by (skip_while is_digit bs) refl
     by [] e = absurd (omega (arith, h, ap length e, ap (λ (x : List ℕ). length (after_word x)) e))
     by (y ∷ ys) e = elim (cases_Bool (is_word_byte y)) [
       | inl w ↦
-          let other : is_digit y ≡ false = ap (first_is is_digit) e ∙ skip_first bs in
+          let other : is_digit y ≡ false = ap (first_is is_digit) e ∙ skip_first is_digit bs in
           let x = word_first y ys w in
           let whole : word_front bs ≡ take_while is_digit bs ++ y ∷ x.0 = front_from_digits bs ∙ ap (λ (r : List ℕ). take_while is_digit bs ++ word_front r) (sym e) ∙ ap (λ (r : List ℕ). take_while is_digit bs ++ r) x.1 in
           rw (whole, all_then (take_while is_digit bs) y x.0 other, and_false (first_is is_digit (take_while is_digit bs ++ y ∷ x.0))) refl

@@ -8,8 +8,8 @@ use Rattle.pb_inst.specs.declared.faults.InstFault.{InstFault}
 use Rattle.pb_inst.specs.declared.faults.InstFault.TheVariants as faults
 use Rattle.pb_read.specs.declared.fault.ReadKind.{ReadKind}
 use Rattle.pb_read.specs.declared.fault.ReadKind.TheVariants.{BadVariable, TooLarge, TooMany}
-use Rattle.pb_read.specs.declared.builder.StatementError.{StatementError}
-use Rattle.pb_read.specs.declared.builder.StatementError.TheVariants.{Memory, Fault}
+use Rattle.pb_read.specs.declared.opb.builder.StatementError.{StatementError}
+use Rattle.pb_read.specs.declared.opb.builder.StatementError.TheVariants.{Memory, Fault}
 use Rattle.pb_read.specs.Refusal.{first_kind}
 
 abbrev pub objective_part : Option (List Term) → List (List Token)

@@ -1,8 +1,8 @@
 -- Tokens as the code has them, in which a number over every bound is the greatest that is read.
 use Rattle.std.specs.Prelude.{ℕ, pos, min, Bool, unsigned_abs, int_lt, neg_ℤ, if◌then◌else◌}
-use Rattle.pb_read.specs.declared.token.TheConstants.{GREATEST_READ}
-use Rattle.pb_read.specs.declared.token.Token as code
-use Rattle.pb_read.specs.declared.token.Token.TheVariants as variants
+use Rattle.pb_read.specs.declared.digits.TheConstants.{GREATEST_READ}
+use Rattle.pb_read.specs.declared.opb.token.Token as code
+use Rattle.pb_read.specs.declared.opb.token.Token.TheVariants as variants
 use Rattle.pb_read.specs.Runs.{first_is}
 use Rattle.pb_read.specs.Text.{is_blank}
 use Rattle.pb_read.specs.Opb as opb

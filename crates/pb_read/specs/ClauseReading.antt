@@ -2,20 +2,20 @@
 use Rattle.std.specs.Prelude.{◌⊎◌, length, ℕ, ◌≡◌, ◌<◌, not, take_while, Bool, true, false, if◌then◌else◌, List, [], ◌∷◌, ◌++◌, map, Option, None, Some}
 use Rattle.std.specs.List.{list_any}
 use Rattle.pb_inst.specs.Literal.{Literal}
-use Rattle.pb_read.specs.declared.word.Word as code
-use Rattle.pb_read.specs.declared.word.Word.TheVariants as variants
+use Rattle.pb_read.specs.declared.dimacs.word.Word as code
+use Rattle.pb_read.specs.declared.dimacs.word.Word.TheVariants as variants
 use Rattle.pb_read.specs.Capped.{cap}
 use Rattle.pb_read.specs.Text.{Placed, items, words, numbered, content_of, is_marked}
 use Rattle.pb_read.specs.Clauses as clauses
 use Rattle.pb_read.specs.Clauses.{is_zero, is_over, is_whole, literal_count, clause_faults, clauses_in, whole_words, greatest_var}
-use Rattle.pb_read.specs.declared.clause_reader.ClauseReader.{ClauseReader}
+use Rattle.pb_read.specs.declared.dimacs.clause_reader.ClauseReader.{ClauseReader}
 use Rattle.pb_read.specs.declared.fault.ReadFault.{ReadFault}
 use Rattle.pb_read.specs.Reading.{IsMemory}
 use Rattle.pb_read.specs.Refusal.{first_fault}
 use Rattle.pb_inst.specs.Constraints.{clause_constraint}
 use Rattle.pb_read.specs.Cubes.{CubeLines, is_cube_line, cube_words}
 use Rattle.pb_read.specs.Cnf as cnf
-use Rattle.pb_read.specs.declared.cnf.Header.{Header}
+use Rattle.pb_read.specs.declared.dimacs.cnf.Header.{Header}
 
 abbrev pub capped : clauses.Word → code.Word
 capped (clauses.Lit l) = variants.Literal l.positive (cap l.var)

@@ -6,8 +6,8 @@ use Rattle.pb_inst.specs.declared.constraints.Relation.{Relation}
 use Rattle.pb_inst.specs.declared.constraints.Relation.TheVariants.{Equal}
 use Rattle.pb_inst.specs.declared.TheConstants.{SUM_BOUND}
 use Rattle.pb_read.specs.declared.fault.ReadKind.TheVariants.{LateObjective, Syntax, NonLinear, BadVariable}
-use Rattle.pb_read.specs.declared.form.Place.{Place}
-use Rattle.pb_read.specs.declared.form.Place.TheVariants.{Start}
+use Rattle.pb_read.specs.declared.opb.form.Place.{Place}
+use Rattle.pb_read.specs.declared.opb.form.Place.TheVariants.{Start}
 use Rattle.pb_read.specs.Refusal.{Faults}
 use Rattle.pb_read.specs.Opb.{Token, Number, Lit, Related, is_min, is_literal, has_bad_index, size}
 use Rattle.pb_read.specs.Capped.{cap}

@@ -9,6 +9,7 @@ pub mod Clauses
 pub mod Cnf
 pub mod Cubes
 pub mod Icnf
+pub mod Format
 pub mod Reading
 pub mod ClauseReading
 pub mod Failure

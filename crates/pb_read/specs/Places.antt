@@ -2,8 +2,8 @@
 use Rattle.std.specs.Prelude.{Bool, true, false, not, ◌&&◌, List, [], ◌∷◌, fold}
 use Rattle.std.specs.List.{list_any}
 use Rattle.pb_read.specs.declared.fault.ReadKind.TheVariants.{LateObjective, Syntax, NonLinear, BadVariable}
-use Rattle.pb_read.specs.declared.form.Place.{Place}
-use Rattle.pb_read.specs.declared.form.Place.TheVariants.{Start, Terms, Coefficient, Literals, AfterRelation, AfterNumber, Whole, Wrong}
+use Rattle.pb_read.specs.declared.opb.form.Place.{Place}
+use Rattle.pb_read.specs.declared.opb.form.Place.TheVariants.{Start, Terms, Coefficient, Literals, AfterRelation, AfterNumber, Whole, Wrong}
 use Rattle.pb_read.specs.Runs.{first_is, any_neighbours}
 use Rattle.pb_read.specs.Refusal.{Faults}
 use Rattle.pb_read.specs.Opb as opb

@@ -4,9 +4,18 @@ ghost use Rattle.pb_inst.specs.Problem.{Problem};
 ghost use Rattle.pb_read.specs.Opb.{OpbText, opb_refusal};
 ghost use Rattle.pb_read.specs.Reading.{IsMemory};
 
-use crate::builder::read_statements;
+mod builder;
+mod draft;
+mod form;
+mod header;
+mod sink;
+#[cfg(test)]
+mod tests;
+mod token;
+
 use crate::fault::{ReadFault, ReadKind};
-use crate::header::header;
+use builder::read_statements;
+use header::announced_vars;
 use pb_inst::{Instance, MAX_VARS};
 use std::alloc::Global;
 
@@ -16,7 +25,7 @@ pub fn read_opb(alloc: Global, text: &[u8]) -> Result<Instance, ReadFault>
     ensures only { (i : Problem) → OpbText text.now i → MatchResult result (λ r. r ≡ i) (λ f. IsMemory f) }
     ensures refused { IfErr result (λ f. IsMemory f ⊎ (opb_refusal text.now ≡ Some f)) }
 {
-    let least = header(text);
+    let least = announced_vars(text);
     if least > u64::from(MAX_VARS) {
         return Err(ReadFault {
             kind: ReadKind::TooMany,

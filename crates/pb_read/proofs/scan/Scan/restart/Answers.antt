@@ -1,5 +1,0 @@
-use Rattle.pb_read.proofs.Scanning.{none_seen}
-use Rattle.pb_read.proofs.scan.Scan.restart.Goals as goal
-
-pub returns-clause-scanned : goal.returns-clause-scanned
-returns-clause-scanned c = rw (c.clear.ensures.items) (none_seen c.args.self.now.limit)
