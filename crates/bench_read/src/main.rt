@@ -2,7 +2,8 @@
 //! `cubes`, and else OPB.
 #![tactic(auto)]
 
-use pb_read::{ReadFault, read_cnf, read_cubes, read_icnf, read_opb};
+use pb_inst::MAX_VARS;
+use pb_read::{Format, ReadFault, read, read_cubes};
 use std::alloc::Global;
 use std::io::Read;
 use std::time::Instant;
@@ -16,15 +17,13 @@ struct Sizes {
     cubes: usize,
 }
 
-fn read(alloc: Global, format: &str, text: &[u8]) -> Result<Sizes, ReadFault> {
-    let (instance, cubes) = match format {
-        "cnf" => (read_cnf(alloc, text)?, 0),
-        "icnf" => {
-            let (instance, cubes) = read_icnf(alloc, text)?;
-            (instance, cubes.len())
-        }
+/// The sizes of the text, in the format of that name.
+fn read_sizes(alloc: Global, name: &str, text: &[u8]) -> Result<Sizes, ReadFault> {
+    let format = match name {
+        "cnf" => Format::Cnf,
+        "icnf" => Format::Icnf,
         "cubes" => {
-            let variables = 1_048_576;
+            let variables = MAX_VARS;
             let cubes = read_cubes(alloc, text, variables)?.len();
             return Ok(Sizes {
                 variables,
@@ -32,23 +31,24 @@ fn read(alloc: Global, format: &str, text: &[u8]) -> Result<Sizes, ReadFault> {
                 cubes,
             });
         }
-        _ => (read_opb(alloc, text)?, 0),
+        _ => Format::Opb,
     };
+    let (instance, cubes) = read(alloc, format, text)?;
     Ok(Sizes {
         variables: instance.vars(),
         constraints: instance.len(),
-        cubes,
+        cubes: cubes.len(),
     })
 }
 
 fn main(rt: HostRuntime) -> io::Result<()> {
     let mut args = env::args(&rt)?;
     args.next();
-    let format = args.next().unwrap_or(String::new(rt.alloc()));
+    let name = args.next().unwrap_or(String::new(rt.alloc()));
     let mut text = Vec::new(rt.alloc());
     rt.stdin().read_to_end(&mut text)?;
     let start = Instant::now(&rt)?;
-    let answer = read(rt.alloc(), &format, &text);
+    let answer = read_sizes(rt.alloc(), &name, &text);
     let seconds = start.elapsed(&rt)?.as_secs_f64();
     let bytes = text.len();
     match answer {
