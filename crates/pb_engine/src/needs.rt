@@ -7,7 +7,7 @@ ghost use Rattle.pb_engine.specs.declared.needs.TheConstants.{MET};
 ghost use Rattle.pb_rows.specs.Clauses.{unit_term};
 ghost use Rattle.pb_rows.specs.Constraints.{row_at};
 ghost use Rattle.pb_engine.specs.DisjointRows.{spare, gain, loss};
-ghost use Rattle.pb_rows.specs.Index.{total_for};
+ghost use Rattle.pb_rows.specs.Index.{total_by};
 ghost use Rattle.pb_engine.specs.Needs.{AreNeeds, IsLackOf, wants};
 ghost use Rattle.pb_rows.specs.Tables.{terms_in};
 ghost use Rattle.pb_normal.specs.Literals.{negation, weight_of};
@@ -15,7 +15,7 @@ ghost use Rattle.pb_normal.specs.Literals.{negation, weight_of};
 use pb_bits::RowSet;
 use pb_inst::{Lit, Magnitude, Memory};
 use pb_normal::PositiveTerm;
-use pb_rows::{Count, Occurrence, RowTerms, Tables, Tally, UnitOccurrence};
+use pb_rows::{Count, Occurs, RowTerms, Tables, Tally};
 use pb_trail::Slacks;
 use std::alloc::Global;
 
@@ -187,7 +187,7 @@ fn lower_if<C: Count>(
         return;
     }
     lower(lacks, wanting, tables.occurrences(lit));
-    lower_units(lacks, wanting, tables.units(lit));
+    lower(lacks, wanting, tables.units(lit));
 }
 
 /// Adds the literal's coefficients to what its rows lack, if it is to.
@@ -210,73 +210,35 @@ fn raise_if<C: Count>(
         return;
     }
     raise(lacks, wanting, tables.occurrences(lit));
-    raise_units(lacks, wanting, tables.units(lit));
+    raise(lacks, wanting, tables.units(lit));
 }
 
 /// Takes the coefficients of the occurrences from what their rows lack.
-fn lower<C: Count>(lacks: &mut [Tally<C>], wanting: &mut RowSet, occurrences: &[Occurrence<C>])
-    requires rows_exist { All (λ o. o.row < length lacks.old) occurrences.now }
-    requires enough { (r : ℕ) → r < length lacks.old → total_for r occurrences.now ≤ slice_index lacks.old r }
+fn lower<C: Count, O: Occurs<C>>(lacks: &mut [Tally<C>], wanting: &mut RowSet, occurrences: &[O])
+    requires rows_exist { All (λ o. (O.occurrence o).row < length lacks.old) occurrences.now }
+    requires enough { (r : ℕ) → r < length lacks.old → total_by O.occurrence r occurrences.now ≤ slice_index lacks.old r }
     requires wanting { wanting.old ≡ wants lacks.old }
-    ensures lowered { (r : ℕ) → r < length lacks.old → slice_index lacks.new r + total_for r occurrences.now ≡ slice_index lacks.old r }
-    ensures wanting { wanting.new ≡ wants lacks.new }
-{
-    for occurrence in occurrences {
-        let row = occurrence.row as usize;
-        lacks[row] -= occurrence.coef;
-        wanting.put(row, Tally::of(MET).is_below(lacks[row]));
-    }
-}
-
-/// Takes 1 for each occurrence from what its row lacks.
-fn lower_units<C: Count>(
-    lacks: &mut [Tally<C>],
-    wanting: &mut RowSet,
-    occurrences: &[UnitOccurrence],
-)
-    requires rows_exist { All (λ o. o.row < length lacks.old) occurrences.now }
-    requires enough { (r : ℕ) → r < length lacks.old → total_for r occurrences.now ≤ slice_index lacks.old r }
-    requires wanting { wanting.old ≡ wants lacks.old }
-    ensures lowered { (r : ℕ) → r < length lacks.old → slice_index lacks.new r + total_for r occurrences.now ≡ slice_index lacks.old r }
+    ensures lowered { (r : ℕ) → r < length lacks.old → slice_index lacks.new r + total_by O.occurrence r occurrences.now ≡ slice_index lacks.old r }
     ensures wanting { wanting.new ≡ wants lacks.new }
 {
     for occurrence in occurrences {
         let row = occurrence.row();
-        lacks[row] -= Tally::of(1);
+        lacks[row] -= occurrence.coef();
         wanting.put(row, Tally::of(MET).is_below(lacks[row]));
     }
 }
 
 /// Adds the coefficients of the occurrences to what their rows lack.
-fn raise<C: Count>(lacks: &mut [Tally<C>], wanting: &mut RowSet, occurrences: &[Occurrence<C>])
-    requires rows_exist { All (λ o. o.row < length lacks.old) occurrences.now }
-    requires fits { (r : ℕ) → r < length lacks.old → slice_index lacks.old r + total_for r occurrences.now < 2 ^ 64 }
+fn raise<C: Count, O: Occurs<C>>(lacks: &mut [Tally<C>], wanting: &mut RowSet, occurrences: &[O])
+    requires rows_exist { All (λ o. (O.occurrence o).row < length lacks.old) occurrences.now }
+    requires fits { (r : ℕ) → r < length lacks.old → slice_index lacks.old r + total_by O.occurrence r occurrences.now < 2 ^ 64 }
     requires wanting { wanting.old ≡ wants lacks.old }
-    ensures raised { (r : ℕ) → r < length lacks.old → slice_index lacks.new r ≡ slice_index lacks.old r + total_for r occurrences.now }
-    ensures wanting { wanting.new ≡ wants lacks.new }
-{
-    for occurrence in occurrences {
-        let row = occurrence.row as usize;
-        lacks[row] += occurrence.coef;
-        wanting.put(row, Tally::of(MET).is_below(lacks[row]));
-    }
-}
-
-/// Adds 1 for each occurrence to what its row lacks.
-fn raise_units<C: Count>(
-    lacks: &mut [Tally<C>],
-    wanting: &mut RowSet,
-    occurrences: &[UnitOccurrence],
-)
-    requires rows_exist { All (λ o. o.row < length lacks.old) occurrences.now }
-    requires fits { (r : ℕ) → r < length lacks.old → slice_index lacks.old r + total_for r occurrences.now < 2 ^ 64 }
-    requires wanting { wanting.old ≡ wants lacks.old }
-    ensures raised { (r : ℕ) → r < length lacks.old → slice_index lacks.new r ≡ slice_index lacks.old r + total_for r occurrences.now }
+    ensures raised { (r : ℕ) → r < length lacks.old → slice_index lacks.new r ≡ slice_index lacks.old r + total_by O.occurrence r occurrences.now }
     ensures wanting { wanting.new ≡ wants lacks.new }
 {
     for occurrence in occurrences {
         let row = occurrence.row();
-        lacks[row] += Tally::of(1);
+        lacks[row] += occurrence.coef();
         wanting.put(row, Tally::of(MET).is_below(lacks[row]));
     }
 }

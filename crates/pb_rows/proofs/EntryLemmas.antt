@@ -10,7 +10,7 @@ use Rattle.pb_normal.specs.NormalForm.{PositiveRow, NormalForm, IsNormal}
 use Rattle.pb_rows.specs.Occurrences.{Occurrence, Entry}
 use Rattle.pb_rows.specs.Constraints.{AreRowsOver, row_at}
 use Rattle.pb_normal.specs.Literals.{same_literal, weight_of}
-use Rattle.pb_rows.specs.Index.{literal_place, items_at, total_for, occurrences_of, entries_of_row, entries_from, IsIndexed, IsIndexOf}
+use Rattle.pb_rows.specs.Index.{literal_place, items_at, total_by, total_for, occurrences_of, entries_of_row, entries_from, IsIndexed, IsIndexOf}
 use Rattle.pb_normal.proofs.LiteralLemmas.{same_literal-is, same_literal-itself, weight_of-nil, weight_of-cons}
 
 abbrev entry : ℕ → PositiveTerm → Entry
@@ -39,7 +39,7 @@ items_at-append p (e ∷ es) fs =
     elim (cases_Bool (eqb e.place p)) [ inl same ↦ rw same (ap (λ (os : List Occurrence). e.occurrence ∷ os) rest) | inr other ↦ rw other rest ]
 
 pub total_for-append : (r : ℕ) (os ps : List Occurrence) → total_for r (os ++ ps) ≡ total_for r os + total_for r ps
-unfolding total_for
+unfolding total_by
 total_for-append r os ps = sum_by-append (λ (o : Occurrence). cond (eqb o.row r) o.coef 0) os ps
 
 -- two literals of variables from 1 on have the same place exactly where they are the same
@@ -76,7 +76,7 @@ unfolding items_at entries_of_row
 row_items-cons p r t terms = refl
 
 total_for-cons : (r : ℕ) (o : Occurrence) (os : List Occurrence) → total_for r (o ∷ os) ≡ cond (eqb o.row r) o.coef 0 + total_for r os
-unfolding total_for
+unfolding total_by
 total_for-cons r o os = sum_by-cons (λ (x : Occurrence). cond (eqb x.row r) x.coef 0) o os
 
 row_items-nil : (p r : ℕ) → items_at p (entries_of_row r []) ≡ []
@@ -84,7 +84,7 @@ unfolding items_at entries_of_row
 row_items-nil p r = refl
 
 total_for-empty : (r : ℕ) → total_for r [] ≡ 0
-unfolding total_for
+unfolding total_by
 total_for-empty r = refl
 
 -- what the entries of a row give a row
@@ -123,7 +123,7 @@ other_total p s r (t ∷ terms) other =
     ]
 
 total_for-none : (r p : ℕ) → total_for r (items_at p []) ≡ 0
-unfolding total_for items_at
+unfolding total_by items_at
 total_for-none r p = refl
 
 total_next : (first : ℕ) (rows : List PositiveRow) (n p r : ℕ) → total_for r (items_at p (entries_from first rows (suc n))) ≡ total_for r (items_at p (entries_from first rows n)) + total_for r (items_at p (entries_of_row (first + n) (row_at rows n).terms))

@@ -14,7 +14,7 @@ mod tally;
 
 pub use clauses::Clauses;
 pub use count::Count;
-pub use occurrences::{Occurrence, Part, UnitOccurrence};
+pub use occurrences::{Occurrence, Occurs, Part, UnitOccurrence};
 pub use rows::{Limits, Rows};
 pub use tables::{RowTerms, Tables};
 pub use tally::Tally;

@@ -9,6 +9,20 @@ use pb_inst::{Lit, Memory};
 use std::alloc::AllocError;
 use std::marker::Model;
 
+/// What says in which row a literal occurs, and with which coefficient.
+pub trait Occurs<C: Count>: Copy {
+    ghost use Rattle.pb_rows.specs.Occurrences.{Occurrence as Weighted};
+
+    /// The row and the coefficient.
+    ghost occurrence: { Self → Weighted };
+
+    fn row(self) -> usize
+        ensures { result ≡ (occurrence self).row };
+
+    fn coef(self) -> Tally<C>
+        ensures { result ≡ (occurrence self).coef };
+}
+
 /// A row in which a literal occurs, and with which coefficient.
 #[derive(Clone, Copy, Debug)]
 pub struct Occurrence<C: Count> {
@@ -26,10 +40,24 @@ impl<C: Count> Model for Occurrence<C> {
     ghost inverse = { λ o. record { row = o.row; coef = o.coef } };
 }
 
+impl<C: Count> Occurs<C> for Occurrence<C> {
+    ghost occurrence = { λ o. o };
+
+    #[inline]
+    fn row(self) -> usize {
+        self.row as usize
+    }
+
+    #[inline]
+    fn coef(self) -> Tally<C> {
+        self.coef
+    }
+}
+
 /// A row in which a literal occurs with the coefficient 1, which is not stored. Contracts see an `Occurrence`.
 #[derive(Clone, Copy, Debug)]
 pub struct UnitOccurrence {
-    row: u32,
+    pub row: u32,
 }
 
 const _: () = prove!(size_of::<UnitOccurrence>() == 4);
@@ -50,12 +78,19 @@ impl UnitOccurrence {
     {
         UnitOccurrence { row }
     }
+}
 
-    pub fn row(self) -> usize
-        ensures value { result ≡ self.row }
-        ensures unit { self.coef ≡ 1 }
-    {
+impl<C: Count> Occurs<C> for UnitOccurrence {
+    ghost occurrence = { λ o. o };
+
+    #[inline]
+    fn row(self) -> usize {
         self.row as usize
+    }
+
+    #[inline]
+    fn coef(self) -> Tally<C> {
+        Tally::of(1)
     }
 }
 

@@ -6,7 +6,7 @@ ghost use Rattle.pb_rows.specs.Occurrences.{Occurrence as Weighted};
 ghost use Rattle.pb_rows.specs.Constraints.{AreRowsOver, row_at};
 ghost use Rattle.pb_rows.specs.Table.{AreLimits};
 ghost use Rattle.pb_trail.specs.Tracked.{tracked_of};
-ghost use Rattle.pb_rows.specs.Index.{IsPartOf, occurrences_of, total_for};
+ghost use Rattle.pb_rows.specs.Index.{IsPartOf, occurrences_of, total_by, total_for};
 ghost use Rattle.pb_normal.specs.Literals.{weight_of};
 ghost use Rattle.pb_trail.specs.Trail.{value_on, reachable};
 ghost use Rattle.pb_trail.specs.Soundness.{IsProperTrail};
@@ -14,7 +14,7 @@ ghost use Rattle.pb_trail.specs.Propagation.{IsBrokenAt};
 
 use pb_inst::{Lit, Magnitude, Memory};
 use pb_normal::{Normal, PositiveTerm};
-use pb_rows::{Count, Limits, Occurrence, Part, Tables, Tally, UnitOccurrence};
+use pb_rows::{Count, Limits, Occurs, Part, Tables, Tally};
 use std::alloc::Global;
 use std::marker::Model;
 
@@ -236,7 +236,7 @@ impl<'a, C: Count> Slacks<'a, C> {
         self.trail.push_reserved(lit);
         let negation = lit.negate();
         lower(&mut self.sums, self.tables.occurrences(negation));
-        lower_units(&mut self.sums, self.tables.units(negation));
+        lower(&mut self.sums, self.tables.units(negation));
     }
 
     /// Takes the last literal off the trail.
@@ -247,7 +247,7 @@ impl<'a, C: Count> Slacks<'a, C> {
             self.values[lit.var() as usize - 1] = None;
             let negation = lit.negate();
             raise(&mut self.sums, self.tables.occurrences(negation));
-            raise_units(&mut self.sums, self.tables.units(negation));
+            raise(&mut self.sums, self.tables.units(negation));
         }
     }
 }
@@ -273,45 +273,23 @@ pub fn cut<C: Count>(slacks: &mut Slacks<'_, C>, length: usize)
 }
 
 /// Takes the coefficients of the occurrences from the sums of their rows.
-fn lower<C: Count>(sums: &mut [Tally<C>], occurrences: &[Occurrence<C>])
-    requires rows_exist { All (λ o. o.row < length sums.old) occurrences.now }
-    requires enough { (r : ℕ) → r < length sums.old → total_for r occurrences.now ≤ slice_index sums.old r }
-    ensures { (r : ℕ) → r < length sums.old → slice_index sums.new r + total_for r occurrences.now ≡ slice_index sums.old r }
+fn lower<C: Count, O: Occurs<C>>(sums: &mut [Tally<C>], occurrences: &[O])
+    requires rows_exist { All (λ o. (O.occurrence o).row < length sums.old) occurrences.now }
+    requires enough { (r : ℕ) → r < length sums.old → total_by O.occurrence r occurrences.now ≤ slice_index sums.old r }
+    ensures { (r : ℕ) → r < length sums.old → slice_index sums.new r + total_by O.occurrence r occurrences.now ≡ slice_index sums.old r }
 {
     for occurrence in occurrences {
-        sums[occurrence.row as usize] -= occurrence.coef;
-    }
-}
-
-/// Takes 1 for each occurrence from the sum of its row.
-fn lower_units<C: Count>(sums: &mut [Tally<C>], occurrences: &[UnitOccurrence])
-    requires rows_exist { All (λ o. o.row < length sums.old) occurrences.now }
-    requires enough { (r : ℕ) → r < length sums.old → total_for r occurrences.now ≤ slice_index sums.old r }
-    ensures { (r : ℕ) → r < length sums.old → slice_index sums.new r + total_for r occurrences.now ≡ slice_index sums.old r }
-{
-    for occurrence in occurrences {
-        sums[occurrence.row()] -= Tally::of(1);
+        sums[occurrence.row()] -= occurrence.coef();
     }
 }
 
 /// Adds the coefficients of the occurrences to the sums of their rows.
-fn raise<C: Count>(sums: &mut [Tally<C>], occurrences: &[Occurrence<C>])
-    requires rows_exist { All (λ o. o.row < length sums.old) occurrences.now }
-    requires fits { (r : ℕ) → r < length sums.old → slice_index sums.old r + total_for r occurrences.now < 2 ^ 64 }
-    ensures { (r : ℕ) → r < length sums.old → slice_index sums.new r ≡ slice_index sums.old r + total_for r occurrences.now }
+fn raise<C: Count, O: Occurs<C>>(sums: &mut [Tally<C>], occurrences: &[O])
+    requires rows_exist { All (λ o. (O.occurrence o).row < length sums.old) occurrences.now }
+    requires fits { (r : ℕ) → r < length sums.old → slice_index sums.old r + total_by O.occurrence r occurrences.now < 2 ^ 64 }
+    ensures { (r : ℕ) → r < length sums.old → slice_index sums.new r ≡ slice_index sums.old r + total_by O.occurrence r occurrences.now }
 {
     for occurrence in occurrences {
-        sums[occurrence.row as usize] += occurrence.coef;
-    }
-}
-
-/// Adds 1 for each occurrence to the sum of its row.
-fn raise_units<C: Count>(sums: &mut [Tally<C>], occurrences: &[UnitOccurrence])
-    requires rows_exist { All (λ o. o.row < length sums.old) occurrences.now }
-    requires fits { (r : ℕ) → r < length sums.old → slice_index sums.old r + total_for r occurrences.now < 2 ^ 64 }
-    ensures { (r : ℕ) → r < length sums.old → slice_index sums.new r ≡ slice_index sums.old r + total_for r occurrences.now }
-{
-    for occurrence in occurrences {
-        sums[occurrence.row()] += Tally::of(1);
+        sums[occurrence.row()] += occurrence.coef();
     }
 }

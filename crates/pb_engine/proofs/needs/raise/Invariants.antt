@@ -1,10 +1,10 @@
 use Rattle.std.proofs.Common.{◌≡◌, ◌+◌, ◌<◌, ℕ, length, take, get_or}
-use Rattle.pb_rows.specs.Index.{total_for}
+use Rattle.pb_rows.specs.Index.{total_by}
 use Rattle.pb_engine.specs.Needs.{wants}
 use Rattle.pb_engine.proofs.needs.raise.Given as goal
 
 abbrev pub invariant-loop-occurrence : goal.invariant-loop-occurrence
 invariant-loop-occurrence g l = record {
-  raised : (r : ℕ) → r < length l.lacks → get_or l.lacks r 0 ≡ get_or l.initial.lacks r 0 + total_for r (take l.occurrence-index l.occurrences);
+  raised : (r : ℕ) → r < length l.lacks → get_or l.lacks r 0 ≡ get_or l.initial.lacks r 0 + total_by g.O.Occurs.occurrence r (take l.occurrence-index l.occurrences);
   wanting : l.wanting ≡ wants l.lacks;
 }

@@ -6,12 +6,12 @@ use Rattle.pb_rows.specs.Occurrences.{Occurrence}
 use Rattle.pb_rows.specs.declared.occurrences.Part.{Part}
 use Rattle.pb_rows.specs.Index.{IsPartOf, occurrences_of, total_for}
 use Rattle.pb_trail.specs.Tracked.{Tracked}
-use Rattle.pb_rows.proofs.TableLemmas.{total_for-nil, total_for-other, none}
+use Rattle.pb_rows.proofs.TableLemmas.{total_by-nil, total_by-other, none}
 use Rattle.pb_trail.proofs.Looking.{looked_through_none, looked_through_forced, looked_through_next}
 use Rattle.pb_trail.proofs.propagation.look_at_clauses.Goals as goal
 
 pub loop-i-init : goal.loop-i-init
-loop-i-init g c = looked_through_none c.args.slacks.now (λ r. 0 < total_for r []) (λ r h. omega (arith, total_for-nil r))
+loop-i-init g c = looked_through_none c.args.slacks.now (λ r. 0 < total_for r []) (λ r h. omega (arith, total_by-nil (λ (o : Occurrence). o) r))
 
 -- the row that is read is that of the literal's occurrence i
 read_row : (before now : Tracked) (l : Literal) (part : Part) (i row : ℕ) → now ≡ record before { trail = now.trail } → IsPartOf before.units before.unit_starts l part → i < part.len → ((d : Occurrence) → row ≡ (get_or now.units (part.start + i) d).row) → row ≡ (get_or (occurrences_of before.units before.unit_starts l) i none).row
@@ -46,7 +46,7 @@ loop-i-preserved g c =
     looked_through_next before now c.look_at.new.slacks (Done before c.args.lit i) (Done before c.args.lit (i + 1)) row c.loop-i.invariant c.in_default.ensures.same_rows c.in_default.ensures.forced (c.in_default.ensures.settled refl)
     (λ r h. elim (cases_eq row r) [
       | inl at ↦ inr at
-      | inr other ↦ inl (omega (arith, total_for-other os i none r within (λ e. other (read ∙ e))))
+      | inr other ↦ inl (omega (arith, total_by-other (λ (o : Occurrence). o) os i none r within (λ e. other (read ∙ e))))
     ])
 
 pub returns-clause-settled : goal.returns-clause-settled

@@ -27,8 +27,8 @@ raise-requires-clause-fits g c = λ r h.
     let sum : slice_index inside.sums.items r ≡ reachable (c.pop.new.self.items ++ c.in-Some.lit ∷ []) (row_at inside.tables.rows r).terms = c.self.invariant.sums r exists ∙ ap (λ (t : List Literal). reachable t (row_at inside.tables.rows r).terms) whole in
     omega (arith, reachable-push c.pop.new.self.items c.in-Some.lit (row_at inside.tables.rows r).terms free, reachable-le-total c.pop.new.self.items (row_at inside.tables.rows r).terms, c.self.invariant.fits r exists)
 
-pub raise_units-requires-clause-fits : goal.raise_units-requires-clause-fits
-raise_units-requires-clause-fits g c = λ r h.
+pub raise-requires-in-Some-clause-fits : goal.raise-requires-in-Some-clause-fits
+raise-requires-in-Some-clause-fits g c = λ r h.
     let inside = c.self.inside in
     let whole : inside.trail.items ≡ c.pop.new.self.items ++ c.in-Some.lit ∷ [] = c.in-Some.ensures.items in
     let consistent = subst (λ (t : List Literal). IsConsistent t) whole c.self.invariant.consistent in
@@ -61,9 +61,9 @@ invariant_of-self g c =
     let between = ap (λ (xs : List ℕ). length xs) back in
     let seen : c.deref_mut-in-Some.result.now ≡ c.raise.new.sums = c.deref_mut-in-Some.ensures.value ∙ back in
     let long = ap (λ (xs : List ℕ). length xs) seen in
-    let last : length c.raise_units.new.sums ≡ length inside.sums.items = omega arith in
-    let end : take inside.sums.len (c.raise_units.new.sums ++ drop (length c.raise_units.new.sums) middle) ≡ c.raise_units.new.sums = changed_in_place inside.sums.len c.raise_units.new.sums middle (omega arith) (omega (arith, inside.sums.ok.0)) in
-    let raised : (r : ℕ) → r < length inside.sums.items → get_or c.raise_units.new.sums r 0 ≡ get_or inside.sums.items r 0 + weight_of (negation c.in-Some.lit) (row_at inside.tables.rows r).terms = λ r h.
+    let last : length c.raise-in-Some.new.sums ≡ length inside.sums.items = omega arith in
+    let end : take inside.sums.len (c.raise-in-Some.new.sums ++ drop (length c.raise-in-Some.new.sums) middle) ≡ c.raise-in-Some.new.sums = changed_in_place inside.sums.len c.raise-in-Some.new.sums middle (omega arith) (omega (arith, inside.sums.ok.0)) in
+    let raised : (r : ℕ) → r < length inside.sums.items → get_or c.raise-in-Some.new.sums r 0 ≡ get_or inside.sums.items r 0 + weight_of (negation c.in-Some.lit) (row_at inside.tables.rows r).terms = λ r h.
     (let exists : r < length inside.tables.rows = omega (arith, c.self.invariant.sum_count) in
     let weights = c.occurrences.ensures.weights r exists in
     let list = ap (λ (os : List Occurrence). total_for r os) c.occurrences.ensures.value in
@@ -71,9 +71,9 @@ invariant_of-self g c =
     let weight = ap (λ (l : Literal). weight_of l (row_at inside.tables.rows r).terms) negated in
     let same : get_or c.deref_mut.result.now r 0 ≡ get_or inside.sums.items r 0 = ap (λ (xs : List ℕ). get_or xs r 0) c.deref_mut.ensures.value in
     let now : get_or c.deref_mut-in-Some.result.now r 0 ≡ get_or c.raise.new.sums r 0 = ap (λ (xs : List ℕ). get_or xs r 0) seen in
-    omega (arith, c.raise.ensures r (omega arith), c.raise_units.ensures r (omega arith))) in
+    omega (arith, c.raise.ensures r (omega arith), c.raise-in-Some.ensures r (omega arith))) in
     let var_is : c.var.result ≡ c.in-Some.lit.var = c.var.ensures.value in
     let marks : set inside.values.items (c.var.result - 1) None ≡ set inside.values.items (c.in-Some.lit.var - 1) None = ap (λ (v : ℕ). set inside.values.items (v - 1) None) var_is in
     let within = IsUpToDate-last inside.tables inside.sums.items inside.values.items inside.trail.items c.pop.new.self.items (vec_capacity inside.trail) c.in-Some.lit c.self.invariant whole in
-    let stays = IsUpToDate-pop inside.tables inside.sums.items c.raise_units.new.sums inside.values.items (set inside.values.items (c.var.result - 1) None) inside.trail.items c.pop.new.self.items (vec_capacity inside.trail) (vec_capacity c.pop.new.self) c.in-Some.lit c.self.invariant within.0 within.1 marks whole c.in-Some.ensures.capacity last raised in
+    let stays = IsUpToDate-pop inside.tables inside.sums.items c.raise-in-Some.new.sums inside.values.items (set inside.values.items (c.var.result - 1) None) inside.trail.items c.pop.new.self.items (vec_capacity inside.trail) (vec_capacity c.pop.new.self) c.in-Some.lit c.self.invariant within.0 within.1 marks whole c.in-Some.ensures.capacity last raised in
     subst (λ (xs : List ℕ). IsUpToDate inside.tables xs (set inside.values.items (c.var.result - 1) None) c.pop.new.self.items (vec_capacity c.pop.new.self)) (sym end) stays

@@ -33,8 +33,8 @@ lower-requires-clause-enough g c = λ r h.
     let same : slice_index c.deref_mut.result.now r ≡ slice_index inside.sums.items r = ap (λ (xs : List ℕ). slice_index xs r) c.deref_mut.ensures.value in
     omega (arith, reachable-push inside.trail.items c.args.lit (row_at inside.tables.rows r).terms free, c.self.invariant.sums r exists)
 
-pub lower_units-requires-clause-enough : goal.lower_units-requires-clause-enough
-lower_units-requires-clause-enough g c = λ r h.
+pub lower-requires-2-clause-enough : goal.lower-requires-2-clause-enough
+lower-requires-2-clause-enough g c = λ r h.
     let inside = c.self.inside in
     let trail_is = ap (λ (t : Tracked). t.trail) c.self.view_is in
     let free : value_on inside.trail.items c.args.lit.var ≡ None = subst (λ (t : List Literal). value_on t c.args.lit.var ≡ None) (sym trail_is) c.requires.no_value in
@@ -67,9 +67,9 @@ invariant_of-self g c =
     let between = ap (λ (xs : List ℕ). length xs) back in
     let seen : c.deref_mut-2.result.now ≡ c.lower.new.sums = c.deref_mut-2.ensures.value ∙ back in
     let long = ap (λ (xs : List ℕ). length xs) seen in
-    let last : length c.lower_units.new.sums ≡ length inside.sums.items = omega arith in
-    let end : take inside.sums.len (c.lower_units.new.sums ++ drop (length c.lower_units.new.sums) middle) ≡ c.lower_units.new.sums = changed_in_place inside.sums.len c.lower_units.new.sums middle (omega arith) (omega (arith, inside.sums.ok.0)) in
-    let lowered : (r : ℕ) → r < length inside.sums.items → get_or c.lower_units.new.sums r 0 + weight_of (negation c.args.lit) (row_at inside.tables.rows r).terms ≡ get_or inside.sums.items r 0 = λ r h.
+    let last : length c.lower-2.new.sums ≡ length inside.sums.items = omega arith in
+    let end : take inside.sums.len (c.lower-2.new.sums ++ drop (length c.lower-2.new.sums) middle) ≡ c.lower-2.new.sums = changed_in_place inside.sums.len c.lower-2.new.sums middle (omega arith) (omega (arith, inside.sums.ok.0)) in
+    let lowered : (r : ℕ) → r < length inside.sums.items → get_or c.lower-2.new.sums r 0 + weight_of (negation c.args.lit) (row_at inside.tables.rows r).terms ≡ get_or inside.sums.items r 0 = λ r h.
     (let exists : r < length inside.tables.rows = omega (arith, c.self.invariant.sum_count) in
     let weights = c.occurrences.ensures.weights r exists in
     let list = ap (λ (os : List Occurrence). total_for r os) c.occurrences.ensures.value in
@@ -77,9 +77,9 @@ invariant_of-self g c =
     let weight = ap (λ (l : Literal). weight_of l (row_at inside.tables.rows r).terms) negated in
     let same : get_or c.deref_mut.result.now r 0 ≡ get_or inside.sums.items r 0 = ap (λ (xs : List ℕ). get_or xs r 0) c.deref_mut.ensures.value in
     let now : get_or c.deref_mut-2.result.now r 0 ≡ get_or c.lower.new.sums r 0 = ap (λ (xs : List ℕ). get_or xs r 0) seen in
-    omega (arith, c.lower.ensures r (omega arith), c.lower_units.ensures r (omega arith))) in
+    omega (arith, c.lower.ensures r (omega arith), c.lower-2.ensures r (omega arith))) in
     let marks : set inside.values.items (c.var.result - 1) (Some c.positive.result) ≡ set inside.values.items (c.args.lit.var - 1) (Some c.args.lit.positive) = cc in
-    let stays = IsUpToDate-push inside.tables inside.sums.items c.lower_units.new.sums inside.values.items (set inside.values.items (c.var.result - 1) (Some c.positive.result)) inside.trail.items c.push_reserved.new.self.items (vec_capacity inside.trail) (vec_capacity c.push_reserved.new.self) c.args.lit c.self.invariant (omega arith) (omega (arith, c.requires.variable)) free marks c.push_reserved.ensures.items c.push_reserved.ensures.capacity last lowered in
+    let stays = IsUpToDate-push inside.tables inside.sums.items c.lower-2.new.sums inside.values.items (set inside.values.items (c.var.result - 1) (Some c.positive.result)) inside.trail.items c.push_reserved.new.self.items (vec_capacity inside.trail) (vec_capacity c.push_reserved.new.self) c.args.lit c.self.invariant (omega arith) (omega (arith, c.requires.variable)) free marks c.push_reserved.ensures.items c.push_reserved.ensures.capacity last lowered in
     subst (λ (xs : List ℕ). IsUpToDate inside.tables xs (set inside.values.items (c.var.result - 1) (Some c.positive.result)) c.push_reserved.new.self.items (vec_capacity c.push_reserved.new.self)) (sym end) stays
 
 pub returns-clause-within : goal.returns-clause-within

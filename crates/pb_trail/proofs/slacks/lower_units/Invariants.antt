@@ -1,7 +1,0 @@
-use Rattle.std.proofs.Common.{◌≡◌, ◌+◌, ◌<◌, ℕ, length, take, get_or}
-use Rattle.pb_rows.specs.Index.{total_for}
-use Rattle.pb_trail.proofs.slacks.lower_units.Given as goal
-
-abbrev pub invariant-loop-occurrence : goal.invariant-loop-occurrence
-invariant-loop-occurrence g l =
-    (r : ℕ) → r < length l.sums → get_or l.sums r 0 + total_for r (take l.occurrence-index l.occurrences) ≡ get_or l.initial.sums r 0
