@@ -122,7 +122,6 @@ fn report_best<W: Write>(
     instance: &Instance,
     best: &Best<'_>,
 ) -> Result<Status, RunFault>
-    requires out { out.old.failed ≡ false }
     requires least { HoldsLeast instance.now best.now.held }
     ensures answers { IfOk result (Answers format instance.now (W.contents out.old.held) (W.contents out.new.held)) }
     ensures fault { IfErr result (λ fault. fault ≡ RunFault.Write) }

@@ -1,46 +1,27 @@
 //! Writing in chunks, with no memory taken.
-ghost use Rattle.std.specs.Prelude.{◌≡◌, ◌+◌, ◌≤◌, ℕ, List, [], ◌++◌, length, take, false, true, is_err, OnOk};
-ghost use Rattle.std.specs.Io.KnownBytes.{Appends};
-ghost use Rattle.pb_solve.specs.Sending.{Adds};
+ghost use Rattle.std.specs.Prelude.{◌≡◌, ◌+◌, ◌≤◌, ℕ, List, [], ◌++◌, length, take};
+ghost use Rattle.pb_solve.specs.Sending.{Adds, Writes};
 
 use crate::device::Device;
-use crate::options::RunFault;
 use std::io::Write;
 use std::marker::Model;
 
-/// The writer has failed.
-#[derive(Clone, Copy)]
-pub(crate) struct WriteFailed;
-
-impl From<WriteFailed> for RunFault {
-    ghost use Rattle.pb_solve.specs.declared.options.RunFault.TheVariants.{Write as WriteFault};
-
-    ghost from_gives = { λ _ fault. fault ≡ WriteFault };
-
-    fn from(_: WriteFailed) -> RunFault {
-        RunFault::Write
-    }
-}
-
-/// Writes all of the bytes, unless the writer fails.
-pub(crate) fn write_out<W: Write>(out: &mut Device<W>, bytes: &[u8]) -> Result<(), WriteFailed>
-    requires { out.old.failed ≡ false }
-    ensures written { OnOk result (Appends (W.contents out.old.held) (W.contents out.new.held) bytes.now) }
-    ensures failed { out.new.failed ≡ is_err result }
+/// Writes all of the bytes, unless the device has failed or fails.
+fn write_out<W: Write>(out: &mut Device<W>, bytes: &[u8])
+    ensures { Writes W.contents out.old out.new bytes.now }
 {
     let mut rest = bytes;
-    while !rest.is_empty() {
+    while !out.failed() && !rest.is_empty() {
         match out.write(rest) {
             Ok(taken) => rest = &rest[taken..],
-            Err(_) => return Err(WriteFailed),
+            Err(_) => return,
         }
     }
-    Ok(())
 }
 
 const ROOM: usize = 1024;
 
-/// Bytes that wait to be written.
+/// Bytes that wait to be written. Once the device has failed nothing more is written, and the device tells the fault.
 #[derive(Drop)]
 pub(crate) struct Chunk {
     bytes: [u8; ROOM],
@@ -66,35 +47,25 @@ impl Chunk {
     }
 
     /// Writes what waits.
-    pub(crate) fn send<W: Write>(&mut self, out: &mut Device<W>) -> Result<(), WriteFailed>
-        requires { out.old.failed ≡ false }
-        ensures emptied { OnOk result (self.new ≡ []) }
-        ensures written { OnOk result (Appends (W.contents out.old.held) (W.contents out.new.held) self.old) }
-        ensures failed { out.new.failed ≡ is_err result }
+    pub(crate) fn send<W: Write>(&mut self, out: &mut Device<W>)
+        ensures emptied { self.new ≡ [] }
+        ensures written { Writes W.contents out.old out.new self.old }
     {
-        write_out(out, &self.bytes[..self.len])?;
+        write_out(out, &self.bytes[..self.len]);
         self.len = 0;
-        Ok(())
     }
 
     /// Adds bytes behind those that wait, and writes where there is no room for them.
-    pub(crate) fn put<W: Write>(
-        &mut self,
-        out: &mut Device<W>,
-        bytes: &[u8],
-    ) -> Result<(), WriteFailed>
-        requires { out.old.failed ≡ false }
-        ensures added { OnOk result (Adds W.contents out.old self.old out.new self.new bytes.now) }
-        ensures failed { out.new.failed ≡ is_err result }
+    pub(crate) fn put<W: Write>(&mut self, out: &mut Device<W>, bytes: &[u8])
+        ensures { Adds W.contents out.old self.old out.new self.new bytes.now }
     {
         if bytes.len() > ROOM - self.len {
-            self.send(out)?;
+            self.send(out);
             if bytes.len() > ROOM {
                 return write_out(out, bytes);
             }
         }
         self.keep(bytes);
-        Ok(())
     }
 
     // Adds bytes for which there is room.

@@ -1,6 +1,6 @@
-use Rattle.pb_solve.proofs.SendingLaws.{appended_both, all_sent}
+use Rattle.pb_solve.proofs.SendingLaws.{grown_both, reported}
 use Rattle.pb_solve.proofs.report.report_memory.Goals as goal
 
 pub returns-clause-written : goal.returns-clause-written
 returns-clause-written g c =
-    all_sent _ _ _ _ _ _ c.new-chunk.ensures (appended_both _ _ _ _ _ c.in_ok-put_line.ensures.added c.in_ok-put_line-2.ensures.added) c.in_ok-finish.ensures.written
+    reported c.finish.result _ _ _ _ _ _ _ _ _ c.new-chunk.ensures (grown_both _ _ _ _ _ _ _ _ c.put_line.ensures c.put_line-2.ensures) c.finish.ensures.written c.finish.ensures.failed
