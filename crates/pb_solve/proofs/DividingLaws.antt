@@ -12,8 +12,9 @@ use Rattle.pb_cubes.specs.declared.TheConstants.{MAX_CUBES}
 use Rattle.pb_cubes.specs.declared.faults.CubeFault.{CubeFault}
 use Rattle.pb_cubes.specs.declared.faults.CubeFault.TheVariants.{TooMany, BadVariable, Memory}
 use Rattle.pb_cubes.specs.Pieces.{AreWithin, HasVariableOver}
-use Rattle.pb_solve.specs.declared.options.Format.TheVariants.{Icnf}
-use Rattle.pb_solve.specs.Texts.{Spells, SpellsCubes}
+use Rattle.pb_read.specs.declared.format.Format.TheVariants.{Icnf}
+use Rattle.pb_read.specs.Format.{Spells}
+use Rattle.pb_solve.specs.Texts.{SpellsCubes}
 
 abbrev IsUpTo : ℕ → Literal → Type 0
 IsUpTo n l = l.var ≤ n
@@ -28,12 +29,6 @@ within_up_to n (cube ∷ cubes) h =
 -- the cubes of a cube file are of the variables that it was read for
 pub file_within : (vars : ℕ) (text : List ℕ) (cubes : List (List Literal)) → SpellsCubes vars text cubes → AreWithin vars cubes
 file_within vars text cubes h = within_up_to vars cubes (all_map (λ (l : Literal). l.var ≤ min vars 1048576) (IsUpTo vars) (λ l below. omega (arith, below)) (flat_map (λ c. c) cubes) h.indices)
-
--- the cubes of an input are of the instance's variables
-pub own_within : (text : List ℕ) (p : Problem) (own : List (List Literal)) → Spells Icnf text p own → AreWithin p.vars own
-own_within text p own h =
-    let vars : p.vars ≡ max (greatest_var h.clauses) (greatest_var own) = ap (λ (q : Problem). q.vars) h.instance in
-    within_up_to p.vars own (up_to_greatest p.vars own (omega (arith, vars)))
 
 over_or_within : (n : ℕ) (cubes : List (List Literal)) → AreWithin n cubes → HasVariableOver n cubes → ⊥
 over_or_within n cubes within over =

@@ -9,7 +9,8 @@ use Rattle.pb_inst.proofs.OrderProofs.{least_is_unique}
 use Rattle.pb_read.specs.declared.fault.ReadFault.{ReadFault}
 use Rattle.pb_solve.specs.declared.options.Refusal.{Refusal}
 use Rattle.pb_solve.specs.declared.options.Refusal.TheVariants.{Input, Cubes, Split, TooManyCubes}
-use Rattle.pb_solve.specs.Texts.{text_refusal, cube_text_refusal}
+use Rattle.pb_read.specs.Format.{text_refusal}
+use Rattle.pb_solve.specs.Texts.{cube_text_refusal}
 use Rattle.pb_solve.specs.Outcome.{Outcome, Refused, Infeasible, Feasible, Optimal, IsAnswer, IsOutcomeOn, IsDivisionRefused, IsDivisionAccepted, IsFileRefused, FileSpells}
 use Rattle.pb_solve.specs.Laws.{refuses_division, DivisionChangesNothing, OneOutcome, OutcomeIsOfTextAlone}
 use Rattle.pb_solve.proofs.TextLaws.{not_both, one_spelling, same_fault, cubes_not_both, one_cube_list}

@@ -8,7 +8,7 @@ use Rattle.pb_inst.specs.Meaning.{cost}
 use Rattle.pb_inst.specs.Order.{IsLeast}
 use Rattle.pb_inst.specs.Incumbent.{Solution}
 use Rattle.pb_solve.specs.declared.preparing.Prepared.{Prepared}
-use Rattle.pb_solve.specs.declared.options.Format.{Format}
+use Rattle.pb_read.specs.declared.format.Format.{Format}
 use Rattle.pb_solve.specs.declared.options.Status.{Status}
 use Rattle.pb_solve.specs.declared.options.Status.TheVariants.{Satisfiable, Optimum, Unsupported, Unknown}
 use Rattle.pb_solve.specs.declared.options.Refusal.{Refusal}

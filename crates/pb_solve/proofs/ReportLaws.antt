@@ -1,7 +1,7 @@
 -- How the literals of a report grow.
 use Rattle.std.proofs.Common.{◌≡◌, ℕ, ◌+◌, ◌-◌, ◌<◌, Bool, false, List, [], ◌∷◌, ◌++◌, length, take, get_or, decimal, refl, sym, ◌∙◌, ap, append_assoc, append-nil, arith}
 use Rattle.std.proofs.lemmas.List.{take_more, length-take-le}
-use Rattle.pb_solve.specs.declared.options.Format.{Format}
+use Rattle.pb_read.specs.declared.format.Format.{Format}
 use Rattle.pb_solve.specs.Report.{literals, sign}
 
 -- one value more at the end

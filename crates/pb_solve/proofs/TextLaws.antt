@@ -8,9 +8,10 @@ use Rattle.pb_read.proofs.OpbLaws as opb
 use Rattle.pb_read.proofs.CnfLaws as cnf
 use Rattle.pb_read.proofs.IcnfLaws as icnf
 use Rattle.pb_read.proofs.CubeLaws as cube
-use Rattle.pb_solve.specs.declared.options.Format.{Format}
-use Rattle.pb_solve.specs.declared.options.Format.TheVariants.{Opb, Cnf, Icnf}
-use Rattle.pb_solve.specs.Texts.{Spells, text_refusal, SpellsCubes, cube_text_refusal}
+use Rattle.pb_read.specs.declared.format.Format.{Format}
+use Rattle.pb_read.specs.declared.format.Format.TheVariants.{Opb, Cnf, Icnf}
+use Rattle.pb_read.specs.Format.{Spells, text_refusal}
+use Rattle.pb_solve.specs.Texts.{SpellsCubes, cube_text_refusal}
 
 not_refused : (format : Format) (text : List ℕ) (p : Problem) (own : List (List Literal)) → Spells format text p own → text_refusal format text ≡ None
 not_refused Opb text p own h = opb.not_refused text p h.0

@@ -1,6 +1,6 @@
 -- What the outcome of a run depends on.
 use Rattle.std.specs.Prelude.{◌≡◌, ℕ, Bool, true, false, List, Option, None}
-use Rattle.pb_solve.specs.declared.options.Format.{Format}
+use Rattle.pb_read.specs.declared.format.Format.{Format}
 use Rattle.pb_solve.specs.declared.options.Refusal.TheVariants.{Input, Cubes, Split, TooManyCubes}
 use Rattle.pb_solve.specs.Outcome.{Outcome, Refused, Infeasible, Feasible, Optimal, IsOutcome}
 

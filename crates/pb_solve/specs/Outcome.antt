@@ -5,10 +5,11 @@ use Rattle.pb_inst.specs.Problem.{Problem}
 use Rattle.pb_inst.specs.Meaning.{IsFeasible, cost}
 use Rattle.pb_inst.specs.Order.{IsLeast}
 use Rattle.pb_read.specs.declared.fault.ReadFault.{ReadFault}
-use Rattle.pb_solve.specs.declared.options.Format.{Format}
+use Rattle.pb_read.specs.declared.format.Format.{Format}
 use Rattle.pb_solve.specs.declared.options.Refusal.{Refusal}
 use Rattle.pb_solve.specs.declared.options.Refusal.TheVariants.{Input, Cubes, Split, TooManyCubes}
-use Rattle.pb_solve.specs.Texts.{Spells, text_refusal, SpellsCubes, cube_text_refusal}
+use Rattle.pb_read.specs.Format.{Spells, text_refusal}
+use Rattle.pb_solve.specs.Texts.{SpellsCubes, cube_text_refusal}
 
 -- a refusal, or the answer: nothing is feasible, or this assignment is least, with its cost where there is an objective
 pub data Outcome : Type 0 where

@@ -4,8 +4,8 @@ use Rattle.std.specs.Fmt.{signed_decimal}
 use Rattle.pb_read.specs.declared.fault.ReadFault.{ReadFault}
 use Rattle.pb_read.specs.declared.fault.ReadKind.{ReadKind}
 use Rattle.pb_read.specs.declared.fault.ReadKind.TheVariants as kind
-use Rattle.pb_solve.specs.declared.options.Format.{Format}
-use Rattle.pb_solve.specs.declared.options.Format.TheVariants.{Opb, Cnf, Icnf}
+use Rattle.pb_read.specs.declared.format.Format.{Format}
+use Rattle.pb_read.specs.declared.format.Format.TheVariants.{Opb, Cnf, Icnf}
 use Rattle.pb_solve.specs.declared.options.Refusal.{Refusal}
 use Rattle.pb_solve.specs.declared.options.Refusal.TheVariants.{Input, Cubes, Split, TooManyCubes}
 use Rattle.pb_solve.specs.declared.options.Status.{Status}

@@ -5,14 +5,14 @@ use Rattle.std.specs.Borrow.{MutBor}
 use Rattle.std.specs.Io.KnownBytes.{Appends}
 use Rattle.pb_inst.specs.Literal.{Literal}
 use Rattle.pb_inst.specs.Problem.{Problem}
-use Rattle.pb_solve.specs.declared.options.Format.{Format}
+use Rattle.pb_read.specs.declared.format.Format.{Format}
 use Rattle.pb_solve.specs.declared.options.Status.{Status}
 use Rattle.pb_solve.specs.declared.preparing.Prepared.{Prepared}
 use Rattle.pb_solve.specs.declared.preparing.Halt.{Halt}
 use Rattle.pb_solve.specs.declared.preparing.Halt.TheVariants.{ReadInput, ReadCubes, Memory, Refused}
 use Rattle.pb_solve.specs.Device.{Device}
 use Rattle.pb_solve.specs.declared.options.Refusal.TheVariants as refusal
-use Rattle.pb_solve.specs.Texts.{Spells, text_refusal}
+use Rattle.pb_read.specs.Format.{Spells, text_refusal}
 use Rattle.pb_solve.specs.Outcome as outcome
 use Rattle.pb_solve.specs.Outcome.{Outcome, IsOutcome, IsAnswer, IsDivisionRefused}
 use Rattle.pb_solve.specs.Division.{IsDivided}

@@ -5,7 +5,8 @@ ghost use Rattle.pb_solve.specs.Sending.{Adds};
 ghost use Rattle.pb_solve.specs.Report.{line, kind_name, fault_text, refusal_text, cost_line, sign, ending, literals, value_line};
 
 use crate::device::Device;
-use crate::options::{Format, Refusal};
+use crate::options::Refusal;
+use pb_read::Format;
 use crate::sending::Chunk;
 use itoa::{Buffer, Integer};
 use pb_inst::{Assignment, Number};

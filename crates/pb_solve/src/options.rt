@@ -1,19 +1,8 @@
 //! What a run is asked for, and how it ends.
 
 use pb_inst::Workers;
-use pb_read::ReadFault;
+use pb_read::{Format, ReadFault};
 use thiserror::Error;
-
-/// The format of the input, which decides the form of the line of values too.
-#[derive(Clone, Copy, Debug, PartialEq, Eq)]
-pub enum Format {
-    /// The linear format of the Pseudo-Boolean Competition.
-    Opb,
-    /// DIMACS CNF.
-    Cnf,
-    /// Clauses and then lines of cubes, under the header `p inccnf`.
-    Icnf,
-}
 
 /// How to read the input, and how to divide the work. Neither the workers nor an accepted split change the report.
 #[derive(Clone, Copy, Debug)]

@@ -1,17 +1,16 @@
 //! From the texts and the split to the instance and its pieces, unless something is refused.
-ghost use Rattle.std.specs.Prelude.{◌≡◌, ◌⊎◌, false, Some, IfOk, IfErr, IfSome};
-ghost use Rattle.pb_read.specs.Reading.{IsMemory};
+ghost use Rattle.std.specs.Prelude.{◌≡◌, false, Some, IfOk, IfErr, IfSome};
 ghost use Rattle.pb_cubes.specs.Pieces.{AreWithin};
-ghost use Rattle.pb_solve.specs.Texts.{Spells, text_refusal};
+ghost use Rattle.pb_read.specs.Format.{Spells, text_refusal};
 ghost use Rattle.pb_solve.specs.Run.{IsPrepared, HaltsInput, stops_at_input, stops_at_cubes};
 
 use crate::device::Device;
 use crate::dividing::divide;
-use crate::options::{Format, Refusal};
+use crate::options::Refusal;
 use crate::reading::{CubeFile, ReadStop, read_all};
 use pb_cubes::Pieces;
 use pb_inst::{Cube, Instance};
-use pb_read::{ReadFault, ReadKind, read_cnf, read_icnf, read_opb};
+use pb_read::{Format, ReadFault, ReadKind, read};
 use std::alloc::Global;
 use std::io::Read;
 
@@ -75,28 +74,9 @@ fn read_instance<I: Read>(
         Err(ReadStop::Fault) => return Err(Halt::ReadInput),
         Err(ReadStop::Memory) => return Err(Halt::Memory),
     };
-    match read_text(alloc, &text, format) {
+    match read(alloc, format, &text) {
         Ok(found) => Ok(found),
         Err(fault) if fault.kind == ReadKind::Memory => Err(Halt::Memory),
         Err(fault) => Err(Halt::Refused(Refusal::Input(fault))),
-    }
-}
-
-/// The instance and the cubes of a text in the format.
-fn read_text(alloc: Global, text: &[u8], format: Format) -> Result<(Instance, Vec<Cube>), ReadFault>
-    ensures found { IfOk result (λ r. Spells format text.now r.0 r.1.items) }
-    ensures within { IfOk result (λ r. AreWithin r.0.vars r.1.items) }
-    ensures refused { IfErr result (λ fault. IsMemory fault ⊎ (text_refusal format text.now ≡ Some fault)) }
-{
-    match format {
-        Format::Opb => {
-            let instance = read_opb(alloc, text)?;
-            Ok((instance, Vec::new(alloc)))
-        }
-        Format::Cnf => {
-            let instance = read_cnf(alloc, text)?;
-            Ok((instance, Vec::new(alloc)))
-        }
-        Format::Icnf => read_icnf(alloc, text),
     }
 }

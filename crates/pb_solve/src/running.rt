@@ -4,12 +4,13 @@ ghost use Rattle.std.specs.Io.KnownBytes.{Appends};
 ghost use Rattle.pb_read.specs.declared.fault.ReadFault.{ReadFault};
 ghost use Rattle.pb_solve.specs.Solving.{HoldsLeast};
 ghost use Rattle.pb_solve.specs.Report.{memory_report};
-ghost use Rattle.pb_solve.specs.Texts.{text_refusal};
+ghost use Rattle.pb_read.specs.Format.{text_refusal};
 ghost use Rattle.pb_solve.specs.Run.{Reports, Answers, IsUnfailed, IsUnread, failed_after, text_left};
 
 use crate::device::Device;
 use crate::gates::OpenGate;
-use crate::options::{Format, Options, RunFault, Status};
+use crate::options::{Options, RunFault, Status};
+use pb_read::Format;
 use crate::preparing::{Halt, Prepared, prepare};
 use crate::reading::{CubeFile, NoCubeFile};
 use crate::report::{
