@@ -2,7 +2,6 @@
 
 ghost use Rattle.std.specs.Prelude.{◌≡◌, ℕ, ◌+◌, ◌-◌, ◌^◌, ◌<◌, ◌≤◌, None, true, false, All, length, map, replicate, sum_by, slice_set, if◌then◌else◌};
 ghost use Rattle.std.specs.Option.{ForSome};
-ghost use Rattle.pb_rows.specs.Clauses.{unit_term};
 ghost use Rattle.pb_rows.specs.Constraints.{row_at};
 ghost use Rattle.pb_engine.specs.DisjointRows.{is_free, is_picked, extra, extras, meets_marks, marked_by};
 ghost use Rattle.pb_engine.specs.Needs.{AreNeeds};
@@ -12,8 +11,7 @@ ghost use Rattle.pb_rows.specs.Tables.{terms_in};
 use crate::needs::Needs;
 use pb_bits::Marks;
 use pb_inst::{Lit, Magnitude};
-use pb_normal::PositiveTerm;
-use pb_rows::{Count, RowTerms, Tally};
+use pb_rows::{Count, RowTerms, Tally, Weighs};
 use pb_trail::Slacks;
 use std::marker::Model;
 
@@ -115,41 +113,26 @@ fn offer_in<C: Count>(
     ensures none { result ≡ None → meets_marks slacks.now.trail marks.now (terms_in terms.entry) ≡ true }
 {
     match terms {
-        RowTerms::Weighted(terms) => offer_of_terms(slacks, marks, terms),
-        RowTerms::Units(lits) => offer_of_lits(slacks, marks, lits),
+        RowTerms::Weighted(terms) => offer_of_items(slacks, marks, terms),
+        RowTerms::Units(lits) => offer_of_items(slacks, marks, lits),
     }
 }
 
-/// What the costly literals of the terms are.
-fn offer_of_terms<C: Count>(
+/// What the costly literals of the items are.
+fn offer_of_items<C: Count, T: Weighs>(
     slacks: &Slacks<'_, C>,
     marks: &Marks,
-    terms: &[PositiveTerm],
+    items: &[T],
 ) -> Option<Offer<C>>
-    requires variables { All (λ t. (1 ≤ t.lit.var) × (t.lit.var ≤ slacks.now.vars)) terms.now }
+    requires variables { All (λ t. (1 ≤ t.lit.var) × (t.lit.var ≤ slacks.now.vars)) (map T.term items.now) }
     requires marks { length marks.now ≡ slacks.now.vars }
-    requires fits { sum_by (λ t. t.coef) terms.now < 2 ^ 64 }
-    ensures some { ForSome result (λ offer. (offer ≡ offer_of slacks.now.form.objective slacks.now.trail terms.now) × (meets_marks slacks.now.trail marks.now terms.now ≡ false)) }
-    ensures none { result ≡ None → meets_marks slacks.now.trail marks.now terms.now ≡ true }
+    requires fits { sum_by (λ t. t.coef) (map T.term items.now) < 2 ^ 64 }
+    ensures some { ForSome result (λ offer. (offer ≡ offer_of slacks.now.form.objective slacks.now.trail (map T.term items.now)) × (meets_marks slacks.now.trail marks.now (map T.term items.now) ≡ false)) }
+    ensures none { result ≡ None → meets_marks slacks.now.trail marks.now (map T.term items.now) ≡ true }
 {
     let mut offer = Offer::none();
-    for term in terms {
-        offer = offer.joined(slacks, marks, Tally::of(term.coef), term.lit)?;
-    }
-    Some(offer)
-}
-
-/// What the costly literals of a clause are.
-fn offer_of_lits<C: Count>(slacks: &Slacks<'_, C>, marks: &Marks, lits: &[Lit]) -> Option<Offer<C>>
-    requires variables { All (λ t. (1 ≤ t.lit.var) × (t.lit.var ≤ slacks.now.vars)) (map unit_term lits.now) }
-    requires marks { length marks.now ≡ slacks.now.vars }
-    requires fits { sum_by (λ t. t.coef) (map unit_term lits.now) < 2 ^ 64 }
-    ensures some { ForSome result (λ offer. (offer ≡ offer_of slacks.now.form.objective slacks.now.trail (map unit_term lits.now)) × (meets_marks slacks.now.trail marks.now (map unit_term lits.now) ≡ false)) }
-    ensures none { result ≡ None → meets_marks slacks.now.trail marks.now (map unit_term lits.now) ≡ true }
-{
-    let mut offer = Offer::none();
-    for lit in lits {
-        offer = offer.joined(slacks, marks, Tally::of(1), *lit)?;
+    for item in items {
+        offer = offer.joined(slacks, marks, Tally::of(item.coef()), item.lit())?;
     }
     Some(offer)
 }
@@ -161,30 +144,19 @@ fn mark<C: Count>(marks: &mut Marks, slacks: &Slacks<'_, C>, terms: RowTerms<'_>
     ensures { marks.new ≡ marked_by slacks.now.trail marks.old (terms_in terms.entry) }
 {
     match terms {
-        RowTerms::Weighted(terms) => mark_terms(marks, slacks, terms),
-        RowTerms::Units(lits) => mark_lits(marks, slacks, lits),
+        RowTerms::Weighted(terms) => mark_items(marks, slacks, terms),
+        RowTerms::Units(lits) => mark_items(marks, slacks, lits),
     }
 }
 
-/// Marks the variables of the terms that have no value.
-fn mark_terms<C: Count>(marks: &mut Marks, slacks: &Slacks<'_, C>, terms: &[PositiveTerm])
-    requires variables { All (λ t. (1 ≤ t.lit.var) × (t.lit.var ≤ slacks.now.vars)) terms.now }
+/// Marks the variables of the items that have no value.
+fn mark_items<C: Count, T: Weighs>(marks: &mut Marks, slacks: &Slacks<'_, C>, items: &[T])
+    requires variables { All (λ t. (1 ≤ t.lit.var) × (t.lit.var ≤ slacks.now.vars)) (map T.term items.now) }
     requires marks { length marks.old ≡ slacks.now.vars }
-    ensures { marks.new ≡ marked_by slacks.now.trail marks.old terms.now }
+    ensures { marks.new ≡ marked_by slacks.now.trail marks.old (map T.term items.now) }
 {
-    for term in terms {
-        mark_free(marks, slacks, term.lit);
-    }
-}
-
-/// Marks the variables of the literals that have no value.
-fn mark_lits<C: Count>(marks: &mut Marks, slacks: &Slacks<'_, C>, lits: &[Lit])
-    requires variables { All (λ t. (1 ≤ t.lit.var) × (t.lit.var ≤ slacks.now.vars)) (map unit_term lits.now) }
-    requires marks { length marks.old ≡ slacks.now.vars }
-    ensures { marks.new ≡ marked_by slacks.now.trail marks.old (map unit_term lits.now) }
-{
-    for lit in lits {
-        mark_free(marks, slacks, *lit);
+    for item in items {
+        mark_free(marks, slacks, item.lit());
     }
 }
 

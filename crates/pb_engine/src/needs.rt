@@ -4,7 +4,6 @@ ghost use Rattle.std.specs.Prelude.{◌≡◌, ℕ, ◌+◌, ◌-◌, ◌^◌, �
 ghost use Rattle.std.specs.Option.{ForSome};
 ghost use Rattle.pb_bits.specs.RowSet.{HasNoneBetween};
 ghost use Rattle.pb_engine.specs.declared.needs.TheConstants.{MET};
-ghost use Rattle.pb_rows.specs.Clauses.{unit_term};
 ghost use Rattle.pb_rows.specs.Constraints.{row_at};
 ghost use Rattle.pb_engine.specs.DisjointRows.{spare, gain, loss};
 ghost use Rattle.pb_rows.specs.Index.{total_by};
@@ -14,8 +13,7 @@ ghost use Rattle.pb_normal.specs.Literals.{negation, weight_of};
 
 use pb_bits::RowSet;
 use pb_inst::{Lit, Magnitude, Memory};
-use pb_normal::PositiveTerm;
-use pb_rows::{Count, Occurs, RowTerms, Tables, Tally};
+use pb_rows::{Count, Occurs, RowTerms, Tables, Tally, Weighs};
 use pb_trail::Slacks;
 use std::alloc::Global;
 
@@ -272,34 +270,20 @@ fn at_no_cost<C: Count>(tables: &Tables<'_, C>, terms: RowTerms<'_>) -> Magnitud
 {
     match terms {
         RowTerms::Weighted(terms) => costless(tables, terms),
-        RowTerms::Units(lits) => costless_units(tables, lits),
+        RowTerms::Units(lits) => costless(tables, lits),
     }
 }
 
 /// The sum of the coefficients of literals without cost.
-fn costless<C: Count>(tables: &Tables<'_, C>, terms: &[PositiveTerm]) -> Magnitude
-    requires variables { All (λ t. t.lit.var ≤ tables.now.vars) terms.now }
-    requires fits { sum_by (λ t. t.coef) terms.now < 2 ^ 64 }
-    ensures { result ≡ spare tables.now.form.objective [] terms.now }
+fn costless<C: Count, T: Weighs>(tables: &Tables<'_, C>, items: &[T]) -> Magnitude
+    requires variables { All (λ t. t.lit.var ≤ tables.now.vars) (map T.term items.now) }
+    requires fits { sum_by (λ t. t.coef) (map T.term items.now) < 2 ^ 64 }
+    ensures { result ≡ spare tables.now.form.objective [] (map T.term items.now) }
 {
     let mut sum = 0;
-    for term in terms {
-        if tables.cost(term.lit).is_zero() {
-            sum += term.coef;
-        }
-    }
-    sum
-}
-
-/// The number of literals without cost.
-fn costless_units<C: Count>(tables: &Tables<'_, C>, lits: &[Lit]) -> Magnitude
-    requires variables { All (λ l. l.var ≤ tables.now.vars) lits.now }
-    ensures { result ≡ spare tables.now.form.objective [] (map unit_term lits.now) }
-{
-    let mut sum = 0;
-    for lit in lits {
-        if tables.cost(*lit).is_zero() {
-            sum += 1;
+    for item in items {
+        if tables.cost(item.lit()).is_zero() {
+            sum += item.coef();
         }
     }
     sum

@@ -1,7 +1,7 @@
 -- Where the literals of clauses occur.
 use Rattle.std.proofs.Common.{◌≡◌, ℕ, zero, suc, ◌+◌, ◌-◌, ◌<◌, ◌≤◌, List, [], ◌∷◌, ◌++◌, length, get_or, map, take, drop, refl, sym, ◌∙◌, ap, subst, arith, eqb, All, inl, inr, slice_range}
 use Rattle.std.proofs.lemmas.Bool.{cases_Bool}
-use Rattle.std.proofs.lemmas.List.{take_more, take-map, map_push, length-map, get_or-map}
+use Rattle.std.proofs.lemmas.List.{take-map, length-map, get_or-map}
 use Rattle.std.proofs.lemmas.List.Elements.{All-nil, All-cons, All-head, All-tail, All-append}
 use Rattle.pb_inst.specs.Literal.{Literal}
 use Rattle.pb_normal.specs.declared.terms.PositiveTerm.{PositiveTerm}
@@ -14,13 +14,6 @@ use Rattle.pb_rows.proofs.EntryLemmas.{entries_from-next}
 
 abbrev unit_entry : ℕ → Literal → Entry
 unit_entry r l = record { place = literal_place l; occurrence = record { row = r; coef = 1 } }
-
-pub clause_entries-next : (r : ℕ) (lits : List Literal) (i : ℕ) (d : Literal) → i < length lits → entries_of_row r (clause_row (take (i + 1) lits)).terms ≡ entries_of_row r (clause_row (take i lits)).terms ++ unit_entry r (get_or lits i d) ∷ []
-unfolding entries_of_row
-clause_entries-next r lits i d h =
-    let entry : PositiveTerm → Entry = λ t. record { place = literal_place t.lit; occurrence = record { row = r; coef = t.coef } } in
-    let more : map unit_term (take (i + 1) lits) ≡ map unit_term (take i lits) ++ unit_term (get_or lits i d) ∷ [] = ap (map unit_term) (take_more lits i d h) ∙ map_push unit_term (take i lits) (get_or lits i d) in
-    ap (map entry) more ∙ map_push entry (map unit_term (take i lits)) (unit_term (get_or lits i d))
 
 -- the row of a clause that is read
 pub clause_at : (clauses : List (List Literal)) (i : ℕ) (lits : List Literal) → i < length clauses → lits ≡ get_or clauses i [] → row_at (map clause_row clauses) i ≡ clause_row lits

@@ -1,7 +1,7 @@
 -- Where the literals of rows occur, and that their occurrences have the rows' weights.
 use Rattle.std.proofs.Common.{◌≡◌, ◌≢◌, ℕ, zero, suc, ◌+◌, ◌-◌, ◌*◌, ◌<◌, ◌≤◌, List, [], ◌∷◌, ◌++◌, length, get_or, map, take, refl, sym, ◌∙◌, ap, subst, arith, add-one, Bool, true, false, cond, eqb, All, inl, inr, ◌⊎◌}
 use Rattle.std.proofs.lemmas.Bool.{cases_lt, cases_Bool, eq-eqb, ne_eqb}
-use Rattle.std.proofs.lemmas.List.{take_more, map-append, get_or_past}
+use Rattle.std.proofs.lemmas.List.{take_more, map_push, map-append, get_or_past}
 use Rattle.std.proofs.lemmas.List.Elements.{All-nil, All-cons, All-head, All-tail, All-append, All-weaker}
 use Rattle.std.proofs.lemmas.List.Sums.{sum_by-cons, sum_by-append}
 use Rattle.pb_inst.specs.Literal.{Literal}
@@ -20,12 +20,12 @@ pub entries_of_row-nil : (r : ℕ) → entries_of_row r [] ≡ []
 unfolding entries_of_row
 entries_of_row-nil r = refl
 
-entries_of_row-push : (r : ℕ) (terms : List PositiveTerm) (t : PositiveTerm) → entries_of_row r (terms ++ t ∷ []) ≡ entries_of_row r terms ++ entry r t ∷ []
+-- one more item's literal occurs
+pub entries_of_row-next : {A : Type 0} → (f : A → PositiveTerm) → (r : ℕ) (items : List A) (i : ℕ) (d : A) → i < length items → entries_of_row r (map f (take (i + 1) items)) ≡ entries_of_row r (map f (take i items)) ++ entry r (f (get_or items i d)) ∷ []
 unfolding entries_of_row
-entries_of_row-push r terms t = map-append (entry r) terms (t ∷ [])
-
-pub entries_of_row-next : (r : ℕ) (terms : List PositiveTerm) (i : ℕ) (d : PositiveTerm) → i < length terms → entries_of_row r (take (i + 1) terms) ≡ entries_of_row r (take i terms) ++ entry r (get_or terms i d) ∷ []
-entries_of_row-next r terms i d h = ap (entries_of_row r) (take_more terms i d h) ∙ entries_of_row-push r (take i terms) (get_or terms i d)
+entries_of_row-next f r items i d h =
+    let more : map f (take (i + 1) items) ≡ map f (take i items) ++ f (get_or items i d) ∷ [] = ap (map f) (take_more items i d h) ∙ map_push f (take i items) (get_or items i d) in
+    ap (map (entry r)) more ∙ map_push (entry r) (map f (take i items)) (f (get_or items i d))
 
 pub entries_from-next : (first : ℕ) (rows : List PositiveRow) (n : ℕ) → entries_from first rows (n + 1) ≡ entries_from first rows n ++ entries_of_row (first + n) (row_at rows n).terms
 entries_from-next first rows n = rw (add-one) refl

@@ -11,6 +11,7 @@ mod occurrences;
 mod rows;
 mod tables;
 mod tally;
+mod weighs;
 
 pub use clauses::Clauses;
 pub use count::Count;
@@ -18,3 +19,4 @@ pub use occurrences::{Occurrence, Occurs, Part, UnitOccurrence};
 pub use rows::{Limits, Rows};
 pub use tables::{RowTerms, Tables};
 pub use tally::Tally;
+pub use weighs::Weighs;

@@ -1,10 +1,11 @@
 //! Where literals occur.
 
-ghost use Rattle.std.specs.Prelude.{◌≡◌, ◌+◌, ◌*◌, ◌^◌, ◌<◌, ◌≤◌, IfOk};
-ghost use Rattle.pb_rows.specs.Index.{literal_place};
+ghost use Rattle.std.specs.Prelude.{◌≡◌, ◌+◌, ◌*◌, ◌^◌, ◌<◌, ◌≤◌, ◌++◌, All, IfOk, OnOk, map};
+ghost use Rattle.pb_rows.specs.Index.{literal_place, entries_of_row};
 
 use crate::count::Count;
 use crate::tally::Tally;
+use crate::weighs::Weighs;
 use pb_inst::{Lit, Memory};
 use std::alloc::AllocError;
 use std::marker::Model;
@@ -137,4 +138,21 @@ pub fn row_number(row: usize) -> Result<u32, Memory>
     ensures { IfOk result (λ number. number ≡ row) }
 {
     u32::try_from(row).map_err(|_| AllocError)
+}
+
+/// Adds where the literals of a row occur.
+pub fn push_entries<C: Count, T: Weighs>(
+    entries: &mut Vec<Entry<C>>,
+    row: u32,
+    items: &[T],
+) -> Result<(), Memory>
+    ensures entries { OnOk result (entries.new.items ≡ entries.old.items ++ entries_of_row row (map T.term items.now)) }
+    ensures from_one { OnOk result (All (λ item. 1 ≤ (T.term item).lit.var) items.now) }
+{
+    for item in items {
+        let place = place_of(item.lit()) as u32;
+        let coef = Tally::of(item.coef());
+        entries.push(Entry { place, row, coef })?;
+    }
+    Ok(())
 }

@@ -1,9 +1,9 @@
 //! The rows of a normal form, with the rows in which each literal occurs.
 
-ghost use Rattle.std.specs.Prelude.{◌≡◌, ℕ, ◌+◌, ◌*◌, ◌^◌, ◌<◌, ◌≤◌, ◌++◌, length, All, IfOk, OnOk, slice_index_or};
+ghost use Rattle.std.specs.Prelude.{◌≡◌, ℕ, ◌+◌, ◌*◌, ◌^◌, ◌<◌, ◌≤◌, length, All, IfOk, slice_index_or};
 ghost use Rattle.pb_normal.specs.NormalForm.{IsNormal};
 ghost use Rattle.pb_rows.specs.Constraints.{AreRowsOver, row_at};
-ghost use Rattle.pb_rows.specs.Index.{IsPartOf, occurrences_of, total_for, entries_of_row, entries_from};
+ghost use Rattle.pb_rows.specs.Index.{IsPartOf, occurrences_of, total_for, entries_from};
 ghost use Rattle.pb_rows.specs.Occurrences.{Occurrence as Weighted};
 ghost use Rattle.pb_rows.specs.Table.{AreLimits, AreLimitsOf};
 ghost use Rattle.pb_normal.specs.Literals.{weight_of};
@@ -11,7 +11,7 @@ ghost use Rattle.pb_normal.specs.Literals.{weight_of};
 use crate::costs::costs_of;
 use crate::count::Count;
 use crate::index::{Index, part};
-use crate::occurrences::{Entry, Occurrence, Part, place_of, row_number};
+use crate::occurrences::{Entry, Occurrence, Part, place_of, push_entries, row_number};
 use crate::tally::Tally;
 use pb_inst::{Lit, Magnitude, Memory};
 use pb_normal::{Normal, PositiveTerm};
@@ -156,7 +156,7 @@ fn entries_of<C: Count>(alloc: Global, form: &Normal) -> Result<Vec<Entry<C>>, M
 {
     let mut entries = Vec::with_capacity(alloc, room(form))?;
     for row in 0..form.len() {
-        push_row(&mut entries, row_number(row)?, form.terms(row))?;
+        push_entries(&mut entries, row_number(row)?, form.terms(row))?;
     }
     Ok(entries)
 }
@@ -168,22 +168,6 @@ fn room(form: &Normal) -> usize {
         room = room.saturating_add(form.terms(row).len());
     }
     room
-}
-
-/// Adds where the literals of the terms occur.
-fn push_row<C: Count>(
-    entries: &mut Vec<Entry<C>>,
-    row: u32,
-    terms: &[PositiveTerm],
-) -> Result<(), Memory>
-    ensures { OnOk result (entries.new.items ≡ entries.old.items ++ entries_of_row row terms.now) }
-{
-    for term in terms {
-        let place = place_of(term.lit) as u32;
-        let coef = Tally::of(term.coef);
-        entries.push(Entry { place, row, coef })?;
-    }
-    Ok(())
 }
 
 /// The limits of each row.

@@ -1,16 +1,20 @@
-use Rattle.std.proofs.Common.{◌≤◌, All, subst, arith}
-use Rattle.std.proofs.lemmas.List.{length-map, get_or-map}
+use Rattle.std.proofs.Common.{◌<◌, ◌≤◌, ◌^◌, [], List, All, ap, sym, subst, ◌∙◌, sum_by}
+use Rattle.std.proofs.lemmas.List.{map-id}
 use Rattle.pb_normal.specs.declared.terms.PositiveTerm.{PositiveTerm}
-use Rattle.pb_rows.specs.Clauses.{unit_term}
 use Rattle.pb_rows.specs.declared.tables.RowTerms.{RowTerms}
 use Rattle.pb_rows.specs.Tables.{terms_in}
+use Rattle.pb_engine.specs.DisjointRows.{spare}
 use Rattle.pb_engine.proofs.needs.at_no_cost.Goals as goal
 
-pub costless_units-requires : goal.costless_units-requires
-costless_units-requires g c = record {
-  variables = λ k d h.
-      (let lits = c.in-Units.lits.now in
-      let all = subst (λ (r : RowTerms). All (λ (t : PositiveTerm). t.lit.var ≤ c.args.tables.now.vars) (terms_in r)) c.in-Units.is c.requires.variables in
-      let count = length-map lits unit_term in
-      subst (λ (t : PositiveTerm). t.lit.var ≤ c.args.tables.now.vars) (get_or-map unit_term lits k d (unit_term d) h) (all k (unit_term d) (omega arith)));
-}
+pub costless-requires : goal.costless-requires
+costless-requires g c =
+    let back = sym (map-id c.in-Weighted.terms.now) in
+    record {
+      variables = subst (λ (ts : List PositiveTerm). All (λ (t : PositiveTerm). t.lit.var ≤ c.args.tables.now.vars) ts) back (subst (λ (r : RowTerms). All (λ (t : PositiveTerm). t.lit.var ≤ c.args.tables.now.vars) (terms_in r)) c.in-Weighted.is c.requires.variables);
+      fits = subst (λ (ts : List PositiveTerm). sum_by (λ (t : PositiveTerm). t.coef) ts < 2 ^ 64) back (subst (λ (r : RowTerms). sum_by (λ (t : PositiveTerm). t.coef) (terms_in r) < 2 ^ 64) c.in-Weighted.is c.requires.fits);
+    }
+
+pub returns-in-Weighted : goal.returns-in-Weighted
+returns-in-Weighted g c =
+    let objective = c.args.tables.now.form.objective in
+    c.costless.ensures ∙ (ap (spare objective []) (map-id c.in-Weighted.terms.now) ∙ ap (λ (r : RowTerms). spare objective [] (terms_in r)) (sym c.in-Weighted.is))

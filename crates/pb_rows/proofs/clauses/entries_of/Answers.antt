@@ -13,13 +13,13 @@ IsFromOne m = 1 ≤ m.var
 pub loop-i-preserved : goal.loop-i-preserved
 loop-i-preserved g c = (
   (let added : ℕ → List Entry = λ row. c.loop-i.entries.items ++ entries_of_row row (clause_row c.list.result.now).terms in
-      let pushed = c.in_ok-push_clause.ensures.entries ∙ ap added c.in_ok-row_number.ensures in
+      let pushed = c.in_ok-push_entries.ensures.entries ∙ ap added c.in_ok-row_number.ensures in
       clause_entries_from-next c.args.first c.args.clauses.now c.loop-i.i c.list.result.now c.loop-i.entries.items _ (omega arith) c.list.ensures c.loop-i.invariant.0 pushed),
   λ k h. elim (cases_lt k c.loop-i.i) [
     | inl early ↦ c.loop-i.invariant.1 k early
     | inr late ↦
         (let at : c.loop-i.i ≡ k = omega arith in
-        let here : All IsFromOne (get_or c.args.clauses.now c.loop-i.i []) = subst (λ (ls : List Literal). All IsFromOne ls) c.list.ensures c.in_ok-push_clause.ensures.from_one in
+        let here : All IsFromOne (get_or c.args.clauses.now c.loop-i.i []) = subst (λ (ls : List Literal). All IsFromOne ls) c.list.ensures c.in_ok-push_entries.ensures.from_one in
         subst (λ (j : ℕ). All IsFromOne (get_or c.args.clauses.now j [])) at here)
   ],
 )
