@@ -33,10 +33,4 @@ pub use solving::{SolveFault, solve};
 pub use working::work;
 
 #[cfg(test)]
-mod division_tests;
-#[cfg(test)]
-mod hostile;
-#[cfg(test)]
-mod tests;
-#[cfg(test)]
-mod worker_tests;
+mod sharing_tests;

@@ -3,7 +3,7 @@
 
 use super::cases::{CLAUSE_AND_CUBE, COVER, Case, NEGATIVE_COST};
 use super::{Ended, options, run_on};
-use crate::Status;
+use pb_solve::Status;
 use std::alloc::Global;
 use std::io::Empty;
 use std::process::Abort;

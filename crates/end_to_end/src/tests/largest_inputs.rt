@@ -3,8 +3,8 @@
 use super::cases::COVER;
 use super::oracle::value_line;
 use super::{Ended, options, run_on};
-use crate::{Format, Status};
 use pb_inst::Assignment;
+use pb_solve::{Format, Status};
 use std::alloc::{AllocError, Global};
 use std::io::Empty;
 use std::process::Abort;

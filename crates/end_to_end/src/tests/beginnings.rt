@@ -2,7 +2,7 @@
 
 use super::cases::{CLAUSE_AND_CUBE, CONTRADICTION, Case};
 use super::{Ended, WORKERS, options, run_on};
-use crate::Status;
+use pb_solve::Status;
 use std::io::Empty;
 use std::test::Fail;
 

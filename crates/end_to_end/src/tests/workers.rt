@@ -1,15 +1,14 @@
 //! Workers on one board: what they claim, that they run at the same time, and that their number and the cubes change no
 //! answer.
-ghost use Rattle.std.specs.Prelude.{◌<◌};
 
-use crate::sharing::BoardShare;
-use crate::{Gate, OpenGate, solve, work};
+use super::WORKERS;
 use pb_board::Board;
 use pb_cubes::{Pieces, split};
 use pb_inst::{Assignment, Best, Cube, Instance, Lit, Number, Workers};
 use pb_normal::normalise;
 use pb_read::{read_cnf, read_icnf, read_opb};
-use pb_search::{SearchTables, Share};
+use pb_search::SearchTables;
+use pb_solve::{Gate, OpenGate, solve, work};
 use std::alloc::Global;
 use std::sync::atomic::{AtomicBool, AtomicU64, Ordering};
 use std::test::Fail;
@@ -207,64 +206,6 @@ fn work_alone(rt: HostRuntime) -> Result<(), Fail> {
     Ok(())
 }
 
-// A share lends the other worker's row where an offer is below what was asked for, and only there.
-#[test]
-fn a_share_lends_what_was_offered(rt: HostRuntime) -> Result<(), Fail> {
-    let alloc = rt.alloc();
-    let (board, seat) = Board::new(alloc, Workers::new(2)?, 2)?;
-    let (low, high) = board.split(seat, 1);
-    let mut share = BoardShare::new(&board, low, 0);
-    let mut other = BoardShare::new(&board, high, 1);
-    let mut offered = Assignment::new(alloc, 2)?;
-    offered.set(2, true);
-    let mut borrowed = Assignment::new(alloc, 2)?;
-    let before = share.borrow(Number::MAX, &mut borrowed);
-    other.offer(-5, &offered);
-    let at_cost = share.borrow(-5, &mut borrowed);
-    let untouched = bits(&borrowed);
-    let above = share.borrow(-4, &mut borrowed);
-    assert_eq!(rt; [before, at_cost, above], [false, false, true]);
-    assert_eq!(rt; [untouched, bits(&borrowed)], [0, 2]);
-    Ok(())
-}
-
-/// Whether one of a worker's first two borrows gives what another one of three offered.
-fn is_lent_in_two(alloc: Global, borrower: u32, offerer: u32) -> Result<bool, Fail>
-    requires { (borrower < 3) × (offerer < 3) }
-{
-    let (board, seat) = Board::new(alloc, Workers::new(3)?, 2)?;
-    let (low, rest) = board.split(seat, 1);
-    let (high, _idle) = board.split(rest, 1);
-    let mut share = BoardShare::new(&board, low, borrower);
-    let mut other = BoardShare::new(&board, high, offerer);
-    let mut offered = Assignment::new(alloc, 2)?;
-    offered.set(2, true);
-    let mut borrowed = Assignment::new(alloc, 2)?;
-    other.offer(-5, &offered);
-    for _turn in 0..2u32 {
-        if share.borrow(0, &mut borrowed) && bits(&borrowed) == 2 {
-            return Ok(true);
-        }
-    }
-    Ok(false)
-}
-
-// A share reads the rows of the others in turn, so that with two others none is left out, whichever is read first.
-#[test]
-fn a_share_reads_the_others_in_turn(rt: HostRuntime) -> Result<(), Fail> {
-    let alloc = rt.alloc();
-    let lent = [
-        is_lent_in_two(alloc, 0, 1)?,
-        is_lent_in_two(alloc, 0, 2)?,
-        is_lent_in_two(alloc, 1, 0)?,
-        is_lent_in_two(alloc, 1, 2)?,
-        is_lent_in_two(alloc, 2, 0)?,
-        is_lent_in_two(alloc, 2, 1)?,
-    ];
-    assert_eq!(rt; lent, [true; 6]);
-    Ok(())
-}
-
 /// The answer of two workers on the two clauses and the two cubes.
 fn meet<R: Threads + Sync>(
     rt: &R,
@@ -359,7 +300,7 @@ fn answers<R: Threads + Sync>(
 fn workers_and_splits_change_no_answer(rt: HostRuntime) -> Result<(), Fail> {
     let wants = [Some((3, 2)), Some((-2, 2)), Some((0, 2))];
     for round in 0..100u32 {
-        for workers in [1, 2, 3, 64] {
+        for workers in WORKERS {
             for k in 0..2u32 {
                 let found = answers(&rt, rt.alloc(), workers, k)?;
                 assert_eq!(rt; found, wants, "round {round}, {workers} workers, split {k}");

@@ -4,7 +4,7 @@
 use super::cases::COVER;
 use super::oracle::{Asked, expected_report};
 use super::{Ended, WORKERS, options, run_on};
-use crate::Format;
+use pb_solve::Format;
 use std::alloc::{AllocError, Global};
 use std::process::Abort;
 use std::test::Fail;

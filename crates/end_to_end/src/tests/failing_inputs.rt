@@ -1,10 +1,9 @@
 //! Inputs and cube files that fail at any read, that give few bytes a read, or that go on after their end.
 
 use super::cases::{CASES, CLAUSE_AND_CUBE, COVER, Case, NO_HEADER, PRODUCT};
-use super::devices::{Broken, KINDS, Resumed};
+use super::devices::{Broken, Failing, KINDS, Resumed};
 use super::{Ended, options, run_on};
-use crate::tests::Failing;
-use crate::{Format, RunFault, Status};
+use pb_solve::{Format, RunFault, Status};
 use std::alloc::Global;
 use std::io::{Empty, ErrorKind};
 use std::process::Abort;
@@ -14,12 +13,13 @@ use std::thread::Threads;
 /// More calls than any input of these tests gets.
 const MOST_CALLS: usize = 1000;
 
-/// At how many reads the input fails before a run has it whole, with reads of at most so many bytes.
+/// At how many reads the input fails before a run of so many workers has it whole, with reads of at most so many bytes.
 fn failing_reads<R: Abort + Threads + Sync>(
     rt: &R,
     alloc: Global,
     case: &Case,
     step: usize,
+    workers: u32,
 ) -> usize {
     for calls_left in 0..MOST_CALLS {
         let input = Failing {
@@ -28,7 +28,7 @@ fn failing_reads<R: Abort + Threads + Sync>(
             calls_left,
         };
         let mut written = Vec::new(alloc);
-        let options = options(rt, case.format, 2, 0);
+        let options = options(rt, case.format, workers, 0);
         let ended = run_on(rt, alloc, input, None::<Empty>, options, &mut written);
         if !ended.input_failed {
             assert_eq!(rt; ended, Ended::reported(case.status));
@@ -48,8 +48,8 @@ fn failing_reads<R: Abort + Threads + Sync>(
 #[test]
 fn inputs_that_fail_at_any_read(rt: HostRuntime) -> Result<(), Fail> {
     for case in &CASES {
-        for step in [1usize, 2, 7, 32] {
-            let reads = failing_reads(&rt, rt.alloc(), case, step);
+        for (step, workers) in [(1usize, 2), (2, 2), (7, 2), (9, 1), (32, 2)] {
+            let reads = failing_reads(&rt, rt.alloc(), case, step, workers);
             assert_eq!(rt;
                 reads,
                 case.text.len().div_ceil(step) + 1,
@@ -122,6 +122,41 @@ fn cube_files_that_fail_at_any_read(rt: HostRuntime) -> Result<(), Fail> {
             }
         }
     }
+    Ok(())
+}
+
+#[test]
+fn a_cube_file_that_fails_at_any_read(rt: HostRuntime) -> Result<(), Fail> {
+    let file = b"a 1 0\na -1 2 0\n".as_slice();
+    for calls_left in 0..100usize {
+        let cubes = Failing {
+            inner: file,
+            step: 4,
+            calls_left,
+        };
+        let mut written = Vec::new(rt.alloc());
+        let options = options(&rt, Format::Opb, 1, 0);
+        let ended = run_on(
+            &rt,
+            rt.alloc(),
+            COVER.text,
+            Some(cubes),
+            options,
+            &mut written,
+        );
+        if !ended.cubes_failed {
+            assert_eq!(rt; ended, Ended::reported(COVER.status));
+            assert_eq!(rt; calls_left, file.len().div_ceil(4) + 1);
+            return Ok(());
+        }
+        assert_eq!(rt;
+            ended,
+            Ended::failed(RunFault::ReadCubes),
+            "at read {calls_left}"
+        );
+        assert_eq!(rt; written.len(), 0, "at read {calls_left}");
+    }
+    assert!(rt; false, "each read failed");
     Ok(())
 }
 

@@ -1,17 +1,20 @@
-//! Hostile use of the run: texts cut off, spoiled or as large as can be, devices that fail, and memory that is refused.
+//! One run over readers and a writer, and what the tests expect of it.
 
 mod beginnings;
 mod cases;
 mod devices;
+mod division;
 mod failing_inputs;
 mod failing_outputs;
 mod largest_inputs;
 mod oracle;
 mod refused_memory;
+mod reports;
 mod spoiled_texts;
+mod workers;
 
-use crate::{Device, Format, Options, RunFault, Status, run};
 use pb_inst::Workers;
+use pb_solve::{Device, Format, Options, RunFault, Status, run};
 use std::alloc::Global;
 use std::io::{Empty, Read, Write};
 use std::process::Abort;
@@ -59,7 +62,7 @@ fn options(rt: &impl Abort, format: Format, workers: u32, split: u32) -> Options
     }
 }
 
-/// One run over these readers and this writer. All tests of hostile use call `run` here.
+/// One run over these readers and this writer. All tests call `run` here.
 fn run_on<R: Abort + Threads + Sync, I: Read + Drop, C: Read + Drop, W: Write + Drop>(
     rt: &R,
     alloc: Global,

@@ -3,9 +3,9 @@
 
 ghost use Rattle.std.specs.Prelude.{◌≡◌, length, IfOk};
 
-use crate::{Format, Status};
 use pb_inst::{Assignment, Instance, Memory, Number, precedes};
 use pb_read::{ReadFault, read_cnf, read_cubes, read_icnf, read_opb};
+use pb_solve::{Format, Status};
 use std::alloc::{AllocError, Global};
 use std::process::Abort;
 use std::test::Fail;

@@ -1,4 +1,4 @@
-//! Devices that fail or that behave oddly. One that fails at any call is `Failing`, of the tests over memory.
+//! Devices that fail or that behave oddly.
 
 use std::io::{self, Error, ErrorKind, Read, Write};
 
@@ -8,6 +8,45 @@ pub const KINDS: [ErrorKind; 4] = [
     ErrorKind::UnexpectedEof,
     ErrorKind::OutOfMemory,
 ];
+
+/// Reads or writes at most so many bytes a call, and fails at the call after so many more.
+#[derive(Drop)]
+pub struct Failing<T> {
+    pub inner: T,
+    pub step: usize,
+    pub calls_left: usize,
+}
+
+impl<T> Failing<T> {
+    fn turn(&mut self) -> io::Result<()> {
+        if self.calls_left == 0 {
+            return Err(Error::from(ErrorKind::Other));
+        }
+        self.calls_left -= 1;
+        Ok(())
+    }
+}
+
+impl<T: Read> Read for Failing<T> {
+    fn read(&mut self, buf: &mut [u8]) -> io::Result<usize> {
+        self.turn()?;
+        let len = self.step.min(buf.len());
+        self.inner.read(&mut buf[..len])
+    }
+}
+
+impl<T: Write> Write for Failing<T> {
+    fn write(&mut self, buf: &[u8]) -> io::Result<usize> {
+        self.turn()?;
+        let len = self.step.min(buf.len());
+        self.inner.write(&buf[..len])
+    }
+
+    fn flush(&mut self) -> io::Result<()> {
+        self.turn()?;
+        self.inner.flush()
+    }
+}
 
 /// Fails at each call, with a fault of this kind.
 #[derive(Clone, Copy)]

@@ -1,6 +1,6 @@
 //! Texts with their reports, on which several tests run.
 
-use crate::{Format, Status};
+use pb_solve::{Format, Status};
 
 /// A text, the report on it without cubes or with such as are accepted, and its status.
 #[derive(Clone, Copy)]

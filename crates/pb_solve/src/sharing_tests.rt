@@ -1,0 +1,75 @@
+//! What a worker's share lends of what the others offered.
+ghost use Rattle.std.specs.Prelude.{◌<◌};
+
+use crate::sharing::BoardShare;
+use pb_board::Board;
+use pb_inst::{Assignment, Number, Workers};
+use pb_search::Share;
+use std::alloc::Global;
+use std::test::Fail;
+
+fn bits(assignment: &Assignment) -> u64 {
+    if assignment.len() == 0 {
+        0
+    } else {
+        assignment.word(0)
+    }
+}
+
+// A share lends the other worker's row where an offer is below what was asked for, and only there.
+#[test]
+fn a_share_lends_what_was_offered(rt: HostRuntime) -> Result<(), Fail> {
+    let alloc = rt.alloc();
+    let (board, seat) = Board::new(alloc, Workers::new(2)?, 2)?;
+    let (low, high) = board.split(seat, 1);
+    let mut share = BoardShare::new(&board, low, 0);
+    let mut other = BoardShare::new(&board, high, 1);
+    let mut offered = Assignment::new(alloc, 2)?;
+    offered.set(2, true);
+    let mut borrowed = Assignment::new(alloc, 2)?;
+    let before = share.borrow(Number::MAX, &mut borrowed);
+    other.offer(-5, &offered);
+    let at_cost = share.borrow(-5, &mut borrowed);
+    let untouched = bits(&borrowed);
+    let above = share.borrow(-4, &mut borrowed);
+    assert_eq!(rt; [before, at_cost, above], [false, false, true]);
+    assert_eq!(rt; [untouched, bits(&borrowed)], [0, 2]);
+    Ok(())
+}
+
+/// Whether one of a worker's first two borrows gives what another one of three offered.
+fn is_lent_in_two(alloc: Global, borrower: u32, offerer: u32) -> Result<bool, Fail>
+    requires { (borrower < 3) × (offerer < 3) }
+{
+    let (board, seat) = Board::new(alloc, Workers::new(3)?, 2)?;
+    let (low, rest) = board.split(seat, 1);
+    let (high, _idle) = board.split(rest, 1);
+    let mut share = BoardShare::new(&board, low, borrower);
+    let mut other = BoardShare::new(&board, high, offerer);
+    let mut offered = Assignment::new(alloc, 2)?;
+    offered.set(2, true);
+    let mut borrowed = Assignment::new(alloc, 2)?;
+    other.offer(-5, &offered);
+    for _turn in 0..2u32 {
+        if share.borrow(0, &mut borrowed) && bits(&borrowed) == 2 {
+            return Ok(true);
+        }
+    }
+    Ok(false)
+}
+
+// A share reads the rows of the others in turn, so that with two others none is left out, whichever is read first.
+#[test]
+fn a_share_reads_the_others_in_turn(rt: HostRuntime) -> Result<(), Fail> {
+    let alloc = rt.alloc();
+    let lent = [
+        is_lent_in_two(alloc, 0, 1)?,
+        is_lent_in_two(alloc, 0, 2)?,
+        is_lent_in_two(alloc, 1, 0)?,
+        is_lent_in_two(alloc, 1, 2)?,
+        is_lent_in_two(alloc, 2, 0)?,
+        is_lent_in_two(alloc, 2, 1)?,
+    ];
+    assert_eq!(rt; lent, [true; 6]);
+    Ok(())
+}
