@@ -10,7 +10,7 @@ use Rattle.pb_search.specs.Held.{IsNotAfter}
 use Rattle.pb_search.proofs.HeldLemmas.{improvement_on_earlier}
 use Rattle.pb_solve.specs.Parts.{PartView, AreDone}
 use Rattle.pb_solve.specs.Claims.{piece_count, pieces_among, EndsPast, IsWholeWork}
-use Rattle.pb_solve.specs.Sharing.{BoardShareView, KeepsClaims, SameSeat}
+use Rattle.pb_share.specs.Sharing.{BoardShareView, KeepsClaims, SameSeat}
 
 -- what is held is a solution, where anything is
 abbrev IsFound : Division → Option Solution → Type 0

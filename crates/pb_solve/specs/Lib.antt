@@ -10,4 +10,3 @@ pub mod Run
 pub mod Laws
 pub mod Parts
 pub mod Claims
-pub mod Sharing

@@ -16,7 +16,6 @@ mod reading;
 mod report;
 mod running;
 mod sending;
-mod sharing;
 mod solving;
 mod working;
 
@@ -31,6 +30,3 @@ pub use report::report_memory;
 pub use running::run;
 pub use solving::{SolveFault, solve};
 pub use working::work;
-
-#[cfg(test)]
-mod sharing_tests;

@@ -2,15 +2,15 @@
 ghost use Rattle.std.specs.Prelude.{◌≡◌, ◌<◌, ◌≤◌, ◌⊎◌, ◌+◌, ◌^◌, ◌++◌, ◌∷◌, [], length, All, IfOk, IfSome, IfNone};
 ghost use Rattle.pb_search.specs.Done.{IsDone};
 ghost use Rattle.pb_solve.specs.Claims.{EndsPast, IsWholeWork, pieces_among};
-ghost use Rattle.pb_solve.specs.Sharing.{SameSeat};
+ghost use Rattle.pb_share.specs.Sharing.{SameSeat};
 
 use crate::gates::Gate;
 use crate::parts::Part;
-use crate::sharing::BoardShare;
 use pb_board::{Board, Seat};
 use pb_cubes::Pieces;
 use pb_inst::{Best, Instance, Memory};
 use pb_search::{Search, SearchTables};
+use pb_share::BoardShare;
 use std::alloc::Global;
 
 /// The whole work of one worker: it claims numbers from the board until it gets one that is no piece, and searches each

@@ -2,7 +2,7 @@ use Rattle.std.proofs.Common.{◌≡◌, length}
 use Rattle.std.specs.Prelude.{All}
 use Rattle.pb_search.specs.Done.{IsDone}
 use Rattle.pb_solve.specs.Claims.{pieces_among}
-use Rattle.pb_solve.specs.Sharing.{SameSeat}
+use Rattle.pb_share.specs.Sharing.{SameSeat}
 use Rattle.pb_solve.proofs.working.search_claimed.Given as goal
 
 -- the claims so far are pieces, they are named, and they are done

@@ -2,7 +2,7 @@
 ghost use Rattle.std.specs.Prelude.{◌≡◌, ◌≢◌, ◌<◌, ◌≤◌, ◌+◌, ◌^◌, ◌++◌, ◌∷◌, [], refl, length, nat_lt, pos, ◌+ℤ◌};
 ghost use Rattle.std.proofs.Common.{◌∙◌};
 ghost use Rattle.pb_board.specs.Seats.{BoardView, SeatView};
-ghost use Rattle.pb_solve.specs.Sharing.{BoardShareView, KeepsClaims};
+ghost use Rattle.pb_share.specs.Sharing.{BoardShareView, KeepsClaims};
 
 use pb_board::{Board, Seat};
 use pb_inst::{Assignment, Number};
@@ -14,7 +14,7 @@ const KEY_OFFSET: i128 = 9_223_372_036_854_775_808;
 
 /// A worker's ways to the others: its seat on the board, its own row, and the rows of the others, which it reads in turn.
 #[derive(Drop)]
-pub(crate) struct BoardShare<'b> {
+pub struct BoardShare<'b> {
     board: &'b Board,
     seat: Seat,
     worker: u32,
@@ -32,7 +32,7 @@ impl<'b> Model for BoardShare<'b> {
 
 impl<'b> BoardShare<'b> {
     /// The share of a worker below the board's number of workers, with a seat of the board.
-    pub(crate) fn new(board: &'b Board, seat: Seat, worker: u32) -> BoardShare<'b>
+    pub fn new(board: &'b Board, seat: Seat, worker: u32) -> BoardShare<'b>
         requires seat { seat.board ≡ board.now.id }
         requires worker { worker < board.now.workers }
         ensures { result ≡ record { board = board.now; worker = worker; seat = seat } }
@@ -46,14 +46,14 @@ impl<'b> BoardShare<'b> {
     }
 
     /// The worker's number.
-    pub(crate) fn worker(&self) -> u32
+    pub fn worker(&self) -> u32
         ensures { result ≡ self.now.worker }
     {
         self.worker
     }
 
     /// The seat, with all that it claimed and offered.
-    pub(crate) fn into_seat(self) -> Seat
+    pub fn into_seat(self) -> Seat
         ensures { result ≡ self.entry.seat }
     {
         let BoardShare {
@@ -66,7 +66,7 @@ impl<'b> BoardShare<'b> {
     }
 
     /// Claims the next number of the board. Asks that the seat has fewer than 2^32 claims.
-    pub(crate) fn claim(&mut self) -> u64
+    pub fn claim(&mut self) -> u64
         requires { length self.old.seat.claimed < 2 ^ 32 }
         ensures { self.new ≡ record self.old { seat = record self.old.seat { claimed = self.old.seat.claimed ++ result ∷ [] } } }
     {

@@ -1,7 +1,7 @@
 //! What a worker's share lends of what the others offered.
 ghost use Rattle.std.specs.Prelude.{◌<◌};
 
-use crate::sharing::BoardShare;
+use crate::BoardShare;
 use pb_board::Board;
 use pb_inst::{Assignment, Number, Workers};
 use pb_search::Share;

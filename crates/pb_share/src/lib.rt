@@ -1,0 +1,9 @@
+//! What workers lend each other over the board: each one's share of it, which a search asks and tells.
+#![tactic(auto)]
+
+mod sharing;
+
+pub use sharing::BoardShare;
+
+#[cfg(test)]
+mod tests;
