@@ -1,7 +1,7 @@
 -- Where the literals of rows occur, and that their occurrences have the rows' weights.
 use Rattle.std.proofs.Common.{◌≡◌, ◌≢◌, ℕ, zero, suc, ◌+◌, ◌-◌, ◌*◌, ◌<◌, ◌≤◌, List, [], ◌∷◌, ◌++◌, length, get_or, map, take, refl, sym, ◌∙◌, ap, subst, arith, add-one, Bool, true, false, cond, eqb, All, inl, inr, ◌⊎◌}
 use Rattle.std.proofs.lemmas.Bool.{cases_lt, cases_Bool, eq-eqb, ne_eqb}
-use Rattle.std.proofs.lemmas.List.{take_more, map_push, map-append, get_or_past}
+use Rattle.std.proofs.lemmas.List.{take_more, map_push, get_or_past}
 use Rattle.std.proofs.lemmas.List.Elements.{All-nil, All-cons, All-head, All-tail, All-append, All-weaker}
 use Rattle.std.proofs.lemmas.List.Sums.{sum_by-cons, sum_by-append}
 use Rattle.pb_inst.specs.Literal.{Literal}
