@@ -75,3 +75,22 @@ taken old new a answer decides same held sound was =
         (λ h. (let e : true ≡ false = sym (decides.1 (h.0, both.1 h.1)) ∙ is in let bad : ⊥ = cc in bad)),
       );
     }
+
+-- an answer leaves what is held no later
+not_after_taken : (p : Problem) (a : List Bool) (held : Option Solution) → IsImprovement p a held → IsNotAfter p held (Some (solution_of p a))
+not_after_taken p a None better = tt
+not_after_taken p a (Some old) better = inr better
+
+pub taken_moves : (old new : Incumbent) (a : List Bool) (answer : Bool) → IsTaken old new a answer → MovesOn old new
+taken_moves old new a true h =
+    let is = h.accepted refl in
+    record {
+      same_instance = h.same_instance;
+      sound = λ _. h.sound;
+      not_after = subst (λ (o : Option Solution). IsNotAfter old.problem old.held o) (sym is.0) (not_after_taken old.problem a old.held is.1.1);
+    }
+taken_moves old new a false h = record {
+  same_instance = h.same_instance;
+  sound = λ _. h.sound;
+  not_after = subst (λ (i : Incumbent). IsNotAfter old.problem old.held i.held) (sym (h.refused refl).0) (not_after_itself old.problem old.held);
+}

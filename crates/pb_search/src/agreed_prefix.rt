@@ -13,7 +13,7 @@ use pb_inst::{Assignment, Best, Lit};
 /// The prefix of variables on which the trail has the ones of the best assignment: each of the first `count` variables
 /// that the best one makes true is made true by the first `seen` literals of the trail. It goes along with the search, so
 /// that no node goes through the whole best assignment again.
-#[derive(Clone, Copy, Debug)]
+#[derive(Clone, Copy)]
 pub struct AgreedPrefix {
     seen: usize,
     count: u32,

@@ -9,7 +9,7 @@ use pb_engine::Engine;
 use pb_inst::{Lit, Number};
 
 /// A decision of the search.
-#[derive(Clone, Copy, Debug)]
+#[derive(Clone, Copy)]
 pub struct Branch {
     /// The literal that is assumed.
     pub lit: Lit,
@@ -22,7 +22,7 @@ pub struct Branch {
 }
 
 /// Where to look on at a node. No answer depends on it, so nothing is promised of it.
-#[derive(Clone, Copy, Debug)]
+#[derive(Clone, Copy)]
 pub struct Hints {
     /// How many variables of the order of decisions were left, the others having values.
     pub left: u32,

@@ -15,7 +15,7 @@ use pb_normal::Normal;
 use std::alloc::Global;
 
 /// The literals in which variables are first decided, those of the variables of the greatest activity first.
-#[derive(Debug, Drop)]
+#[derive(Drop)]
 pub struct Order {
     activities: Activities,
     heap: Heap,

@@ -11,7 +11,7 @@ use pb_engine::Engine;
 use pb_inst::{Assignment, Best, Number};
 
 /// What the bound says of a subtree.
-#[derive(Clone, Copy, Debug, PartialEq, Eq)]
+#[derive(Clone, Copy, PartialEq, Eq)]
 pub enum Pruning {
     /// Something in it may cost less than the best assignment.
     Open,

@@ -35,8 +35,14 @@ impl<'a> SearchState<'a> {
         ensures candidate { IfOk result (λ t. length t.candidate ≡ normal.now.vars) }
         ensures room { IfOk result (λ t. normal.now.vars ≤ vec_capacity t.branches) }
     {
+        let (branches, candidate, order) = make_room(alloc, normal, negated)?;
         let engine = Engine::new(alloc, normal, negated)?;
-        SearchState::around(alloc, engine, normal, negated)
+        Ok(SearchState {
+            engine,
+            branches,
+            candidate,
+            order,
+        })
     }
 
     /// A state over rows and clauses that are lent. Of the cubes to be false only the order of decisions knows.
@@ -53,27 +59,13 @@ impl<'a> SearchState<'a> {
         ensures candidate { IfOk result (λ t. length t.candidate ≡ rows.now.form.vars) }
         ensures room { IfOk result (λ t. rows.now.form.vars ≤ vec_capacity t.branches) }
     {
+        let (branches, candidate, order) = make_room(alloc, rows.form(), negated)?;
         let engine = Engine::over(alloc, rows, clauses)?;
-        SearchState::around(alloc, engine, rows.form(), negated)
-    }
-
-    /// The engine with no decisions, and room for one of each variable.
-    fn around(
-        alloc: Global,
-        engine: Engine<'a>,
-        normal: &Normal,
-        negated: &[Cube],
-    ) -> Result<SearchState<'a>, Memory>
-        ensures engine { IfOk result (λ t. t.engine ≡ engine.entry) }
-        ensures candidate { IfOk result (λ t. length t.candidate ≡ normal.now.vars) }
-        ensures room { IfOk result (λ t. normal.now.vars ≤ vec_capacity t.branches) }
-    {
-        let vars = normal.vars();
         Ok(SearchState {
             engine,
-            branches: Vec::with_capacity(alloc, vars as usize)?,
-            candidate: Assignment::new(alloc, vars)?,
-            order: Order::new(alloc, normal, negated)?,
+            branches,
+            candidate,
+            order,
         })
     }
 
@@ -84,4 +76,21 @@ impl<'a> SearchState<'a> {
             None => Hints::none(),
         }
     }
+}
+
+/// What a state has beside its engine: room for a decision of each variable and for one assignment, and the order of
+/// decisions.
+fn make_room(
+    alloc: Global,
+    normal: &Normal,
+    negated: &[Cube],
+) -> Result<(Vec<Branch>, Assignment, Order), Memory>
+    ensures branches { IfOk result (λ t. normal.now.vars ≤ vec_capacity t.0) }
+    ensures candidate { IfOk result (λ t. length t.1 ≡ normal.now.vars) }
+{
+    let vars = normal.vars();
+    let branches = Vec::with_capacity(alloc, vars as usize)?;
+    let candidate = Assignment::new(alloc, vars)?;
+    let order = Order::new(alloc, normal, negated)?;
+    Ok((branches, candidate, order))
 }

@@ -7,14 +7,14 @@ pub type Activity = u64;
 pub const BUMP: Activity = 16_777_216;
 
 /// The activity of a variable, and what a conflict adds to it.
-#[derive(Clone, Copy, Debug)]
+#[derive(Clone, Copy)]
 pub struct VariableActivity {
     pub activity: Activity,
     pub bump: Activity,
 }
 
 /// The activity of each variable, by its index from 0 on.
-#[derive(Debug, Drop)]
+#[derive(Drop)]
 pub struct Activities {
     entries: Vec<VariableActivity>,
 }

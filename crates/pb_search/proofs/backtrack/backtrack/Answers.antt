@@ -1,14 +1,16 @@
+use Rattle.std.proofs.lemmas.List.{append-nil}
 use Rattle.std.proofs.Common.{◌≡◌, ◌++◌, ◌∷◌, [], ◌<◌, ◌⊎◌, List, true, refl, subst, sym}
 use Rattle.pb_engine.specs.EngineState.{EngineState}
 use Rattle.pb_search.specs.declared.branch.Branch.{Branch}
 use Rattle.pb_search.specs.declared.search_state.SearchState.{SearchState}
-use Rattle.pb_search.specs.Paths.{steps_left}
+use Rattle.pb_search.specs.Paths.{LeavesOpen, steps_left}
 use Rattle.pb_search.specs.AgreedPrefix.{KnowsHeldPrefix}
+use Rattle.pb_search.specs.Solutions.{SameConstraints}
 use Rattle.pb_search.specs.SearchState.{IsClosed}
-use Rattle.pb_search.proofs.Engines.{same_constraints_onward}
+use Rattle.pb_search.proofs.Engines.{same_constraints_itself, same_constraints_onward}
 use Rattle.pb_search.proofs.Moves.{shortened_more}
 use Rattle.pb_search.proofs.PathLemmas.{turn_falls}
-use Rattle.pb_search.proofs.SearchLemmas.{IsStep, step_of, leaving_on, turn_next}
+use Rattle.pb_search.proofs.SearchLemmas.{IsStep, step_of, leaving_on, turn_next, same_engine, state_moves}
 use Rattle.pb_search.proofs.backtrack.backtrack.Goals as goal
 
 pub returns-then-not-is_spent-clause-next : goal.returns-then-not-is_spent-clause-next
@@ -40,3 +42,41 @@ loop-branch-preserved c =
 
 pub returns-then-not-is_spent-clause-known : goal.returns-then-not-is_spent-clause-known
 returns-then-not-is_spent-clause-known c = subst (λ (e : EngineState). KnowsHeldPrefix e.trail c.args.best.now.held c.is_spent.new.agreed) (sym c.is_spent.ensures.unchanged) c.is_spent.ensures.known
+
+pub loop-branch-init : goal.loop-branch-init
+loop-branch-init c = record {
+  made_for = c.requires.state;
+  at_path = c.requires.at_path;
+  shortened = record { taken_back = []; path = sym (append-nil c.args.state.now.branches.items) };
+  constraints = same_constraints_itself c.args.state.now.engine;
+  leaving = λ start h. h;
+  known = c.requires.known;
+}
+
+pub is_spent-requires-clause-engine : goal.is_spent-requires-clause-engine
+is_spent-requires-clause-engine c = same_engine c.args.best.now.problem c.loop-branch.state.engine c.undo_decision.new.engine c.undo_decision.ensures.constraints c.loop-branch.invariant.made_for.engine
+
+pub returns-then-not-is_spent-clause-made_for : goal.returns-then-not-is_spent-clause-made_for
+returns-then-not-is_spent-clause-made_for c =
+    let u : SearchState = record { engine = c.is_spent.new.engine; branches = c.undo_decision.new.path; candidate = c.loop-branch.state.candidate; order = c.loop-branch.state.order } in
+    let constraints : SameConstraints c.loop-branch.state.engine u.engine = subst (λ (e : EngineState). SameConstraints c.loop-branch.state.engine e) (sym c.is_spent.ensures.unchanged) c.undo_decision.ensures.constraints in
+    state_moves c.args.best.now.problem c.loop-branch.state u constraints c.undo_decision.ensures.same_room refl c.loop-branch.invariant.made_for
+
+pub returns-then-not-is_spent-clause-constraints : goal.returns-then-not-is_spent-clause-constraints
+returns-then-not-is_spent-clause-constraints c =
+    same_constraints_onward c.args.state.now.engine c.loop-branch.state.engine c.is_spent.new.engine c.loop-branch.invariant.constraints
+    (subst (λ (e : EngineState). SameConstraints c.loop-branch.state.engine e) (sym c.is_spent.ensures.unchanged) c.undo_decision.ensures.constraints)
+
+pub returns-clause-finished : goal.returns-clause-finished
+returns-clause-finished c start h a below better = subst (λ (x : List Branch). LeavesOpen a x) c.in_default.ensures.no_decisions ((c.loop-branch.invariant.leaving start h).all_leave a below better)
+
+pub returns-clause-made_for : goal.returns-clause-made_for
+returns-clause-made_for c =
+    let u : SearchState = record { engine = c.undo_decision.new.engine; branches = c.undo_decision.new.path; candidate = c.loop-branch.state.candidate; order = c.loop-branch.state.order } in
+    state_moves c.args.best.now.problem c.loop-branch.state u c.undo_decision.ensures.constraints c.undo_decision.ensures.same_room refl c.loop-branch.invariant.made_for
+
+pub returns-clause-constraints : goal.returns-clause-constraints
+returns-clause-constraints c = same_constraints_onward c.args.state.now.engine c.loop-branch.state.engine c.undo_decision.new.engine c.loop-branch.invariant.constraints c.undo_decision.ensures.constraints
+
+pub returns-clause-known : goal.returns-clause-known
+returns-clause-known c = c.undo_decision.ensures.known
