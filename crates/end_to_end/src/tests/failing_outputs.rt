@@ -10,51 +10,54 @@ use std::process::Abort;
 use std::test::Fail;
 use std::thread::Threads;
 
-/// More calls than any output of these tests gets.
-const MOST_CALLS: usize = 1000;
-
-/// At how many calls the output fails before a run of so many workers has written all, with writes of at most so many bytes.
-fn failing_calls<R: Abort + Threads + Sync>(
+/// Runs the case with an output that takes so many bytes a call and fails after so many calls. A run whose output fails says
+/// so, and any other has written the report.
+fn run_for_calls<R: Abort + Threads + Sync>(
     rt: &R,
     alloc: Global,
     case: &Case,
     step: usize,
     workers: u32,
-) -> usize {
-    for calls_left in 0..MOST_CALLS {
-        let mut written = Vec::new(alloc);
-        let out = Failing {
-            inner: &mut written,
-            step,
-            calls_left,
-        };
-        let options = options(rt, case.format, workers, 0);
-        let ended = run_on(rt, alloc, case.text, None::<Empty>, options, out);
-        if !ended.out_failed {
-            assert_eq!(rt; ended, Ended::reported(case.status));
-            assert_eq!(rt; written.as_slice(), case.report);
-            return calls_left;
-        }
+    calls_left: usize,
+    fails: bool,
+) {
+    let mut written = Vec::new(alloc);
+    let out = Failing {
+        inner: &mut written,
+        step,
+        calls_left,
+    };
+    let options = options(rt, case.format, workers, 0);
+    let ended = run_on(rt, alloc, case.text, None::<Empty>, options, out);
+    if fails {
         assert_eq!(rt;
             ended,
             Ended::failed(RunFault::Write),
             "at call {calls_left}"
         );
+    } else {
+        assert_eq!(rt; ended, Ended::reported(case.status), "at call {calls_left}");
+        assert_eq!(rt; written.as_slice(), case.report, "at call {calls_left}");
     }
-    MOST_CALLS
 }
 
 #[test]
 fn outputs_that_fail_at_any_call(rt: HostRuntime) {
     for case in &CASES {
         for (step, workers) in [(1usize, 2), (3, 1)] {
-            let calls = failing_calls(&rt, rt.alloc(), case, step, workers);
             // The last call is the flush.
-            assert_eq!(rt;
-                calls,
-                case.report.len().div_ceil(step) + 1,
-                "{step} bytes a call"
-            );
+            let writes = case.report.len().div_ceil(step);
+            for calls_left in 0..writes + 3 {
+                run_for_calls(
+                    &rt,
+                    rt.alloc(),
+                    case,
+                    step,
+                    workers,
+                    calls_left,
+                    calls_left <= writes,
+                );
+            }
         }
     }
 }

@@ -1,8 +1,8 @@
 use Rattle.std.proofs.Common.{codes}
 use Rattle.std.specs.Prelude.{◌≢◌}
 use Rattle.clap.specs.Words.{Text}
-use Rattle.pb_solve.specs.declared.options.Format.{Format}
-use Rattle.pb_solve.specs.declared.options.Format.TheVariants.{Opb, Cnf, Icnf}
+use Rattle.pb_read.specs.declared.format.Format.{Format}
+use Rattle.pb_read.specs.declared.format.Format.TheVariants.{Opb, Cnf, Icnf}
 use Rattle.pbcube.specs.CommandLine.{format_name}
 use Rattle.pbcube.proofs.words.format_of.Goals as goal
 
