@@ -94,3 +94,6 @@ taken_moves old new a false h = record {
   sound = λ _. h.sound;
   not_after = subst (λ (i : Incumbent). IsNotAfter old.problem old.held i.held) (sym (h.refused refl).0) (not_after_itself old.problem old.held);
 }
+
+pub moves_itself : (x : Incumbent) → MovesOn x x
+moves_itself x = record { same_instance = refl; sound = λ h. h; not_after = not_after_itself x.problem x.held }

@@ -1,5 +1,5 @@
 -- The invariant of the search: how it starts, goes on and ends.
-use Rattle.std.proofs.Common.{◌≡◌, ℕ, ◌<◌, ◌≤◌, List, [], ◌∷◌, ◌++◌, length, refl, sym, ◌∙◌, ap, subst, arith, Bool, true, false, All, inl, inr, ◌⊎◌, Option, None, Some}
+use Rattle.std.proofs.Common.{◌≡◌, ℕ, ◌+◌, ◌<◌, length-append, ◌≤◌, List, [], ◌∷◌, ◌++◌, length, refl, sym, ◌∙◌, ap, subst, arith, Bool, true, false, All, inl, inr, ◌⊎◌, Option, None, Some}
 use Rattle.std.specs.Prelude.{IsSomeAnd, IfSome, IfNone, vec_capacity, ◌↔◌}
 use Rattle.std.proofs.lemmas.List.Elements.{All-nil, All-append}
 use Rattle.std.proofs.lemmas.List.{append-nil, get_or-map, length-map}
@@ -17,9 +17,9 @@ use Rattle.pb_search.specs.declared.search_state.SearchState.{SearchState}
 use Rattle.pb_cubes.specs.Pieces.{CubeList}
 use Rattle.pb_search.specs.Layout.{IsLaidOut}
 use Rattle.pb_search.specs.Held.{IsNotAfter}
-use Rattle.pb_search.specs.Paths.{decided, LiesOpen, LeavesOpen, IsOtherValue}
+use Rattle.pb_search.specs.Paths.{decided, steps_left, LiesOpen, LeavesOpen, IsOtherValue}
 use Rattle.pb_search.specs.Solutions.{SameConstraints, Satisfies, SatisfiesUnder, Completes}
-use Rattle.pb_search.specs.SearchState.{IsEngineOf, IsStateOf, IsAtPath, IsFree, IsClosed, SameBranches, IsUnderWay, IsLeaving, IsNext, IsOwn}
+use Rattle.pb_search.specs.SearchState.{IsEngineOf, IsStateOf, IsAtPath, IsFree, IsClosed, SameBranches, IsUnderWay, IsLeaving, IsNext, LeavesFewer, IsOwn}
 use Rattle.pb_search.proofs.HeldLemmas.{improvement_on_earlier}
 use Rattle.pb_search.proofs.PathLemmas.{decide_keeps, leaves_open, leaves_last, turn_keeps}
 use Rattle.pb_search.proofs.Engines.{same_constraints_onward, same_constraints_itself}
@@ -226,3 +226,14 @@ rest_laid_out p pieces cube rest new h made same = record {
   cube_rows = h.cube_rows;
   rest_rows = subst (λ (rows : List PositiveRow). (a : List Bool) → MeetsRows a rows ↔ (IsFeasible p a × All (λ c. MakesFalse a c) pieces.cubes)) (sym same.rows) h.rest_rows;
 }
+
+-- what a branch that is next says at the instance that the search began with
+pub at_next : (p q : Problem) (start : EngineState) (t u : SearchState) (b : Branch) (old new : Option Solution) → q ≡ p → (IsUnderWay q start t old → IsNext q start u b new) → IsUnderWay p start t old → IsNext p start u b new
+at_next p q start t u b old new same f h = at_problem p q (λ (x : Problem). IsUnderWay x start t old) (λ (x : Problem). IsNext x start u b new) same f h
+
+-- the decision that is made leaves fewer steps
+pub next_falls : (p q : Problem) (vars : ℕ) (old new path : List Branch) (b : Branch) → q ≡ p → LeavesFewer q old new b → path ≡ new ++ b ∷ [] → length path ≤ vars → vars ≡ p.vars → steps_left p.vars path < steps_left p.vars old
+next_falls p q vars old new path b same fewer added few is =
+    let n : length path ≡ length new + 1 = ap (λ (x : List Branch). length x) added ∙ length-append new (b ∷ []) in
+    let low : length new < p.vars = omega arith in
+    subst (λ (x : List Branch). steps_left p.vars x < steps_left p.vars old) (sym added) (subst (λ (x : Problem). LeavesFewer x old new b) same fewer low)

@@ -35,6 +35,7 @@ impl<'a> SearchState<'a> {
         ensures candidate { IfOk result (λ t. length t.candidate ≡ normal.now.vars) }
         ensures room { IfOk result (λ t. normal.now.vars ≤ vec_capacity t.branches) }
     {
+        // The engine comes last: an early return past it would let go of it field by field, and cost a minute to prove.
         let (branches, candidate, order) = make_room(alloc, normal, negated)?;
         let engine = Engine::new(alloc, normal, negated)?;
         Ok(SearchState {

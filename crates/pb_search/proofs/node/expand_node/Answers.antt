@@ -1,7 +1,10 @@
-use Rattle.std.proofs.Common.{rules, ◌≡◌, ◌∙◌, refl, ap}
+use Rattle.std.proofs.Common.{rules, ◌≡◌, ◌∙◌, refl, sym, ap, subst, inl}
 use Rattle.pb_engine.specs.EngineState.{EngineState, is_conflict}
 use Rattle.pb_trail.specs.declared.propagation.Step.TheVariants.{Conflict}
-use Rattle.pb_search.proofs.Engines.{same_constraints, propagated}
+use Rattle.pb_engine.specs.Soundness.{IsSoundTrail}
+use Rattle.pb_search.specs.AgreedPrefix.{KnowsHeldPrefix}
+use Rattle.pb_search.proofs.HeldLemmas.{moves_itself}
+use Rattle.pb_search.proofs.Engines.{same_constraints, same_constraints_itself, propagated}
 use Rattle.pb_search.proofs.AgreedPrefixLemmas.{knows_added}
 use Rattle.pb_search.proofs.SearchLemmas.{none_closed, same_engine}
 use Rattle.pb_search.proofs.node.expand_node.Goals as goal
@@ -65,3 +68,57 @@ take_leaf-requires-clause-engine g c =
     same_engine c.args.best.now.problem c.args.state.now.engine c.check_bound-pruning.new.engine
     (same_constraints c.args.state.now.engine c.check_bound-pruning.new.engine c.propagate.new.self.trail c.args.state.now.engine.levels (is_conflict c.propagate.result) (c.check_bound-pruning.ensures.unchanged ∙ c.propagate.ensures.added))
     c.requires.state.engine
+
+pub returns-then-conflict-clause-same_branches : goal.returns-then-conflict-clause-same_branches
+returns-then-conflict-clause-same_branches g c = record { constraints = same_constraints_itself c.args.state.now.engine; assumptions = refl; branches = refl; room = refl }
+
+pub returns-then-conflict-clause-moves_on : goal.returns-then-conflict-clause-moves_on
+returns-then-conflict-clause-moves_on g c = moves_itself c.args.best.now
+
+pub returns-then-conflict-clause-own : goal.returns-then-conflict-clause-own
+returns-then-conflict-clause-own g c = inl refl
+
+pub returns-then-eq-clause-moves_on : goal.returns-then-eq-clause-moves_on
+returns-then-eq-clause-moves_on g c = moves_itself c.args.best.now
+
+pub returns-then-eq-clause-own : goal.returns-then-eq-clause-own
+returns-then-eq-clause-own g c = inl refl
+
+pub returns-then-eq-2-clause-moves_on : goal.returns-then-eq-2-clause-moves_on
+returns-then-eq-2-clause-moves_on g c = moves_itself c.args.best.now
+
+pub returns-then-eq-2-clause-own : goal.returns-then-eq-2-clause-own
+returns-then-eq-2-clause-own g c = inl refl
+
+pub returns-clause-moves_on : goal.returns-clause-moves_on
+returns-clause-moves_on g c = moves_itself c.args.best.now
+
+pub returns-clause-own : goal.returns-clause-own
+returns-clause-own g c = inl refl
+
+pub returns-then-eq-2-clause-sound : goal.returns-then-eq-2-clause-sound
+returns-then-eq-2-clause-sound g c = subst (λ (e : EngineState). IsSoundTrail e) (sym c.check_bound-pruning.ensures.unchanged) c.propagate.ensures.sound
+
+pub take_leaf-requires-clause-sound : goal.take_leaf-requires-clause-sound
+take_leaf-requires-clause-sound g c = subst (λ (e : EngineState). IsSoundTrail e) (sym c.check_bound-pruning.ensures.unchanged) c.propagate.ensures.sound
+
+pub returns-in_default-clause-sound : goal.returns-in_default-clause-sound
+returns-in_default-clause-sound g c = subst (λ (e : EngineState). IsSoundTrail e) (sym c.check_bound-pruning.ensures.unchanged) c.propagate.ensures.sound
+
+pub returns-clause-sound : goal.returns-clause-sound
+returns-clause-sound g c = subst (λ (e : EngineState). IsSoundTrail e) (sym c.check_bound-pruning.ensures.unchanged) c.propagate.ensures.sound
+
+pub returns-then-eq-2-clause-known : goal.returns-then-eq-2-clause-known
+returns-then-eq-2-clause-known g c = subst (λ (e : EngineState). KnowsHeldPrefix e.trail c.args.best.now.held c.check_bound-pruning.new.agreed) (sym c.check_bound-pruning.ensures.unchanged) c.check_bound-pruning.ensures.known
+
+pub returns-clause-known : goal.returns-clause-known
+returns-clause-known g c = subst (λ (e : EngineState). KnowsHeldPrefix e.trail c.args.best.now.held c.check_bound-pruning.new.agreed) (sym c.check_bound-pruning.ensures.unchanged) c.check_bound-pruning.ensures.known
+
+pub returns-in_default-clause-closed : goal.returns-in_default-clause-closed
+returns-in_default-clause-closed g c = c.take_leaf.ensures.closed
+
+pub returns-in_default-clause-moves_on : goal.returns-in_default-clause-moves_on
+returns-in_default-clause-moves_on g c = c.take_leaf.ensures.moves_on
+
+pub returns-in_default-clause-own : goal.returns-in_default-clause-own
+returns-in_default-clause-own g c = c.take_leaf.ensures.own

@@ -1,11 +1,13 @@
-use Rattle.std.proofs.Common.{◌≡◌, ◌∙◌, ◌∷◌, [], arith, refl, subst}
+use Rattle.std.proofs.Common.{◌≡◌, ◌≤◌, ◌∙◌, ◌∷◌, [], ℕ, arith, refl, sym, subst}
+use Rattle.std.specs.Prelude.{vec_capacity}
 use Rattle.pb_inst.specs.Problem.{Problem}
 use Rattle.pb_search.specs.Held.{IsNotAfter}
 use Rattle.pb_search.specs.declared.search_state.SearchState.{SearchState}
-use Rattle.pb_search.specs.SearchState.{IsUnderWay, IsNext, IsOwn, IsStateOf}
+use Rattle.pb_search.specs.SearchState.{IsUnderWay, IsNext, IsOwn, IsSearched, IsStateOf}
 use Rattle.pb_search.proofs.AgreedPrefixLemmas.{knows_longer}
-use Rattle.pb_search.proofs.HeldLemmas.{moves_onward, not_after_itself}
-use Rattle.pb_search.proofs.SearchLemmas.{goes_on, at_problem, own_onward, state_moves}
+use Rattle.pb_search.proofs.Engines.{same_constraints_onward}
+use Rattle.pb_search.proofs.HeldLemmas.{moves_onward, moves_itself, not_after_itself}
+use Rattle.pb_search.proofs.SearchLemmas.{begins, goes_on, at_problem, at_next, next_falls, own_onward, state_moves}
 use Rattle.std.proofs.Common.{inl}
 use Rattle.pb_search.proofs.node.search_subtree.Goals as goal
 
@@ -54,3 +56,63 @@ loop-branch-preserved g c =
 
 pub returns-clause-moves_on : goal.returns-clause-moves_on
 returns-clause-moves_on g c = moves_onward c.args.best.now c.loop-branch.best c.next_branch.new.best c.loop-branch.invariant.moves_on c.next_branch.ensures.moves_on
+
+pub loop-branch-init : goal.loop-branch-init
+loop-branch-init g c = record {
+  under_way = begins c.args.best.now.problem c.args.state.now c.args.best.now.held c.requires.state c.requires.sound c.requires.no_decisions;
+  moves_on = moves_itself c.args.best.now;
+  own = λ none. inl refl;
+  kept = g.met.S.Share.keeps_itself _;
+  same_lending = refl;
+  counted = omega arith;
+  known = c.none-agreed.ensures c.args.state.now.engine.trail c.args.best.now.held;
+}
+
+pub next_branch-requires-clause-state : goal.next_branch-requires-clause-state
+next_branch-requires-clause-state g c = subst (λ (p : Problem). IsStateOf p c.loop-branch.state) (sym c.loop-branch.invariant.moves_on.same_instance) c.loop-branch.invariant.under_way.made_for
+
+pub next_branch-requires-clause-at_path : goal.next_branch-requires-clause-at_path
+next_branch-requires-clause-at_path g c = record { root = _; at = c.loop-branch.invariant.under_way.at_path }
+
+pub decide-requires-clause-at_path : goal.decide-requires-clause-at_path
+decide-requires-clause-at_path g c =
+    let next = at_next c.args.best.now.problem c.loop-branch.best.problem c.args.state.now.engine c.loop-branch.state c.next_branch.new.state c.in-Some.branch c.loop-branch.best.held c.next_branch.new.best.held c.loop-branch.invariant.moves_on.same_instance (c.in-Some.ensures.next c.args.state.now.engine) c.loop-branch.invariant.under_way in
+    record { root = _; at = next.at_path }
+
+pub decide-requires-clause-free : goal.decide-requires-clause-free
+decide-requires-clause-free g c =
+    let next = at_next c.args.best.now.problem c.loop-branch.best.problem c.args.state.now.engine c.loop-branch.state c.next_branch.new.state c.in-Some.branch c.loop-branch.best.held c.next_branch.new.best.held c.loop-branch.invariant.moves_on.same_instance (c.in-Some.ensures.next c.args.state.now.engine) c.loop-branch.invariant.under_way in
+    next.free
+
+pub decide-requires-clause-room : goal.decide-requires-clause-room
+decide-requires-clause-room g c =
+    let next = at_next c.args.best.now.problem c.loop-branch.best.problem c.args.state.now.engine c.loop-branch.state c.next_branch.new.state c.in-Some.branch c.loop-branch.best.held c.next_branch.new.best.held c.loop-branch.invariant.moves_on.same_instance (c.in-Some.ensures.next c.args.state.now.engine) c.loop-branch.invariant.under_way in
+    subst (λ (n : ℕ). n ≤ vec_capacity c.next_branch.new.state.branches) (sym next.made_for.engine.vars) next.made_for.room
+
+pub loop-branch-smaller-then-decisions-eq0 : goal.loop-branch-smaller-then-decisions-eq0
+loop-branch-smaller-then-decisions-eq0 g c =
+    let next = at_next c.args.best.now.problem c.loop-branch.best.problem c.args.state.now.engine c.loop-branch.state c.next_branch.new.state c.in-Some.branch c.loop-branch.best.held c.next_branch.new.best.held c.loop-branch.invariant.moves_on.same_instance (c.in-Some.ensures.next c.args.state.now.engine) c.loop-branch.invariant.under_way in
+    next_falls c.args.best.now.problem c.loop-branch.best.problem c.next_branch.new.state.engine.vars c.loop-branch.state.branches.items c.next_branch.new.state.branches.items c.decide.new.path.items c.in-Some.branch c.loop-branch.invariant.moves_on.same_instance c.in-Some.ensures.fewer c.decide.ensures.added c.decide.ensures.few next.made_for.engine.vars
+
+pub loop-branch-smaller : goal.loop-branch-smaller
+loop-branch-smaller g c =
+    let next = at_next c.args.best.now.problem c.loop-branch.best.problem c.args.state.now.engine c.loop-branch.state c.next_branch.new.state c.in-Some.branch c.loop-branch.best.held c.next_branch.new.best.held c.loop-branch.invariant.moves_on.same_instance (c.in-Some.ensures.next c.args.state.now.engine) c.loop-branch.invariant.under_way in
+    next_falls c.args.best.now.problem c.loop-branch.best.problem c.next_branch.new.state.engine.vars c.loop-branch.state.branches.items c.next_branch.new.state.branches.items c.decide.new.path.items c.in-Some.branch c.loop-branch.invariant.moves_on.same_instance c.in-Some.ensures.fewer c.decide.ensures.added c.decide.ensures.few next.made_for.engine.vars
+
+pub returns-clause-searched : goal.returns-clause-searched
+returns-clause-searched g c =
+    at_problem c.args.best.now.problem c.loop-branch.best.problem (λ p. IsUnderWay p c.args.state.now.engine c.loop-branch.state c.loop-branch.best.held) (λ p. IsSearched p c.args.state.now.engine c.next_branch.new.best.held) c.loop-branch.invariant.moves_on.same_instance (c.in_default.ensures.finished c.args.state.now.engine) c.loop-branch.invariant.under_way
+
+pub returns-clause-held_sound : goal.returns-clause-held_sound
+returns-clause-held_sound g c = c.next_branch.ensures.moves_on.sound (c.loop-branch.invariant.moves_on.sound c.requires.held_sound)
+
+pub returns-clause-own : goal.returns-clause-own
+returns-clause-own g c none =
+    own_onward c.args.state.now.engine c.args.best.now c.loop-branch.best c.next_branch.new.best (c.loop-branch.invariant.own none)
+    (at_problem c.args.best.now.problem c.loop-branch.best.problem (λ p. IsUnderWay p c.args.state.now.engine c.loop-branch.state c.loop-branch.best.held) (λ _. IsOwn c.args.state.now.engine c.loop-branch.best c.next_branch.new.best) c.loop-branch.invariant.moves_on.same_instance (c.next_branch.ensures.own c.args.state.now.engine) c.loop-branch.invariant.under_way)
+
+pub returns-clause-made_for : goal.returns-clause-made_for
+returns-clause-made_for g c = subst (λ (p : Problem). IsStateOf p c.next_branch.new.state) c.loop-branch.invariant.moves_on.same_instance c.next_branch.ensures.made_for
+
+pub returns-clause-constraints : goal.returns-clause-constraints
+returns-clause-constraints g c = same_constraints_onward c.args.state.now.engine c.loop-branch.state.engine c.next_branch.new.state.engine c.loop-branch.invariant.under_way.constraints c.next_branch.ensures.constraints
