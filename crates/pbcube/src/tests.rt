@@ -8,6 +8,7 @@ use std::io::{self, Error, ErrorKind, Read, Write};
 use std::process::Abort;
 use std::str;
 use std::test::Fail;
+use std::thread::Threads;
 
 const TIE: &[u8] =
     b"* #variable= 3 #constraint= 2\nmin: 2 x1 3 x2 1 x3 ;\n1 x1 1 x2 >= 1 ;\n1 x2 1 x3 >= 1 ;\n";
@@ -87,6 +88,22 @@ impl Write for Full {
     fn flush(&mut self) -> io::Result<()> {
         Err(Error::from(ErrorKind::Other))
     }
+}
+
+// What a run wrote to either output, and its exit status.
+#[derive(Drop)]
+struct Outcome {
+    out: Vec<u8>,
+    err: Vec<u8>,
+    status: u8,
+}
+
+// One function runs the program for every test over the folder, so that its call is proved once.
+fn run_on_folder<'a>(rt: &(impl Threads + Sync), alloc: Global, words: &'a [&'a str]) -> Outcome {
+    let mut out = Vec::new(alloc);
+    let mut err = Vec::new(alloc);
+    let status = program(rt, alloc, words, &mut Folder, &mut out, &mut err);
+    Outcome { out, err, status }
 }
 
 // The words after the program's name, what is written to standard output and to standard error, and the exit status.
@@ -223,14 +240,16 @@ const CASES: [Case; 17] = [
 #[test]
 fn outputs_and_statuses(rt: HostRuntime) -> Result<(), Fail> {
     for case in &CASES {
-        let mut out = Vec::new(rt.alloc());
-        let mut err = Vec::new(rt.alloc());
-        let status = program(&rt, rt.alloc(), case.words, &mut Folder, &mut out, &mut err);
-        assert_eq!(rt; status, case.status, "{:?}", case.words);
-        assert_eq!(rt; out.as_slice(), case.out, "{:?}", case.words);
-        assert_eq!(rt; err.as_slice(), case.err, "{:?}", case.words);
+        assert_case(&rt, rt.alloc(), case);
     }
     Ok(())
+}
+
+fn assert_case(rt: &(impl Abort + Threads + Sync), alloc: Global, case: &Case) {
+    let outcome = run_on_folder(rt, alloc, case.words);
+    assert_eq!(rt; outcome.status, case.status, "{:?}", case.words);
+    assert_eq!(rt; outcome.out.as_slice(), case.out, "{:?}", case.words);
+    assert_eq!(rt; outcome.err.as_slice(), case.err, "{:?}", case.words);
 }
 
 #[test]
@@ -290,14 +309,21 @@ const REFUSED: [(&[&str], &str); 11] = [
 #[test]
 fn refused_words(rt: HostRuntime) -> Result<(), Fail> {
     for (words, part) in &REFUSED {
-        let mut out = Vec::new(rt.alloc());
-        let mut err = Vec::new(rt.alloc());
-        let status = program(&rt, rt.alloc(), *words, &mut Folder, &mut out, &mut err);
-        assert_eq!(rt; status, 2, "{words:?}");
-        assert_eq!(rt; out.len(), 0, "{words:?}");
-        assert_has(&rt, err.as_slice(), part);
+        assert_refused(&rt, rt.alloc(), *words, *part);
     }
     Ok(())
+}
+
+fn assert_refused(
+    rt: &(impl Abort + Threads + Sync),
+    alloc: Global,
+    words: &'static [&'static str],
+    part: &str,
+) {
+    let outcome = run_on_folder(rt, alloc, words);
+    assert_eq!(rt; outcome.status, 2, "{words:?}");
+    assert_eq!(rt; outcome.out.len(), 0, "{words:?}");
+    assert_has(rt, outcome.err.as_slice(), part);
 }
 
 const SHORT_HELP: [&str; 8] = [
@@ -324,21 +350,12 @@ const LONG_HELP: [&str; 6] = [
 fn help_goes_to_standard_output(rt: HostRuntime) -> Result<(), Fail> {
     let helps: [(&str, &[&str]); 2] = [("-h", &SHORT_HELP), ("--help", &LONG_HELP)];
     for (word, parts) in &helps {
-        let mut out = Vec::new(rt.alloc());
-        let mut err = Vec::new(rt.alloc());
         let words = ["pbcube", *word];
-        let status = program(
-            &rt,
-            rt.alloc(),
-            words.as_slice(),
-            &mut Folder,
-            &mut out,
-            &mut err,
-        );
-        assert_eq!(rt; status, 0);
-        assert_eq!(rt; err.len(), 0);
+        let outcome = run_on_folder(&rt, rt.alloc(), words.as_slice());
+        assert_eq!(rt; outcome.status, 0);
+        assert_eq!(rt; outcome.err.len(), 0);
         for part in *parts {
-            assert_has(&rt, out.as_slice(), part);
+            assert_has(&rt, outcome.out.as_slice(), part);
         }
     }
     Ok(())
