@@ -6,11 +6,10 @@ ghost use Rattle.pb_solve.specs.Report.{line, kind_name, fault_text, refusal_tex
 
 use crate::device::Device;
 use crate::options::Refusal;
-use pb_read::Format;
 use crate::sending::Chunk;
 use itoa::{Buffer, Integer};
 use pb_inst::{Assignment, Number};
-use pb_read::{ReadFault, ReadKind};
+use pb_read::{Format, ReadFault, ReadKind};
 use std::io::Write;
 
 /// A text and the line's end.

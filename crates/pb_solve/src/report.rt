@@ -7,9 +7,9 @@ ghost use Rattle.pb_solve.specs.Report.{refusal_report, memory_report, infeasibl
 use crate::device::Device;
 use crate::lines::{put_cost, put_line, put_refusal, put_values};
 use crate::options::{Refusal, RunFault, Status};
-use pb_read::Format;
 use crate::sending::Chunk;
 use pb_inst::{Assignment, Number};
+use pb_read::Format;
 use std::io::Write;
 
 /// Reports that something was refused.

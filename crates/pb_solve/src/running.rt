@@ -10,7 +10,6 @@ ghost use Rattle.pb_solve.specs.Run.{Reports, Answers, IsUnfailed, IsUnread, fai
 use crate::device::Device;
 use crate::gates::OpenGate;
 use crate::options::{Options, RunFault, Status};
-use pb_read::Format;
 use crate::preparing::{Halt, Prepared, prepare};
 use crate::reading::{CubeFile, NoCubeFile};
 use crate::report::{
@@ -18,6 +17,7 @@ use crate::report::{
 };
 use crate::solving::{SolveFault, solve};
 use pb_inst::{Best, Instance};
+use pb_read::Format;
 use std::alloc::Global;
 use std::io::{Read, Write};
 use std::thread::Threads;
