@@ -15,9 +15,9 @@ pub struct Branch {
     pub lit: Lit,
     /// Whether the other value was tried before it.
     pub flipped: bool,
-    /// The bound of the trail before the decision, or the least number where none was taken: no more than a hint of whether
-    /// to ask the engine again.
-    pub bound: Number,
+    /// The bound of the trail before the decision, or none where none was taken: no more than a hint of whether to ask the
+    /// engine again.
+    pub bound: Option<Number>,
     pub hints: Hints,
 }
 
