@@ -7,7 +7,7 @@ ghost use Rattle.pb_solve.specs.Claims.{IsWholeWork};
 
 use crate::gates::Gate;
 use crate::parts::Part;
-use crate::working::work;
+use crate::working::work_over;
 use pb_board::{Board, Seat};
 use pb_cubes::Pieces;
 use pb_inst::{Instance, Memory};
@@ -83,7 +83,7 @@ impl<'a, G: Gate> Crew for SearchCrew<'a, G> {
     }
 
     fn work(&self, alloc: Global, seat: Seat, worker: u32) -> Result<(Part<'_>, Seat), Memory> {
-        work(
+        work_over(
             alloc,
             self.inst,
             self.pieces,

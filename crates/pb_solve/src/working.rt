@@ -1,5 +1,6 @@
 //! The whole work of one worker.
 ghost use Rattle.std.specs.Prelude.{◌≡◌, ◌<◌, ◌≤◌, ◌⊎◌, ◌+◌, ◌^◌, ◌++◌, ◌∷◌, [], length, All, IfOk, IfSome, IfNone};
+ghost use Rattle.pb_normal.specs.NormalForm.{KeepsCost, KeepsFeasible};
 ghost use Rattle.pb_search.specs.Done.{IsDone};
 ghost use Rattle.pb_solve.specs.Claims.{EndsPast, IsWholeWork, pieces_among};
 ghost use Rattle.pb_share.specs.Sharing.{SameSeat};
@@ -9,21 +10,50 @@ use crate::parts::Part;
 use pb_board::{Board, Seat};
 use pb_cubes::Pieces;
 use pb_inst::{Best, Instance, Memory};
+use pb_normal::Normal;
 use pb_search::{Search, SearchTables};
 use pb_share::BoardShare;
 use std::alloc::Global;
 
 /// The whole work of one worker: it claims numbers from the board until it gets one that is no piece, and searches each
 /// piece that it got, of which it tells the gate before. The part names exactly the claims of the answered seat that are
-/// pieces, in order. The tables are lent, to any number of workers at a time; what the worker changes is its own.
+/// pieces, in order. The worker builds the tables of its searches for itself; where many share them, `solve` lends them.
 ///
-/// Asks for tables of the instance and the pieces, a seat of this board without claims, a board for the instance's
-/// variables, and a worker below the board's number of workers. At `Memory` the seat is dropped.
-pub fn work<'i, G: Gate>(
+/// Asks for a normal form of the instance, pieces over its variables, a seat of this board without claims, a board for the
+/// instance's variables, and a worker below the board's number of workers. At `Memory` the seat is dropped.
+pub fn work<'i, G: Gate + Sync>(
+    alloc: Global,
+    inst: &'i Instance,
+    normal: &Normal,
+    pieces: &'i Pieces,
+    board: &Board,
+    seat: Seat,
+    worker: u32,
+    gate: &G,
+) -> Result<(Part<'i>, Seat), Memory>
+    requires vars { normal.now.vars ≡ inst.now.vars }
+    requires feasible { KeepsFeasible inst.now normal.now }
+    requires costs { KeepsCost inst.now normal.now }
+    requires pieces { pieces.now.vars ≡ inst.now.vars }
+    requires seat { seat.board ≡ board.now.id }
+    requires unclaimed { seat.claimed ≡ [] }
+    requires board { board.now.vars ≡ inst.now.vars }
+    requires worker { worker < board.now.workers }
+    ensures whole { IfOk result (λ done. IsWholeWork inst.now pieces.now done.0 done.1.claimed) }
+    ensures seat { IfOk result (λ done. (done.1.board ≡ board.now.id) × (done.1.parts ≡ seat.parts)) }
+    ensures claims { IfOk result (λ done. length done.1.claimed ≤ 2 ^ 32) }
+{
+    let tables = SearchTables::new(alloc, inst, normal, pieces)?;
+    work_over(alloc, inst, pieces, &tables, board, seat, worker, gate)
+}
+
+/// The same over tables of the instance and the pieces that are lent, to any number of workers at a time; what the worker
+/// changes is its own.
+pub(crate) fn work_over<'i, G: Gate>(
     alloc: Global,
     inst: &'i Instance,
     pieces: &'i Pieces,
-    tables: &'i SearchTables<'i>,
+    tables: &SearchTables<'_>,
     board: &Board,
     seat: Seat,
     worker: u32,

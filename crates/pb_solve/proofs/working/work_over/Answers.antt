@@ -4,7 +4,7 @@ use Rattle.pb_inst.specs.Incumbent.{Incumbent}
 use Rattle.pb_board.specs.Seats.{SeatView}
 use Rattle.pb_search.specs.Done.{Division}
 use Rattle.pb_solve.proofs.WorkLaws.{part_done, whole_work}
-use Rattle.pb_solve.proofs.working.work.Goals as goal
+use Rattle.pb_solve.proofs.working.work_over.Goals as goal
 
 pub new-requires : goal.new-requires
 new-requires g c =
