@@ -17,7 +17,7 @@ use crate::root::{assume_cube, return_to_root};
 use crate::search_state::SearchState;
 use crate::tables::SearchTables;
 use pb_cubes::{Piece, Pieces};
-use pb_engine::Step;
+use pb_engine::{Step, clause_laws};
 use pb_inst::{Best, Instance, Lit, Memory};
 use pb_normal::Normal;
 use std::alloc::Global;
@@ -97,6 +97,7 @@ impl<'a> Search<'a> {
         ensures { IfOk result (λ s. s ≡ record { division = record { problem = instance.now; cubes = pieces.now.cubes }; decisions = 0 }) }
     {
         let _vars = instance.vars();
+        clause_laws();
         let cube = SearchState::new(alloc, normal, &[])?;
         let rest = SearchState::new(alloc, normal, pieces.cubes())?;
         Ok(Search {

@@ -1,6 +1,6 @@
 //! Worked rows: slacks, what is propagated, conflicts and bounds.
 
-use crate::{Count, Engine, Step};
+use crate::{Count, CountingEngine, Engine, Step};
 use pb_inst::{InstanceBuilder, Lit, Magnitude, Number, Relation, Term};
 use pb_normal::{Normal, normalise};
 use std::alloc::Global;
@@ -45,7 +45,11 @@ pub fn form(
 }
 
 /// The slack of a row by its counter, or none where it is negative.
-pub fn slack<C: Count>(rt: &impl Abort, engine: &Engine<'_, C>, row: usize) -> Option<Magnitude> {
+pub fn slack<C: Count>(
+    rt: &impl Abort,
+    engine: &CountingEngine<'_, C>,
+    row: usize,
+) -> Option<Magnitude> {
     let slacks = engine.propagator.slacks();
     assert!(rt; row < slacks.rows());
     slacks
@@ -54,7 +58,7 @@ pub fn slack<C: Count>(rt: &impl Abort, engine: &Engine<'_, C>, row: usize) -> O
         .checked_sub(slacks.degree(row))
 }
 
-pub fn assume<C: Count>(rt: &impl Abort, engine: &mut Engine<'_, C>, number: i32) -> Step {
+pub fn assume<C: Count>(rt: &impl Abort, engine: &mut CountingEngine<'_, C>, number: i32) -> Step {
     let lit = lit(rt, number);
     assert!(rt; lit.var() <= engine.vars());
     assert!(rt; engine.value(lit.var()).is_none());
@@ -62,12 +66,12 @@ pub fn assume<C: Count>(rt: &impl Abort, engine: &mut Engine<'_, C>, number: i32
     engine.assume(lit)
 }
 
-pub fn propagate<C: Count>(rt: &impl Abort, engine: &mut Engine<'_, C>) -> Step {
+pub fn propagate<C: Count>(rt: &impl Abort, engine: &mut CountingEngine<'_, C>) -> Step {
     assert!(rt; !engine.conflict());
     engine.propagate()
 }
 
-pub fn undo_to<C: Count>(rt: &impl Abort, engine: &mut Engine<'_, C>, level: u32) {
+pub fn undo_to<C: Count>(rt: &impl Abort, engine: &mut CountingEngine<'_, C>, level: u32) {
     assert!(rt; level <= engine.level());
     engine.undo_to(level);
 }
@@ -86,7 +90,7 @@ pub enum Move {
 }
 
 /// Makes the move, and says whether it comes out as it is to.
-fn comes_out<C: Count>(rt: &impl Abort, engine: &mut Engine<'_, C>, made: Move) -> bool {
+fn comes_out<C: Count>(rt: &impl Abort, engine: &mut CountingEngine<'_, C>, made: Move) -> bool {
     match made {
         Move::Assume(number) => assume(rt, engine, number) == Step::Fixed,
         Move::Propagate(step) => propagate(rt, engine) == step,
@@ -106,7 +110,7 @@ fn comes_out<C: Count>(rt: &impl Abort, engine: &mut Engine<'_, C>, made: Move) 
 /// in far less time than as many calls.
 pub fn play<C: Count>(
     rt: &impl Abort,
-    engine: &mut Engine<'_, C>,
+    engine: &mut CountingEngine<'_, C>,
     moves: &[Move],
 ) -> Option<usize> {
     for place in 0..moves.len() {
@@ -123,7 +127,7 @@ const THREE: &[(Number, i32)] = &[(3, 1), (2, 2), (1, 3)];
 #[test]
 fn forces_what_is_greater_than_the_slack(rt: HostRuntime) {
     let form = form(&rt, rt.alloc(), 3, &[], &[(THREE, 4)]);
-    let mut engine: Engine<'_> = Engine::new(rt.alloc(), &form, &[]).expect(&rt, "memory");
+    let mut engine = Engine::new(rt.alloc(), &form, &[]).expect(&rt, "memory");
     let moves = [
         Move::Slack(0, Some(2)),
         Move::Propagate(Step::Fixed),
@@ -148,7 +152,7 @@ fn forces_what_is_greater_than_the_slack(rt: HostRuntime) {
 #[test]
 fn puts_a_slack_back_after_undo(rt: HostRuntime) {
     let form = form(&rt, rt.alloc(), 3, &[], &[(THREE, 4)]);
-    let mut engine: Engine<'_> = Engine::new(rt.alloc(), &form, &[]).expect(&rt, "memory");
+    let mut engine = Engine::new(rt.alloc(), &form, &[]).expect(&rt, "memory");
     let moves = [
         Move::Propagate(Step::Fixed),
         Move::Assume(2),
@@ -168,7 +172,7 @@ fn puts_a_slack_back_after_undo(rt: HostRuntime) {
 fn a_conflict_leaves_no_slack_behind(rt: HostRuntime) {
     let rows: &[(&[(Number, i32)], Number)] = &[(&[(1, 1), (1, 2)], 1), (&[(1, 1), (1, -2)], 1)];
     let form = form(&rt, rt.alloc(), 2, &[], rows);
-    let mut engine: Engine<'_> = Engine::new(rt.alloc(), &form, &[]).expect(&rt, "memory");
+    let mut engine = Engine::new(rt.alloc(), &form, &[]).expect(&rt, "memory");
     let moves = [
         Move::Propagate(Step::Fixed),
         Move::Assume(-1),
@@ -190,10 +194,10 @@ fn rows_that_cannot_be_met_are_conflicts(rt: HostRuntime) {
     let two: &[(Number, i32)] = &[(2, 1), (2, 2)];
     let rows: &[(&[(Number, i32)], Number)] = &[(two, 3), (&[(-2, 1), (-2, 2)], -3)];
     let form_of_two = form(&rt, rt.alloc(), 2, &[], rows);
-    let mut engine: Engine<'_> = Engine::new(rt.alloc(), &form_of_two, &[]).expect(&rt, "memory");
+    let mut engine = Engine::new(rt.alloc(), &form_of_two, &[]).expect(&rt, "memory");
     assert!(rt; propagate(&rt, &mut engine) == Step::Conflict);
     let empty = form(&rt, rt.alloc(), 1, &[], &[(&[(0, 1)], 1)]);
-    let mut engine: Engine<'_> = Engine::new(rt.alloc(), &empty, &[]).expect(&rt, "memory");
+    let mut engine = Engine::new(rt.alloc(), &empty, &[]).expect(&rt, "memory");
     assert!(rt; propagate(&rt, &mut engine) == Step::Conflict);
 }
 
@@ -201,7 +205,7 @@ fn rows_that_cannot_be_met_are_conflicts(rt: HostRuntime) {
 fn bounds_by_what_is_paid(rt: HostRuntime) {
     let rows: &[(&[(Number, i32)], Number)] = &[(&[(1, 1), (1, 2)], 1)];
     let form = form(&rt, rt.alloc(), 2, &[(-2, 1), (3, 2)], rows);
-    let mut engine: Engine<'_> = Engine::new(rt.alloc(), &form, &[]).expect(&rt, "memory");
+    let mut engine = Engine::new(rt.alloc(), &form, &[]).expect(&rt, "memory");
     let moves = [
         Move::Bound(-2),
         Move::Assume(-1),
@@ -220,7 +224,7 @@ fn two_rows_that_share(rt: &impl Abort, alloc: Global) -> Normal {
 #[test]
 fn counts_only_one_of_two_rows_that_share_a_variable(rt: HostRuntime) {
     let form = two_rows_that_share(&rt, rt.alloc());
-    let mut engine: Engine<'_> = Engine::new(rt.alloc(), &form, &[]).expect(&rt, "memory");
+    let mut engine = Engine::new(rt.alloc(), &form, &[]).expect(&rt, "memory");
     let moves = [
         Move::Bound(2),
         Move::Assume(1),
@@ -241,7 +245,7 @@ fn adds_up_rows_that_share_no_variable(rt: HostRuntime) {
     let rows: &[(&[(Number, i32)], Number)] = &[(&[(1, 1), (1, 2)], 1), (&[(1, 3), (1, 4)], 1)];
     let costs: &[(Number, i32)] = &[(2, 1), (3, 2), (4, 3), (5, 4)];
     let form = form(&rt, rt.alloc(), 4, costs, rows);
-    let mut engine: Engine<'_> = Engine::new(rt.alloc(), &form, &[]).expect(&rt, "memory");
+    let mut engine = Engine::new(rt.alloc(), &form, &[]).expect(&rt, "memory");
     assert_eq!(rt; engine.bound(), 6);
     assert_eq!(rt; engine.bound(), 6);
 }
@@ -250,7 +254,7 @@ fn adds_up_rows_that_share_no_variable(rt: HostRuntime) {
 fn counts_as_many_literals_as_the_need_takes(rt: HostRuntime) {
     let rows: &[(&[(Number, i32)], Number)] = &[(&[(1, 1), (1, 2), (1, 3)], 2)];
     let form = form(&rt, rt.alloc(), 3, &[(1, 1), (2, 2), (4, 3)], rows);
-    let mut engine: Engine<'_> = Engine::new(rt.alloc(), &form, &[]).expect(&rt, "memory");
+    let mut engine = Engine::new(rt.alloc(), &form, &[]).expect(&rt, "memory");
     assert_eq!(rt; engine.bound(), 2);
 }
 
@@ -259,6 +263,6 @@ fn bounds_by_great_costs(rt: HostRuntime) {
     let rows: &[(&[(Number, i32)], Number)] = &[(&[(1, 1), (1, 2)], 2)];
     let costs: &[(Number, i32)] = &[(4611686018427387903, 1), (4611686018427387904, 2)];
     let form = form(&rt, rt.alloc(), 2, costs, rows);
-    let mut engine: Engine<'_> = Engine::new(rt.alloc(), &form, &[]).expect(&rt, "memory");
+    let mut engine = Engine::new(rt.alloc(), &form, &[]).expect(&rt, "memory");
     assert_eq!(rt; engine.bound(), 9223372036854775806);
 }

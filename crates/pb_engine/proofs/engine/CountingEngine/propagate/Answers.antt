@@ -3,7 +3,7 @@ use Rattle.pb_normal.specs.NormalForm.{PositiveRow}
 use Rattle.pb_trail.specs.Completion.{HasNoCompletion}
 use Rattle.pb_trail.specs.EngineState.{EngineState, is_conflict}
 use Rattle.pb_engine.proofs.BesideLemmas.{HasCounters-propagated}
-use Rattle.pb_engine.proofs.engine.Engine.propagate.Goals as goal
+use Rattle.pb_engine.proofs.engine.CountingEngine.propagate.Goals as goal
 
 pub invariant_of-self : goal.invariant_of-self
 invariant_of-self g c =
