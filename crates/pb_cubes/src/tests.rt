@@ -50,6 +50,19 @@ fn uneven(rt: &impl Abort, alloc: Global) -> Instance {
     builder.finish(5).ok().expect(rt, "an instance")
 }
 
+/// `min: 1 x3` with `1 x1 1 x1 1 x2 >= 1`.
+fn repeated(rt: &impl Abort, alloc: Global) -> Instance {
+    let terms = [term(rt, 1, 1), term(rt, 1, 1), term(rt, 1, 2)];
+    let mut builder = InstanceBuilder::new(alloc);
+    builder
+        .set_objective(&[term(rt, 1, 3)])
+        .expect(rt, "an objective");
+    builder
+        .add(&terms, Relation::AtLeast, 1)
+        .expect(rt, "a constraint");
+    builder.finish(3).ok().expect(rt, "an instance")
+}
+
 /// No constraint.
 fn empty(rt: &impl Abort, alloc: Global, n: u32) -> Instance {
     let builder = InstanceBuilder::new(alloc);
@@ -83,6 +96,24 @@ fn splits_by_occurrences(rt: HostRuntime) {
     for (k, want) in wants.iter().enumerate() {
         let cubes = split(alloc, &instance, k as u32).ok().expect(&rt, "cubes");
         assert_eq!(rt; shown(&rt, alloc, &cubes).as_str(), *want, "k = {k}");
+    }
+}
+
+/// A term counts as often as it is written, and the objective does not.
+#[test]
+fn counts_repeated_terms(rt: HostRuntime) {
+    let alloc = rt.alloc();
+    let instance = repeated(&rt, alloc);
+    let wants = [
+        (1, "-1 / 1 / "),
+        (
+            3,
+            "-1 -2 -3 / -1 -2 3 / -1 2 -3 / -1 2 3 / 1 -2 -3 / 1 -2 3 / 1 2 -3 / 1 2 3 / ",
+        ),
+    ];
+    for (k, want) in wants {
+        let cubes = split(alloc, &instance, k).ok().expect(&rt, "cubes");
+        assert_eq!(rt; shown(&rt, alloc, &cubes).as_str(), want, "k = {k}");
     }
 }
 

@@ -37,6 +37,35 @@ fn a_share_lends_what_was_offered(rt: HostRuntime) -> Result<(), Fail> {
     Ok(())
 }
 
+/// The key that a share of a board without other workers offers for the cost.
+fn offered_key(alloc: Global, cost: Number) -> Result<u64, Fail> {
+    let (board, seat) = Board::new(alloc, Workers::new(1)?, 0)?;
+    let mut share = BoardShare::new(&board, seat, 0);
+    share.offer(cost, &Assignment::new(alloc, 0)?);
+    let mut seat = share.into_seat();
+    Ok(board.least(&mut seat))
+}
+
+/// Costs in their order, the least and the greatest among them, with their keys.
+const KEYS: [(Number, u64); 7] = [
+    (-9_223_372_036_854_775_807, 1),
+    (-2, 9_223_372_036_854_775_806),
+    (-1, 9_223_372_036_854_775_807),
+    (0, 9_223_372_036_854_775_808),
+    (3, 9_223_372_036_854_775_811),
+    (9_223_372_036_854_775_806, 18_446_744_073_709_551_614),
+    (9_223_372_036_854_775_807, 18_446_744_073_709_551_615),
+];
+
+// Keys stand in the order of costs up to both ends. That of the greatest cost is what a board without an offer has.
+#[test]
+fn keys_keep_the_order_of_costs(rt: HostRuntime) -> Result<(), Fail> {
+    for (cost, key) in KEYS {
+        assert_eq!(rt; offered_key(rt.alloc(), cost)?, key, "cost {cost}");
+    }
+    Ok(())
+}
+
 /// Whether one of a worker's first two borrows gives what another one of three offered.
 fn is_lent_in_two(alloc: Global, borrower: u32, offerer: u32) -> Result<bool, Fail>
     requires { (borrower < 3) × (offerer < 3) }
