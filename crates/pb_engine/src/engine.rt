@@ -205,8 +205,10 @@ impl<'a, C: Count> Engine<'a, C> {
 }
 
 #[cfg(test)]
+mod clause_tests;
+#[cfg(test)]
 mod count_tests;
 #[cfg(test)]
-mod propagation_tests;
+mod courses;
 #[cfg(test)]
 mod tests;
