@@ -210,8 +210,10 @@ impl<'a, C: Count> CountingEngine<'a, C> {
 }
 
 #[cfg(test)]
+mod clause_tests;
+#[cfg(test)]
 mod count_tests;
 #[cfg(test)]
-mod propagation_tests;
+mod courses;
 #[cfg(test)]
 mod tests;

@@ -1,6 +1,6 @@
 //! The same course with counters of 64 and of 128 bits.
 
-use crate::engine::tests::{form, slack};
+use crate::engine::courses::{form, rows, slack};
 use crate::{Count, CountingEngine, Engine, Step};
 use pb_inst::{Lit, Magnitude, Number};
 use pb_normal::Normal;
@@ -19,7 +19,7 @@ fn look<C: Count>(rt: &impl Abort, alloc: Global, engine: &mut CountingEngine<'_
         values.push(engine.value(var)).expect(rt, "memory");
     }
     let mut slacks = Vec::new(alloc);
-    for row in 0..engine.propagator.slacks().rows() {
+    for row in 0..rows(engine) {
         slacks.push(slack(rt, engine, row)).expect(rt, "memory");
     }
     (engine.bound(), values, slacks)
