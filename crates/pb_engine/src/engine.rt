@@ -18,7 +18,7 @@ use crate::needs::Needs;
 use pb_bits::Marks;
 use pb_inst::{Cube, Lit, Memory, Number};
 use pb_normal::Normal;
-use pb_rows::{Clauses, Count, RowTerms, Rows, Tables};
+use pb_rows::{Clauses, Count, RowTerms, Rows, TablesSource};
 use pb_trail::{Propagator, Step};
 use std::alloc::Global;
 use std::marker::Model;
@@ -60,8 +60,8 @@ impl<'a, C: Count> CountingEngine<'a, C> {
         ensures rows { IfOk result (λ e. (clauses : List PositiveRow) × (e.rows ≡ form.now.rows ++ clauses) × AreClausesOf negated.now clauses) }
         ensures empty { IfOk result (λ e. (e.trail ≡ []) × (e.levels ≡ []) × (e.conflict ≡ false)) }
     {
-        let tables = Tables::new(alloc, form, negated)?;
-        CountingEngine::start(alloc, tables)
+        let source = TablesSource::new(alloc, form, negated)?;
+        CountingEngine::start(alloc, source)
     }
 
     /// The empty trail over rows and clauses that are lent. Nothing after it takes memory.
@@ -75,15 +75,15 @@ impl<'a, C: Count> CountingEngine<'a, C> {
         ensures rows { IfOk result (λ e. e.rows ≡ rows.now.form.rows ++ clauses.now.rows) }
         ensures empty { IfOk result (λ e. (e.trail ≡ []) × (e.levels ≡ []) × (e.conflict ≡ false)) }
     {
-        CountingEngine::start(alloc, Tables::lent(rows, clauses))
+        CountingEngine::start(alloc, TablesSource::lent(rows, clauses))
     }
 
     /// The empty trail.
-    fn start(alloc: Global, tables: Tables<'a, C>) -> Result<CountingEngine<'a, C>, Memory>
-        ensures { IfOk result (λ e. e ≡ record { form = tables.entry.form; vars = tables.entry.vars; rows = tables.entry.rows; trail = []; levels = []; conflict = false }) }
+    fn start(alloc: Global, source: TablesSource<'a, C>) -> Result<CountingEngine<'a, C>, Memory>
+        ensures { IfOk result (λ e. e ≡ record { form = source.entry.form; vars = source.entry.vars; rows = source.entry.rows; trail = []; levels = []; conflict = false }) }
     {
-        let propagator = Propagator::new(alloc, tables)?;
-        let needs = Needs::new(alloc, propagator.slacks())?;
+        let propagator = Propagator::new(alloc, source)?;
+        let needs = Needs::new(alloc, &propagator.slacks())?;
         let marks = Marks::new(alloc, propagator.vars())?;
         Ok(CountingEngine {
             propagator,
@@ -193,8 +193,8 @@ impl<'a, C: Count> CountingEngine<'a, C> {
         ensures unchanged { self.new ≡ self.old }
     {
         let slacks = self.propagator.slacks();
-        let payment = payment(slacks, &mut self.needs, &mut self.marks);
-        bound_with(slacks, payment)
+        let payment = payment(&slacks, &mut self.needs, &mut self.marks);
+        bound_with(&slacks, payment)
     }
 
     /// Takes back every assumption above the level, and what was added since.
@@ -204,7 +204,7 @@ impl<'a, C: Count> CountingEngine<'a, C> {
         ensures sound { IsSoundTrail self.new }
     {
         let start = self.propagator.start_of(level);
-        self.needs.take_back(self.propagator.slacks(), start);
+        self.needs.take_back(&self.propagator.slacks(), start);
         self.propagator.undo_to(level);
     }
 }

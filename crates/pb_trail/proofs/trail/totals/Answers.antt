@@ -5,7 +5,7 @@ use Rattle.pb_normal.specs.declared.terms.PositiveTerm.{PositiveTerm}
 use Rattle.pb_rows.specs.Constraints.{row_at}
 use Rattle.pb_trail.specs.Trail.{reachable}
 use Rattle.pb_trail.proofs.TrailLemmas.{reachable-nil}
-use Rattle.pb_trail.proofs.slacks.totals.Goals as goal
+use Rattle.pb_trail.proofs.trail.totals.Goals as goal
 
 last_number : (xs : List ℕ) (x k : ℕ) → k ≡ length xs → get_or (xs ++ x ∷ []) k 0 ≡ x
 last_number xs x k h = get_or-append_right xs (x ∷ []) (length xs) k 0 refl (omega arith) ∙ ap (λ (i : ℕ). get_or (x ∷ []) i 0) (let nought : k - length xs ≡ 0 = omega arith in nought)

@@ -2,7 +2,7 @@ use Rattle.std.proofs.Common.{◌≡◌, ◌<◌, ℕ, arith, ap, ◌∙◌, get
 use Rattle.std.proofs.lemmas.List.{get_or_default}
 use Rattle.pb_rows.specs.Occurrences.{Occurrence}
 use Rattle.pb_rows.proofs.TableLemmas.{total_by-nil, total_by-within, lower_step}
-use Rattle.pb_trail.proofs.slacks.lower.Goals as goal
+use Rattle.pb_trail.proofs.trail.lower.Goals as goal
 
 pub loop-occurrence-init : goal.loop-occurrence-init
 loop-occurrence-init g c = λ r h. omega (arith, total_by-nil g.O.Occurs.occurrence r)
