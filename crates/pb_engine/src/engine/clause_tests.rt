@@ -1,6 +1,6 @@
 //! Clauses of cubes, and a row of a million literals.
 
-use crate::engine::courses::{Course, Move, form, lit};
+use crate::engine::courses::{Course, Move, assume, form, propagate, undo_to};
 use crate::{Engine, Step};
 use pb_inst::Number;
 use std::process::Abort;
@@ -83,28 +83,24 @@ fn the_empty_cube_conflicts_at_once(rt: HostRuntime) {
     assert_eq!(rt; course.failure(&rt, rt.alloc()), None);
 }
 
-/// Makes the variables from 1 up to one before `last` false one by one, and says whether that leaves `last` without a value
-/// each time before the rows are looked at.
+/// Makes the variables before `last` false one by one, and says whether each time `last` has no value before the rows are
+/// looked at.
 fn refute_all_before(rt: &impl Abort, engine: &mut Engine<'_>, last: u32) -> bool {
     for var in 1..last {
-        let lit = lit(rt, (var as i32).wrapping_neg());
-        assert!(rt; lit.var() <= engine.vars());
-        assert!(rt; engine.value(lit.var()).is_none());
-        assert!(rt; !engine.conflict());
-        engine.assume(lit);
-        if engine.value(last).is_some() || engine.propagate() != Step::Fixed {
+        let fixed = assume(rt, engine, (var as i32).wrapping_neg()) == Step::Fixed;
+        if !fixed || engine.value(last).is_some() || propagate(rt, engine) == Step::Conflict {
             return false;
         }
     }
     true
 }
 
-/// The same, and whether the last one is then true, and without a value once the last assumption is taken back.
+/// The same, and whether `last` is true then, and without a value once the last assumption is taken back.
 fn last_is_forced(rt: &impl Abort, engine: &mut Engine<'_>, last: u32) -> bool {
     let refuted = refute_all_before(rt, engine, last);
     let forced = engine.value(last) == Some(true);
     let level = engine.level().saturating_sub(1);
-    engine.undo_to(level);
+    undo_to(rt, engine, level);
     refuted && forced && engine.value(last).is_none()
 }
 

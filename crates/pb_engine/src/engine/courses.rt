@@ -82,7 +82,7 @@ fn comes_out(rt: &impl Abort, engine: &mut Engine<'_>, made: Move<'_>) -> bool {
     }
 }
 
-fn assume(rt: &impl Abort, engine: &mut Engine<'_>, number: i32) -> Step {
+pub fn assume(rt: &impl Abort, engine: &mut Engine<'_>, number: i32) -> Step {
     let lit = lit(rt, number);
     assert!(rt; lit.var() <= engine.vars());
     assert!(rt; engine.value(lit.var()).is_none());
@@ -90,12 +90,12 @@ fn assume(rt: &impl Abort, engine: &mut Engine<'_>, number: i32) -> Step {
     engine.assume(lit)
 }
 
-fn propagate(rt: &impl Abort, engine: &mut Engine<'_>) -> Step {
+pub fn propagate(rt: &impl Abort, engine: &mut Engine<'_>) -> Step {
     assert!(rt; !engine.conflict());
     engine.propagate()
 }
 
-fn undo_to(rt: &impl Abort, engine: &mut Engine<'_>, level: u32) {
+pub fn undo_to(rt: &impl Abort, engine: &mut Engine<'_>, level: u32) {
     assert!(rt; level <= engine.level());
     engine.undo_to(level);
 }

@@ -2,7 +2,7 @@ use Rattle.std.proofs.Common.{◌≡◌, ◌≤◌, List, get_or, subst, arith, 
 use Rattle.std.proofs.lemmas.Bool.{cases_lt}
 use Rattle.std.proofs.lemmas.List.{get_or_read}
 use Rattle.pb_inst.specs.Literal.{Literal}
-use Rattle.pb_engine.proofs.engine.propagation_tests.are_within.Goals as goal
+use Rattle.pb_engine.proofs.engine.courses.are_within.Goals as goal
 
 pub loop-cube-preserved : goal.loop-cube-preserved
 loop-cube-preserved c = λ k d h.

@@ -2,7 +2,7 @@ use Rattle.std.proofs.Common.{◌≡◌, ◌≤◌, get_or, subst, arith, inl, i
 use Rattle.std.proofs.lemmas.Bool.{cases_lt}
 use Rattle.std.proofs.lemmas.List.{get_or_read}
 use Rattle.pb_inst.specs.Literal.{Literal}
-use Rattle.pb_engine.proofs.engine.propagation_tests.is_within.Goals as goal
+use Rattle.pb_engine.proofs.engine.courses.is_within.Goals as goal
 
 pub loop-lit-preserved : goal.loop-lit-preserved
 loop-lit-preserved c = λ k d h.
