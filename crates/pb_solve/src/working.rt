@@ -91,11 +91,11 @@ fn search_claimed<G: Gate>(
     share: &mut BoardShare<'_>,
     gate: &G,
 ) -> Result<Vec<u32>, Memory>
-    requires count { count ≡ length search.old.cubes + 1 }
-    requires same_instance { best.old.problem ≡ search.old.problem }
+    requires count { count ≡ length search.old.division.cubes + 1 }
+    requires same_instance { best.old.problem ≡ search.old.division.problem }
     requires unclaimed { share.old.seat.claimed ≡ [] }
     ensures same_instance { best.new.problem ≡ best.old.problem }
-    ensures done { IfOk result (λ named. All (λ i. IsDone search.old i best.new.held) named.items) }
+    ensures done { IfOk result (λ named. All (λ i. IsDone search.old.division i best.new.held) named.items) }
     ensures named { IfOk result (λ named. named.items ≡ pieces_among count share.new.seat.claimed) }
     ensures most { IfOk result (λ named. length share.new.seat.claimed ≤ count + 1) }
     ensures ends { IfOk result (λ named. EndsPast count share.new.seat.claimed ⊎ (length share.new.seat.claimed ≡ count + 1)) }
@@ -109,7 +109,7 @@ fn search_claimed<G: Gate>(
         // What is refused here is refused before the piece is searched, so that no finished work is lost for it.
         named.reserve(1)?;
         gate.pass(share.worker(), piece);
-        search.run(piece, best, share);
+        search.run(piece, best, share, None);
         named.push_reserved(piece);
     }
     Ok(named)

@@ -12,7 +12,7 @@ loop-turn-init g c = record {
   same_search = refl;
   count = ap length c.requires.unclaimed;
   named = none_named c.args.count c.new-named.result.items c.args.share.now.seat.claimed c.new-named.ensures.items c.requires.unclaimed;
-  done = subst (λ (ns : List ℕ). All (λ i. IsDone c.args.search.now i c.args.best.now.held) ns) (sym c.new-named.ensures.items) (All-nil (λ i. IsDone c.args.search.now i c.args.best.now.held));
+  done = subst (λ (ns : List ℕ). All (λ i. IsDone c.args.search.now.division i c.args.best.now.held) ns) (sym c.new-named.ensures.items) (All-nil (λ i. IsDone c.args.search.now.division i c.args.best.now.held));
   seat = same_seat_itself c.args.share.now;
 }
 
@@ -22,7 +22,7 @@ claim_piece-requires g c = omega arith
 pub run-requires-clause-piece : goal.run-requires-clause-piece
 run-requires-clause-piece g c =
     let below = c.in-Some.ensures.piece.0 in
-    let number : length c.loop-turn.search.cubes ≡ length c.args.search.now.cubes = ap (λ (d : Division). length d.cubes) c.loop-turn.invariant.same_search in
+    let number : length c.loop-turn.search.division.cubes ≡ length c.args.search.now.division.cubes = ap (λ (d : Division). length d.cubes) c.loop-turn.invariant.same_search in
     omega arith
 
 pub run-requires-clause-same_instance : goal.run-requires-clause-same_instance
@@ -31,7 +31,7 @@ run-requires-clause-same_instance g c =
 
 pub loop-turn-preserved : goal.loop-turn-preserved
 loop-turn-preserved g c =
-    let search : c.run.new.self ≡ c.args.search.now = c.run.ensures.unchanged ∙ c.loop-turn.invariant.same_search in
+    let search : c.run.new.self.division ≡ c.args.search.now.division = c.run.ensures.unchanged ∙ c.loop-turn.invariant.same_search in
     let claim : c.run.new.share.seat.claimed ≡ c.loop-turn.share.seat.claimed ++ c.in-Some.piece ∷ [] = c.run.ensures.kept.claimed ∙ c.in-Some.ensures.piece.1 in
     let one = c.claim_piece.ensures.one in
     let same : length c.run.new.share.seat.claimed ≡ length c.claim_piece.new.share.seat.claimed = ap length c.run.ensures.kept.claimed in
@@ -42,9 +42,9 @@ loop-turn-preserved g c =
       same_search = search;
       count = omega arith;
       named = named_more c.args.count c.loop-turn.named.items c.push_reserved.new.self.items c.loop-turn.share.seat.claimed c.run.new.share.seat.claimed c.in-Some.piece c.loop-turn.invariant.named pushed claim (is_piece c.in-Some.piece c.args.count c.in-Some.ensures.piece.0);
-      done = done_more c.args.search.now c.loop-turn.named.items c.push_reserved.new.self.items c.in-Some.piece c.loop-turn.best.held c.run.new.best.held pushed
+      done = done_more c.args.search.now.division c.loop-turn.named.items c.push_reserved.new.self.items c.in-Some.piece c.loop-turn.best.held c.run.new.best.held pushed
           (subst (λ (d : Division). IsNotAfter d.problem c.loop-turn.best.held c.run.new.best.held) c.loop-turn.invariant.same_search c.run.ensures.not_after)
-          (subst (λ (d : Division). IsDone d c.in-Some.piece c.run.new.best.held) c.loop-turn.invariant.same_search c.run.ensures.done)
+          (subst (λ (d : Division). IsDone d c.in-Some.piece c.run.new.best.held) c.loop-turn.invariant.same_search (c.run.ensures.done c.run.ensures.no_budget.0))
           c.loop-turn.invariant.done;
       seat = same_seat_onward c.args.share.now c.loop-turn.share c.run.new.share c.loop-turn.invariant.seat
           (same_seat_onward c.loop-turn.share c.claim_piece.new.share c.run.new.share c.claim_piece.ensures.seat (same_seat_kept c.claim_piece.new.share c.run.new.share c.run.ensures.kept));

@@ -9,9 +9,9 @@ use Rattle.pb_solve.proofs.working.search_claimed.Given as goal
 abbrev pub invariant-loop-turn : goal.invariant-loop-turn
 invariant-loop-turn g l = record {
   same_instance : l.best.problem ≡ l.initial.best.problem;
-  same_search : l.search ≡ l.initial.search;
+  same_search : l.search.division ≡ l.initial.search.division;
   count : length l.share.seat.claimed ≡ l._turn;
   named : l.named.items ≡ pieces_among l.count l.share.seat.claimed;
-  done : All (λ i. IsDone l.initial.search i l.best.held) l.named.items;
+  done : All (λ i. IsDone l.initial.search.division i l.best.held) l.named.items;
   seat : SameSeat l.initial.share l.share;
 }
