@@ -122,7 +122,12 @@ impl<C: Count> Needs<C> {
 }
 
 /// What the rows lack once the literal joins the trail.
-fn join<C: Count>(lacks: &mut [Tally<C>], wanting: &mut RowSet, tables: &Tables<'_, '_, C>, lit: Lit)
+fn join<C: Count>(
+    lacks: &mut [Tally<C>],
+    wanting: &mut RowSet,
+    tables: &Tables<'_, '_, C>,
+    lit: Lit,
+)
     requires variable { lit.var ≤ tables.now.vars }
     requires count { length lacks.old ≡ length tables.now.rows }
     requires enough { (r : ℕ) → r < length lacks.old → gain tables.now.form.objective lit (row_at tables.now.rows r).terms ≤ slice_index lacks.old r }
@@ -144,7 +149,12 @@ fn join<C: Count>(lacks: &mut [Tally<C>], wanting: &mut RowSet, tables: &Tables<
 }
 
 /// What the rows lack once the literal leaves the trail.
-fn leave<C: Count>(lacks: &mut [Tally<C>], wanting: &mut RowSet, tables: &Tables<'_, '_, C>, lit: Lit)
+fn leave<C: Count>(
+    lacks: &mut [Tally<C>],
+    wanting: &mut RowSet,
+    tables: &Tables<'_, '_, C>,
+    lit: Lit,
+)
     requires variable { lit.var ≤ tables.now.vars }
     requires count { length lacks.old ≡ length tables.now.rows }
     requires enough { (r : ℕ) → r < length lacks.old → loss tables.now.form.objective (negation lit) (row_at tables.now.rows r).terms ≤ slice_index lacks.old r }

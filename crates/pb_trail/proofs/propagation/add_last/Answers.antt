@@ -1,6 +1,6 @@
-use Rattle.std.proofs.Common.{◌≡◌, ℕ, ◌+◌, ◌<◌, length, get_or, None, ap, sym, subst, ◌∙◌, arith}
+use Rattle.std.proofs.Common.{◌≡◌, ℕ, ◌+◌, ◌<◌, length, get_or, None, ap, sym, subst, arith}
 use Rattle.pb_normal.specs.NormalForm.{PositiveRow}
-use Rattle.pb_rows.specs.Clauses.{clause_row, unit_term}
+use Rattle.pb_rows.specs.Clauses.{unit_term}
 use Rattle.pb_rows.specs.Constraints.{row_at}
 use Rattle.pb_trail.specs.Trail.{value_on}
 use Rattle.pb_trail.specs.Tracked.{TrailState}

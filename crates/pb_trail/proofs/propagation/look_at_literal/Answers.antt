@@ -1,7 +1,7 @@
-use Rattle.std.proofs.Common.{◌≡◌, List, length, ap, subst, arith, refl, inl, inr}
+use Rattle.std.proofs.Common.{List, ap, arith, refl, inl, inr}
 use Rattle.std.proofs.lemmas.Bool.{cases_lt}
 use Rattle.pb_rows.specs.Constraints.{row_at}
-use Rattle.pb_rows.specs.Index.{occurrences_of, total_for}
+use Rattle.pb_rows.specs.Index.{total_for}
 use Rattle.pb_rows.specs.Occurrences.{Occurrence}
 use Rattle.pb_trail.proofs.CompletionLemmas.{AddsForced-trans, length-AddsForced, settled_from-AddsForced}
 use Rattle.pb_trail.proofs.propagation.look_at_literal.Goals as goal

@@ -1,4 +1,4 @@
-use Rattle.std.proofs.Common.{◌≡◌, ℕ, ◌∙◌, All, [], List, Some, true, false, ap, sym, subst}
+use Rattle.std.proofs.Common.{◌≡◌, ℕ, ◌∙◌, All, [], List, Some, true, false, ap, subst}
 use Rattle.std.specs.Vec.{vec_capacity}
 use Rattle.std.proofs.lemmas.List.{get_or_default}
 use Rattle.pb_normal.specs.NormalForm.{PositiveRow}
@@ -7,10 +7,10 @@ use Rattle.pb_trail.specs.Tracked.{IsUpToDate}
 use Rattle.pb_trail.specs.Propagation.{AddsForced, IsBroken}
 use Rattle.pb_trail.specs.Completion.{IsSettled, HasNoCompletion}
 use Rattle.pb_trail.specs.EngineState.{EngineState, HasNegativeSlack}
-use Rattle.pb_trail.specs.Levels.{AllSettled, IsEngine, starts_of}
+use Rattle.pb_trail.specs.Levels.{AllSettled, starts_of}
 use Rattle.pb_trail.proofs.AssumptionLemmas.{full_is_solved}
 use Rattle.pb_trail.proofs.EngineLemmas.{IsEngine-propagated, IsEngine-conflict, none_since_broken, negative_since, sound-IsEngine}
-use Rattle.pb_trail.specs.Soundness.{IsProperTrail, IsSoundTrail}
+use Rattle.pb_trail.specs.Soundness.{IsProperTrail}
 use Rattle.pb_trail.proofs.propagator.Propagator.propagate.Goals as goal
 
 pub invariant_of-self : goal.invariant_of-self

@@ -1,4 +1,4 @@
-use Rattle.std.proofs.Common.{◌≡◌, arith, rules, length, ap, ◌∙◌, List, Option, Bool}
+use Rattle.std.proofs.Common.{arith, rules, length, ap, ◌∙◌, List, Option, Bool}
 use Rattle.std.proofs.lemmas.List.{length-replicate}
 use Rattle.std.specs.Vec.{vec_capacity}
 use Rattle.pb_trail.proofs.TrackedLemmas.{AreValues-nil, IsUpToDate-nil}

@@ -1,4 +1,4 @@
-use Rattle.std.proofs.Common.{◌≡◌, ℕ, ◌+◌, ◌-◌, ◌<◌, ◌++◌, ◌∷◌, [], List, Bool, Option, length, get_or, set, take, drop, ap, sym, subst, ◌∙◌, arith, refl, None, length-set}
+use Rattle.std.proofs.Common.{◌≡◌, ℕ, ◌+◌, ◌-◌, ◌<◌, ◌++◌, ◌∷◌, [], List, Bool, Option, length, get_or, set, take, drop, ap, sym, subst, ◌∙◌, arith, None, length-set}
 use Rattle.std.specs.Vec.{vec_capacity}
 use Rattle.pb_inst.specs.Literal.{Literal}
 use Rattle.pb_rows.specs.Constraints.{row_at}
