@@ -8,14 +8,14 @@ ghost use Rattle.pb_read.specs.Format.{text_refusal};
 ghost use Rattle.pb_solve.specs.Run.{Reports, Answers, IsPrepared, IsUnfailed, IsUnread, failed_after, stops_at_cubes, stops_at_input, text_left};
 
 use crate::device::Device;
-use crate::gates::OpenGate;
 use crate::options::{Options, RunFault, Status};
-use crate::preparing::{Halt, Prepared, prepare};
-use crate::reading::NoCubeFile;
+use crate::prepare::reading::NoCubeFile;
+use crate::prepare::{Halt, Prepared, prepare};
 use crate::report::{
     report_infeasible, report_memory, report_optimum, report_refusal, report_satisfiable,
 };
-use crate::solving::{SolveFault, solve};
+use crate::workers::gate::OpenGate;
+use crate::workers::solve::{SolveFault, solve};
 use pb_inst::{Best, Instance};
 use pb_read::Format;
 use std::alloc::Global;
@@ -83,10 +83,12 @@ fn conclude<R: Threads + Sync, W: Write>(
 {
     match found {
         Ok(found) => answer(rt, alloc, &found, options, out),
-        Err(Halt::Refused(refusal)) => report_refusal(out, refusal),
-        Err(Halt::Memory) => report_memory(out),
-        Err(Halt::ReadInput) => Err(RunFault::ReadInput),
-        Err(Halt::ReadCubes) => Err(RunFault::ReadCubes),
+        Err(halt) => match halt {
+            Halt::Refused(refusal) => report_refusal(out, refusal),
+            Halt::Memory => report_memory(out),
+            Halt::ReadInput => Err(RunFault::ReadInput),
+            Halt::ReadCubes => Err(RunFault::ReadCubes),
+        },
     }
 }
 
