@@ -85,10 +85,11 @@ fn the_empty_cube_conflicts_at_once(rt: HostRuntime) {
 
 /// Makes the variables before `last` false one by one, and says whether each time `last` has no value before the rows are
 /// looked at.
-fn refute_all_before(rt: &impl Abort, engine: &mut Engine<'_>, last: u32) -> bool {
-    for var in 1..last {
-        let fixed = assume(rt, engine, (var as i32).wrapping_neg()) == Step::Fixed;
-        if !fixed || engine.value(last).is_some() || propagate(rt, engine) == Step::Conflict {
+fn refute_all_before(rt: &impl Abort, engine: &mut Engine<'_>, last: i32) -> bool {
+    for number in 1..last {
+        let fixed = assume(rt, engine, number.wrapping_neg()) == Step::Fixed;
+        let open = engine.value(last.unsigned_abs()).is_none();
+        if !fixed || !open || propagate(rt, engine) == Step::Conflict {
             return false;
         }
     }
@@ -96,12 +97,12 @@ fn refute_all_before(rt: &impl Abort, engine: &mut Engine<'_>, last: u32) -> boo
 }
 
 /// The same, and whether `last` is true then, and without a value once the last assumption is taken back.
-fn last_is_forced(rt: &impl Abort, engine: &mut Engine<'_>, last: u32) -> bool {
+fn last_is_forced(rt: &impl Abort, engine: &mut Engine<'_>, last: i32) -> bool {
     let refuted = refute_all_before(rt, engine, last);
-    let forced = engine.value(last) == Some(true);
+    let forced = engine.value(last.unsigned_abs()) == Some(true);
     let level = engine.level().saturating_sub(1);
     undo_to(rt, engine, level);
-    refuted && forced && engine.value(last).is_none()
+    refuted && forced && engine.value(last.unsigned_abs()).is_none()
 }
 
 #[test]
