@@ -78,12 +78,7 @@ fn measure(rt: &HostRuntime, form: &Normal, course: Course, rounds: u32) -> anyh
 }
 
 /// The normal form of the case, and how its rounds go.
-fn form_of(
-    alloc: Global,
-    case: &str,
-    vars: u32,
-    text: &[u8],
-) -> anyhow::Result<(Normal, Course)> {
+fn form_of(alloc: Global, case: &str, vars: u32, text: &[u8]) -> anyhow::Result<(Normal, Course)> {
     let (instance, course) = prepare(alloc, case, vars, text)?;
     Ok((normalise(alloc, &instance)?, course))
 }

@@ -111,7 +111,11 @@ pub fn rows<C: Count>(engine: &CountingEngine<'_, C>) -> usize {
 }
 
 /// The slack of a row by its counter, or none where it is negative.
-pub fn slack<C: Count>(rt: &impl Abort, engine: &CountingEngine<'_, C>, row: usize) -> Option<Magnitude> {
+pub fn slack<C: Count>(
+    rt: &impl Abort,
+    engine: &CountingEngine<'_, C>,
+    row: usize,
+) -> Option<Magnitude> {
     let slacks = engine.propagator.slacks();
     assert!(rt; row < slacks.rows());
     slacks
