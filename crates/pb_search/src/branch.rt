@@ -61,8 +61,8 @@ pub fn decide(
     ensures counted { left.old ≡ one_more left.new }
 {
     engine.assume(branch.lit);
-    path.push_reserved(branch);
     count_down(left);
+    path.push_reserved(branch);
 }
 
 /// Takes one decision off what is left, where there is a budget.
