@@ -1,0 +1,93 @@
+#!/usr/bin/env python3
+"""Runs the built program on the examples and on the commands that README.md shows, and prints what differs.
+
+    tests/examples.py [PROGRAM ..]
+
+Without a word it takes the programs that the merge gate built. An example is a file NAME.opb, NAME.cnf or NAME.icnf of
+examples/, and its ending is its format; NAME.expected is what the program writes on it, with 1, 2, 3 and 64 workers, with
+and without a split, and with the cubes of NAME.cubes where there is such a file. The `s` line tells the exit status.
+"""
+import difflib
+import itertools
+import re
+import subprocess
+import sys
+from pathlib import Path
+
+TOP = Path(__file__).resolve().parent.parent
+FORMATS = ("opb", "cnf", "icnf")
+WORKERS = (1, 2, 3, 64)
+STATUSES = {"s SATISFIABLE": 10, "s UNSATISFIABLE": 20, "s OPTIMUM FOUND": 30}
+
+
+def built():
+    """The programs that the merge gate built: by LLVM, and by Rattle's own compiler where that compiles it."""
+    folder = TOP / "crates/pbcube/out"
+    return [folder / "pbcube", *folder.glob("pbcube.by-rattle")]
+
+
+def divisions(instance, out):
+    """Words that divide the work, none of which changes a byte."""
+    values = next((len(line.split()) - 2 for line in out.splitlines() if line.startswith("v ")), 0)
+    splits = [0, 1, 6] if values >= 6 else [0, 1]  # of six variables: more pieces than workers
+    cubes = instance.with_suffix(".cubes")
+    files = [[], ["--cubes", str(cubes.relative_to(TOP))]] if cubes.exists() else [[]]
+    for workers, split, file in itertools.product(WORKERS, splits, files):
+        yield ["--workers", str(workers), "--split", str(split), *file]
+
+
+def example_rows():
+    """For each example and division: the words, standard output, the first line of standard error, and the status."""
+    folder = TOP / "examples"
+    instances = sorted(it for it in folder.iterdir() if it.suffix[1:] in FORMATS)
+    expected = {it.with_suffix(".expected") for it in instances}
+    for file in expected.symmetric_difference(folder.glob("*.expected")):
+        sys.exit(f"examples: {file.name} and its instance do not stand together")
+    for instance in instances:
+        out = instance.with_suffix(".expected").read_text()
+        status = next(STATUSES[line] for line in out.splitlines() if line in STATUSES)
+        for division in divisions(instance, out):
+            words = ["--format", instance.suffix[1:], *division, str(instance.relative_to(TOP))]
+            yield words, out, "", status
+
+
+def readme_rows():
+    """The same for each row `command`, what it prints, status of the tables of README.md."""
+    rows = re.findall(r"^\| `pbcube (.+?)` \| (.+) \| (\d+) \|$", (TOP / "README.md").read_text(), re.M)
+    if not rows:
+        sys.exit("examples: README.md has no table of commands")
+    for words, printed, status in rows:
+        lines = re.findall(r"`([^`]+)`", printed)
+        if printed.startswith("on standard error"):
+            yield words.split(), "", lines[0], int(status)
+        else:
+            yield words.split(), "".join(f"{line}\n" for line in lines), "", int(status)
+
+
+def differences(program, words, out, complaint, status):
+    """The lines that tell how the run is not as expected."""
+    ran = subprocess.run([program, *words], cwd=TOP, stdin=subprocess.DEVNULL, capture_output=True, timeout=60)
+    written, said = ran.stdout.decode(), ran.stderr.decode().split("\n")[0]
+    found = list(difflib.unified_diff(out.split("\n"), written.split("\n"), "expected", "written", lineterm=""))
+    if said != complaint:
+        found.append(f"standard error: {said!r} and not {complaint!r}")
+    if ran.returncode != status:
+        found.append(f"status {ran.returncode} and not {status}")
+    return found
+
+
+def main(programs):
+    rows = [*example_rows(), *readme_rows()]
+    failed = 0
+    for program in programs or built():
+        for row in rows:
+            found = differences(program, *row)
+            if found:
+                failed += 1
+                print(f"examples: {program} {' '.join(row[0])}", *found, sep="\n  ")
+    print(f"examples and commands: {len(rows) * len(programs or built()) - failed} passed, {failed} failed")
+    return 1 if failed else 0
+
+
+if __name__ == "__main__":
+    sys.exit(main(sys.argv[1:]))

@@ -1,0 +1,238 @@
+#!/usr/bin/env python3
+"""Runs the built program with each of its calls to the system failing in turn, and judges how each run ends.
+
+    tests/faults.py [PROGRAM ..]
+
+Without a word it takes the programs that the merge gate built. The library faults.c is compiled by cc and preloaded. In turn,
+counting on until some runs had no fault: each request for memory is refused, alone and with all that follow; each thread is
+refused; each open, read and write fails; each read and write moves one byte. A run must end as without the fault, or with
+exactly the report of want of memory, or with status 1 and its line on standard error. Without a C compiler nothing is run.
+"""
+import os
+import shutil
+import subprocess
+import sys
+import tempfile
+from concurrent.futures import ThreadPoolExecutor
+from dataclasses import dataclass
+from pathlib import Path
+
+sys.dont_write_bytecode = True
+from examples import TOP, built
+
+SECONDS = 60  # after which a run is taken to hang
+QUIET_RUNS = 3  # how many runs without a fault end the count, since the order of events is another in each run
+MOST_CALLS = 10_000
+
+TIE = "* #variable= 3 #constraint= 2\nmin: 2 x1 3 x2 1 x3 ;\n1 x1 1 x2 >= 1 ;\n1 x2 1 x3 >= 1 ;\n"
+FILES = {
+    "tie.opb": TIE,
+    "negative.opb": "min: -2 x1 -2 x2 ;\n1 x1 1 x2 <= 1 ;\n",
+    "contradiction.opb": "1 x1 >= 1 ;\n1 x1 = 0 ;\n",
+    "product.opb": "1 x1 x2 >= 1 ;\n",
+    "clauses.cnf": "p cnf 2 2\n1 2 0\n-1 2 0\n",
+    "cube.icnf": "p inccnf\n1 2 0\na 1 0\n",
+    # more than is read or written in one call
+    "long.opb": "* #variable= 1000 #constraint= 1\n" + "* a comment line\n" * 5000 + "1 x1000 >= 1 ;\n",
+    # seventeen literals, which take memory of their own
+    "long.cubes": "c a note\na " + "1 " * 16 + "-2 0\na 0\n",
+    "over.cubes": "a 4 0\n",
+}
+
+
+@dataclass(frozen=True)
+class Ended:
+    """How a run ended: standard output, standard error, and the exit status or the negative number of a signal."""
+
+    out: str
+    err: str
+    status: int
+
+
+NO_MEMORY = Ended("c refused: Memory\ns UNKNOWN\n", "", 0)
+CANNOT_WRITE = "pbcube: cannot write\n"
+
+
+@dataclass(frozen=True)
+class Case:
+    words: str
+    ordinary: Ended
+
+    def files(self):
+        return [word for word in self.words.split() if "." in word]
+
+
+def solved(words, out, status):
+    return Case(f"--workers 2 --split 1 {words}", Ended(out, "", status))
+
+
+TIE_REPORT = "o 3\ns OPTIMUM FOUND\nv -x1 x2 -x3\n"
+UNSUPPORTED = "s UNSUPPORTED\n"
+CASES = [
+    solved("tie.opb", TIE_REPORT, 30),
+    solved("negative.opb", "o -2\ns OPTIMUM FOUND\nv -x1 x2\n", 30),
+    solved("contradiction.opb", "s UNSATISFIABLE\n", 20),
+    solved("--format cnf clauses.cnf", "s SATISFIABLE\nv -1 2 0\n", 10),
+    solved("--format icnf cube.icnf", "s SATISFIABLE\nv -1 2 0\n", 10),
+    solved("--cubes long.cubes tie.opb", TIE_REPORT, 30),
+    solved("--cubes over.cubes tie.opb", f"c refused cubes: BadVariable at line 1\n{UNSUPPORTED}", 0),
+    solved("product.opb", f"c refused: NonLinear at line 1\n{UNSUPPORTED}", 0),
+    solved("long.opb", f"s SATISFIABLE\nv{''.join(f' -x{i}' for i in range(1, 1000))} x1000\n", 10),
+    Case("--split 2 contradiction.opb", Ended(f"c refused split: BadSplit\n{UNSUPPORTED}", "", 0)),
+    Case("none.opb", Ended("", "pbcube: cannot read none.opb\n", 1)),
+]
+# command lines, and their statuses: clap's texts are taken from a run without a fault
+COMMAND_LINES = {"--help": 0, "--split 13 tie.opb": 2}
+
+
+@dataclass(frozen=True)
+class Fault:
+    """A kind of call and how it fails, as the library has them."""
+
+    kind: str
+    how: str
+
+    def may_end(self, case, ended):
+        """Whether a run of the case in which the fault came may end so."""
+        if self.kind == "memory":
+            return ended in (case.ordinary, NO_MEMORY)
+        if self.kind == "thread" or self.how == "short":
+            return ended == case.ordinary
+        if self.kind == "write":
+            return self.may_end_unwritten(case.ordinary, ended)
+        return ended in [Ended("", f"pbcube: cannot read {file}\n", 1) for file in case.files()]
+
+    def may_end_unwritten(self, ordinary, ended):
+        """A report that is not taken whole is a fault; a line on standard error that is not taken is none."""
+        if ordinary.err:
+            return ended.out == ordinary.out and ordinary.err.startswith(ended.err) and ended.status == ordinary.status
+        said = "" if self.how == "on" else CANNOT_WRITE
+        return ended.out != ordinary.out and ordinary.out.startswith(ended.out) and ended.err == said and ended.status == 1
+
+
+FAULTS = [
+    Fault("memory", "once"),
+    Fault("memory", "on"),
+    Fault("thread", "once"),
+    Fault("open", "once"),
+    Fault("read", "once"),
+    Fault("read", "short"),
+    Fault("write", "once"),
+    Fault("write", "on"),
+    Fault("write", "short"),
+]
+
+
+@dataclass(frozen=True)
+class Bench:
+    """A program, the preloaded library, and the folder of the files."""
+
+    program: Path
+    library: str
+    folder: Path
+
+    def run(self, words, environment, *files):
+        """How the program ends on these words, with these file descriptors left open."""
+        ran = subprocess.run(
+            [self.program, *words.split()],
+            cwd=self.folder,
+            env=environment,
+            pass_fds=files,
+            stdin=subprocess.DEVNULL,
+            capture_output=True,
+            timeout=SECONDS,
+        )
+        return Ended(ran.stdout.decode(), ran.stderr.decode(), ran.returncode)
+
+    def run_with(self, fault, at, words):
+        """The same with the fault at the call of this number, and whether that call came."""
+        told, tell = os.pipe()
+        environment = {
+            "LD_PRELOAD": self.library,
+            "FAULT_KIND": fault.kind,
+            "FAULT_HOW": fault.how,
+            "FAULT_AT": str(at),
+            "FAULT_TELL": str(tell),
+        }
+        with open(told, "rb") as came:
+            try:
+                ended = self.run(words, environment, tell)
+            finally:
+                os.close(tell)
+            return ended, bool(came.read())
+
+    def cases(self):
+        for words, status in COMMAND_LINES.items():
+            ended = self.run(words, {})
+            if ended.status != status or not ended.out + ended.err:
+                sys.exit(f"faults: {words}: {ended}")
+            yield Case(words, ended)
+        yield from CASES
+
+
+def count_on(bench, case, fault):
+    """In how many runs the fault came and how many of them it changed, and what is to be said of the runs that ended badly."""
+    came, changed, bad, quiet = 0, 0, [], 0
+    for at in range(1, MOST_CALLS):
+        name = f"faults: {case.words}: {fault.kind} {fault.how} at call {at}"
+        try:
+            ended, is_come = bench.run_with(fault, at, case.words)
+        except subprocess.TimeoutExpired:
+            return came, changed, [*bad, f"{name}: no end after {SECONDS} seconds"]
+        quiet = 0 if is_come else quiet + 1
+        came += is_come
+        changed += ended != case.ordinary
+        if not (fault.may_end(case, ended) if is_come else ended == case.ordinary):
+            bad.append(f"{name}: {ended}")
+        if quiet == QUIET_RUNS:
+            return came, changed, bad
+    return came, changed, [*bad, f"{name}: the calls do not end"]
+
+
+def build_library(folder):
+    """The library of faults, or nothing where there is no C compiler with the headers of the C library."""
+    compiler = shutil.which(os.environ.get("CC", "cc"))
+    if not compiler:
+        return None
+    probe = subprocess.run([compiler, "-E", "-"], input=b"#include <dlfcn.h>\n", capture_output=True)
+    if probe.returncode:
+        return None
+    library = str(folder / "faults.so")
+    subprocess.run([compiler, "-O1", "-shared", "-fPIC", "-o", library, str(TOP / "tests/faults.c"), "-ldl"], check=True)
+    return library
+
+
+def judge(bench):
+    """Tells of each fault how the runs with it ended. How many of them ended well, and how many badly."""
+    cases = list(bench.cases())
+    passed = failed = 0
+    with ThreadPoolExecutor() as pool:
+        for fault in FAULTS:
+            counts = list(pool.map(lambda case: count_on(bench, case, fault), cases))
+            came, changed = sum(it[0] for it in counts), sum(it[1] for it in counts)
+            bad = [line for it in counts for line in it[2]]
+            if not came:
+                bad.append(f"faults: {fault.kind} {fault.how}: no run made such a call")
+            name = f"faults: {bench.program.name}: {fault.kind} {fault.how}"
+            print(*bad, f"{name}: came in {came} runs, and changed the end of {changed}", sep="\n", flush=True)
+            passed, failed = passed + came - len(bad), failed + len(bad)
+    return passed, failed
+
+
+def main(programs):
+    with tempfile.TemporaryDirectory(prefix="pbcube-faults-") as room:
+        folder = Path(room)
+        library = build_library(folder)
+        if not library:
+            print("faults: left out, since there is no C compiler (cc) here")
+            return 0
+        for name, text in FILES.items():
+            (folder / name).write_text(text)
+        counts = [judge(Bench(Path(it).resolve(), library, folder)) for it in programs or built()]
+    passed, failed = sum(it[0] for it in counts), sum(it[1] for it in counts)
+    print(f"faults: {passed} passed, {failed} failed")
+    return 1 if failed else 0
+
+
+if __name__ == "__main__":
+    sys.exit(main(sys.argv[1:]))
