@@ -6,15 +6,15 @@
 mod instances;
 mod rounds;
 
-use crate::rounds::{Course, run};
+use crate::rounds::{Counts, Course, run};
 use anyhow::Context;
 use pb_engine::Engine;
-use pb_inst::Instance;
+use pb_inst::{Instance, Memory};
 use pb_normal::{Normal, normalise};
 use std::alloc::Global;
-use std::env;
 use std::io::Read;
-use std::time::Instant;
+use std::time::{Duration, Instant};
+use std::{env, io};
 
 /// The instance of a case, and how its rounds go.
 fn prepare(
@@ -46,19 +46,44 @@ fn number(words: &mut env::Args) -> anyhow::Result<u32> {
     Ok(word.parse()?)
 }
 
-/// Builds an engine over the normal form, runs the rounds and says what they did and how long that took.
-fn measure(rt: &HostRuntime, form: &Normal, course: Course, rounds: u32) -> anyhow::Result<()> {
-    let start = Instant::now(rt)?;
+/// What the rounds did, and when the engine stood. An instant that the clock refuses is told once the engine is gone.
+type Measured = (io::Result<Duration>, Counts);
+
+/// Builds an engine over the normal form, and runs the rounds.
+fn run_rounds(
+    rt: &HostRuntime,
+    start: &Instant,
+    form: &Normal,
+    course: Course,
+    rounds: u32,
+) -> Result<Measured, Memory> {
     let mut engine = Engine::new(rt.alloc(), form, &[])?;
-    let built = start.elapsed(rt)?.as_secs_f64();
-    let counts = run(&mut engine, course, rounds);
+    let built = start.elapsed(rt);
+    Ok((built, run(&mut engine, course, rounds)))
+}
+
+/// Runs the rounds on an engine over the normal form, and says what they did and how long that took.
+fn measure(rt: &HostRuntime, form: &Normal, course: Course, rounds: u32) -> anyhow::Result<()> {
+    println!(rt; "{} rows, {} terms", form.len(), terms(form))?;
+    if rounds == 0 {
+        return Ok(());
+    }
+    let start = Instant::now(rt)?;
+    let (built, counts) = run_rounds(rt, &start, form, course, rounds)?;
+    let built = built?.as_secs_f64();
     let seconds = start.elapsed(rt)?.as_secs_f64() - built;
     println!(rt; "{counts:?}")?;
     eprintln!(rt; "engine {built:.3} s, rounds {seconds:.3} s")?;
     Ok(())
 }
 
-/// Makes the instance of the case and its normal form, and measures an engine over it.
+/// The normal form of the case, and how its rounds go.
+fn form_of(alloc: Global, case: &str, vars: u32, text: &[u8]) -> anyhow::Result<(Normal, Course)> {
+    let (instance, course) = prepare(alloc, case, vars, text)?;
+    Ok((normalise(alloc, &instance)?, course))
+}
+
+/// Makes the normal form of the case, and measures an engine over it.
 fn measure_case(
     rt: &HostRuntime,
     case: &str,
@@ -66,14 +91,8 @@ fn measure_case(
     rounds: u32,
     text: &[u8],
 ) -> anyhow::Result<()> {
-    let (instance, course) = prepare(rt.alloc(), case, vars, text)?;
-    let form = normalise(rt.alloc(), &instance)?;
-    drop(instance);
-    println!(rt; "{} rows, {} terms", form.len(), terms(&form))?;
-    if rounds > 0 {
-        measure(rt, &form, course, rounds)?;
-    }
-    Ok(())
+    let (form, course) = form_of(rt.alloc(), case, vars, text)?;
+    measure(rt, &form, course, rounds)
 }
 
 fn main(rt: HostRuntime) -> anyhow::Result<()> {

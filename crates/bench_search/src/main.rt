@@ -66,11 +66,11 @@ fn pieces_of(alloc: Global, instance: &Instance, k: u32) -> Option<Pieces>
 
 /// Searches all pieces in order.
 fn search_all(search: &mut Search<'_>, count: u32, best: &mut Best<'_>, counter: &mut Counter)
-    requires pieces { count ≤ length search.old.cubes + 1 }
-    requires same_instance { best.old.problem ≡ search.old.problem }
+    requires pieces { count ≤ length search.old.division.cubes + 1 }
+    requires same_instance { best.old.problem ≡ search.old.division.problem }
 {
     for piece in 0..count {
-        search.run(piece, best, counter);
+        search.run(piece, best, counter, None);
     }
 }
 
@@ -90,8 +90,8 @@ fn timed(
     count: u32,
     best: &mut Best<'_>,
 ) -> Option<Measured>
-    requires pieces { count ≤ length search.old.cubes + 1 }
-    requires same_instance { best.old.problem ≡ search.old.problem }
+    requires pieces { count ≤ length search.old.division.cubes + 1 }
+    requires same_instance { best.old.problem ≡ search.old.division.problem }
 {
     let mut counter = Counter {
         asked: 0,

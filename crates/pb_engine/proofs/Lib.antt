@@ -7,3 +7,4 @@ pub mod CounterLemmas
 pub mod DisjointLemmas
 pub mod DisjointBound
 pub mod SpareLemmas
+pub mod ClauseLemmas

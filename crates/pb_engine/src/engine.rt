@@ -18,20 +18,24 @@ use crate::needs::Needs;
 use pb_bits::Marks;
 use pb_inst::{Cube, Lit, Memory, Number};
 use pb_normal::Normal;
-use pb_rows::{Clauses, Count, RowTerms, Rows, Tables};
+use pb_rows::{Clauses, Count, RowTerms, Rows, TablesSource};
 use pb_trail::{Propagator, Step};
 use std::alloc::Global;
 use std::marker::Model;
 
-/// Rows, a trail over their variables with some literals assumed, and whether a conflict stands.
+/// An engine that counts in 64 bits: what searches use.
+pub type Engine<'a> = CountingEngine<'a, u64>;
+
+/// Rows, a trail over their variables with some literals assumed, and whether a conflict stands. It counts in numbers of
+/// type `C`.
 #[derive(Debug, Drop)]
-pub struct Engine<'a, C: Count = u64> {
+pub struct CountingEngine<'a, C: Count> {
     propagator: Propagator<'a, C>,
     needs: Needs<C>,
     marks: Marks,
 }
 
-impl<'a, C: Count> Model for Engine<'a, C> {
+impl<'a, C: Count> Model for CountingEngine<'a, C> {
     ghost use Rattle.pb_trail.specs.EngineState.{EngineState};
     ghost use Rattle.pb_engine.specs.Needs.{HasCounters};
 
@@ -42,21 +46,22 @@ impl<'a, C: Count> Model for Engine<'a, C> {
     ghost invariant = { λ e. HasCounters e.propagator e.needs e.marks };
 }
 
-impl<'a, C: Count> Engine<'a, C> {
-    /// The empty trail over the rows of the normal form and, for each cube, the clause that some literal of it is false.
-    /// It builds tables of its own; `Rows`, `Clauses` and `over` share them among engines. Nothing after it takes memory.
+impl<'a, C: Count> CountingEngine<'a, C> {
+    /// The empty trail over the rows of the normal form and, for each cube in order, the clause that some literal of it is
+    /// false; a cube that contradicts itself has none. It builds tables of its own; `Rows`, `Clauses` and `over` share them
+    /// among engines. Nothing after it takes memory.
     pub fn new(
         alloc: Global,
         form: &'a Normal,
         negated: &'a [Cube],
-    ) -> Result<Engine<'a, C>, Memory>
+    ) -> Result<CountingEngine<'a, C>, Memory>
         requires variables { All (λ cube. All (λ l. l.var ≤ form.now.vars) cube) negated.now }
         ensures form { IfOk result (λ e. (e.form ≡ form.now) × (e.vars ≡ form.now.vars)) }
         ensures rows { IfOk result (λ e. (clauses : List PositiveRow) × (e.rows ≡ form.now.rows ++ clauses) × AreClausesOf negated.now clauses) }
         ensures empty { IfOk result (λ e. (e.trail ≡ []) × (e.levels ≡ []) × (e.conflict ≡ false)) }
     {
-        let tables = Tables::new(alloc, form, negated)?;
-        Engine::start(alloc, tables)
+        let source = TablesSource::new(alloc, form, negated)?;
+        CountingEngine::start(alloc, source)
     }
 
     /// The empty trail over rows and clauses that are lent. Nothing after it takes memory.
@@ -64,23 +69,23 @@ impl<'a, C: Count> Engine<'a, C> {
         alloc: Global,
         rows: &'a Rows<'a, C>,
         clauses: &'a Clauses,
-    ) -> Result<Engine<'a, C>, Memory>
+    ) -> Result<CountingEngine<'a, C>, Memory>
         requires beside { AreBeside rows.now clauses.now }
         ensures form { IfOk result (λ e. (e.form ≡ rows.now.form) × (e.vars ≡ rows.now.form.vars)) }
         ensures rows { IfOk result (λ e. e.rows ≡ rows.now.form.rows ++ clauses.now.rows) }
         ensures empty { IfOk result (λ e. (e.trail ≡ []) × (e.levels ≡ []) × (e.conflict ≡ false)) }
     {
-        Engine::start(alloc, Tables::lent(rows, clauses))
+        CountingEngine::start(alloc, TablesSource::lent(rows, clauses))
     }
 
     /// The empty trail.
-    fn start(alloc: Global, tables: Tables<'a, C>) -> Result<Engine<'a, C>, Memory>
-        ensures { IfOk result (λ e. e ≡ record { form = tables.entry.form; vars = tables.entry.vars; rows = tables.entry.rows; trail = []; levels = []; conflict = false }) }
+    fn start(alloc: Global, source: TablesSource<'a, C>) -> Result<CountingEngine<'a, C>, Memory>
+        ensures { IfOk result (λ e. e ≡ record { form = source.entry.form; vars = source.entry.vars; rows = source.entry.rows; trail = []; levels = []; conflict = false }) }
     {
-        let propagator = Propagator::new(alloc, tables)?;
-        let needs = Needs::new(alloc, propagator.slacks())?;
+        let propagator = Propagator::new(alloc, source)?;
+        let needs = Needs::new(alloc, &propagator.slacks())?;
         let marks = Marks::new(alloc, propagator.vars())?;
-        Ok(Engine {
+        Ok(CountingEngine {
             propagator,
             needs,
             marks,
@@ -188,8 +193,8 @@ impl<'a, C: Count> Engine<'a, C> {
         ensures unchanged { self.new ≡ self.old }
     {
         let slacks = self.propagator.slacks();
-        let payment = payment(slacks, &mut self.needs, &mut self.marks);
-        bound_with(slacks, payment)
+        let payment = payment(&slacks, &mut self.needs, &mut self.marks);
+        bound_with(&slacks, payment)
     }
 
     /// Takes back every assumption above the level, and what was added since.
@@ -199,14 +204,16 @@ impl<'a, C: Count> Engine<'a, C> {
         ensures sound { IsSoundTrail self.new }
     {
         let start = self.propagator.start_of(level);
-        self.needs.take_back(self.propagator.slacks(), start);
+        self.needs.take_back(&self.propagator.slacks(), start);
         self.propagator.undo_to(level);
     }
 }
 
 #[cfg(test)]
+mod clause_tests;
+#[cfg(test)]
 mod count_tests;
 #[cfg(test)]
-mod propagation_tests;
+mod courses;
 #[cfg(test)]
 mod tests;

@@ -4,8 +4,10 @@
 mod bound;
 mod engine;
 mod extras;
+mod laws;
 mod needs;
 
-pub use engine::Engine;
+pub use engine::{CountingEngine, Engine};
+pub use laws::clause_laws;
 pub use pb_rows::{Clauses, Count, RowTerms, Rows};
 pub use pb_trail::Step;

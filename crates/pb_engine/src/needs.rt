@@ -32,7 +32,7 @@ pub struct Needs<C: Count> {
 
 impl<C: Count> Needs<C> {
     /// No literal is counted.
-    pub fn new(alloc: Global, slacks: &Slacks<'_, C>) -> Result<Needs<C>, Memory>
+    pub fn new(alloc: Global, slacks: &Slacks<'_, '_, C>) -> Result<Needs<C>, Memory>
         ensures { IfOk result (λ needs. AreNeeds slacks.now.form slacks.now.rows slacks.now.trail needs) }
     {
         let lacks = lacks_of(alloc, slacks.tables())?;
@@ -46,7 +46,7 @@ impl<C: Count> Needs<C> {
     }
 
     /// Counts the literals of the trail that were not counted yet.
-    pub fn count(&mut self, slacks: &Slacks<'_, C>)
+    pub fn count(&mut self, slacks: &Slacks<'_, '_, C>)
         requires { AreNeeds slacks.now.form slacks.now.rows slacks.now.trail self.old }
         ensures needs { AreNeeds slacks.now.form slacks.now.rows slacks.now.trail self.new }
         ensures all { self.new.counted ≡ length slacks.now.trail }
@@ -57,7 +57,7 @@ impl<C: Count> Needs<C> {
     }
 
     /// Takes back the literals of the trail from a place on.
-    pub fn take_back(&mut self, slacks: &Slacks<'_, C>, start: usize)
+    pub fn take_back(&mut self, slacks: &Slacks<'_, '_, C>, start: usize)
         requires { AreNeeds slacks.now.form slacks.now.rows slacks.now.trail self.old }
         ensures needs { AreNeeds slacks.now.form slacks.now.rows slacks.now.trail self.new }
         ensures before { self.new.counted ≤ start }
@@ -91,7 +91,7 @@ impl<C: Count> Needs<C> {
     }
 
     /// Counts the next literal.
-    fn count_next(&mut self, slacks: &Slacks<'_, C>)
+    fn count_next(&mut self, slacks: &Slacks<'_, '_, C>)
         requires needs { AreNeeds slacks.now.form slacks.now.rows slacks.now.trail self.old }
         requires next { self.old.counted < length slacks.now.trail }
         ensures needs { AreNeeds slacks.now.form slacks.now.rows slacks.now.trail self.new }
@@ -106,7 +106,7 @@ impl<C: Count> Needs<C> {
     }
 
     /// Takes back the last literal that is counted.
-    fn take_back_last(&mut self, slacks: &Slacks<'_, C>)
+    fn take_back_last(&mut self, slacks: &Slacks<'_, '_, C>)
         requires needs { AreNeeds slacks.now.form slacks.now.rows slacks.now.trail self.old }
         requires some { 0 < self.old.counted }
         ensures needs { AreNeeds slacks.now.form slacks.now.rows slacks.now.trail self.new }
@@ -122,7 +122,12 @@ impl<C: Count> Needs<C> {
 }
 
 /// What the rows lack once the literal joins the trail.
-fn join<C: Count>(lacks: &mut [Tally<C>], wanting: &mut RowSet, tables: &Tables<'_, C>, lit: Lit)
+fn join<C: Count>(
+    lacks: &mut [Tally<C>],
+    wanting: &mut RowSet,
+    tables: &Tables<'_, '_, C>,
+    lit: Lit,
+)
     requires variable { lit.var ≤ tables.now.vars }
     requires count { length lacks.old ≡ length tables.now.rows }
     requires enough { (r : ℕ) → r < length lacks.old → gain tables.now.form.objective lit (row_at tables.now.rows r).terms ≤ slice_index lacks.old r }
@@ -144,7 +149,12 @@ fn join<C: Count>(lacks: &mut [Tally<C>], wanting: &mut RowSet, tables: &Tables<
 }
 
 /// What the rows lack once the literal leaves the trail.
-fn leave<C: Count>(lacks: &mut [Tally<C>], wanting: &mut RowSet, tables: &Tables<'_, C>, lit: Lit)
+fn leave<C: Count>(
+    lacks: &mut [Tally<C>],
+    wanting: &mut RowSet,
+    tables: &Tables<'_, '_, C>,
+    lit: Lit,
+)
     requires variable { lit.var ≤ tables.now.vars }
     requires count { length lacks.old ≡ length tables.now.rows }
     requires enough { (r : ℕ) → r < length lacks.old → loss tables.now.form.objective (negation lit) (row_at tables.now.rows r).terms ≤ slice_index lacks.old r }
@@ -170,7 +180,7 @@ fn lower_if<C: Count>(
     wanted: bool,
     lacks: &mut [Tally<C>],
     wanting: &mut RowSet,
-    tables: &Tables<'_, C>,
+    tables: &Tables<'_, '_, C>,
     lit: Lit,
 )
     requires variable { lit.var ≤ tables.now.vars }
@@ -193,7 +203,7 @@ fn raise_if<C: Count>(
     wanted: bool,
     lacks: &mut [Tally<C>],
     wanting: &mut RowSet,
-    tables: &Tables<'_, C>,
+    tables: &Tables<'_, '_, C>,
     lit: Lit,
 )
     requires variable { lit.var ≤ tables.now.vars }
@@ -242,7 +252,7 @@ fn raise<C: Count, O: Occurs<C>>(lacks: &mut [Tally<C>], wanting: &mut RowSet, o
 }
 
 /// What each row lacks before any literal is counted.
-fn lacks_of<C: Count>(alloc: Global, tables: &Tables<'_, C>) -> Result<Vec<Tally<C>>, Memory>
+fn lacks_of<C: Count>(alloc: Global, tables: &Tables<'_, '_, C>) -> Result<Vec<Tally<C>>, Memory>
     ensures count { IfOk result (λ lacks. length lacks.items ≡ length tables.now.rows) }
     ensures each { IfOk result (λ lacks. (r : ℕ) → r < length tables.now.rows → IsLackOf tables.now.form.objective [] (row_at tables.now.rows r) (slice_index lacks.items r)) }
 {
@@ -254,7 +264,7 @@ fn lacks_of<C: Count>(alloc: Global, tables: &Tables<'_, C>) -> Result<Vec<Tally
 }
 
 /// What the row lacks before any literal is counted.
-fn lack_of<C: Count>(tables: &Tables<'_, C>, row: usize) -> Magnitude
+fn lack_of<C: Count>(tables: &Tables<'_, '_, C>, row: usize) -> Magnitude
     requires { row < length tables.now.rows }
     ensures { IsLackOf tables.now.form.objective [] (row_at tables.now.rows row) result }
 {
@@ -263,7 +273,7 @@ fn lack_of<C: Count>(tables: &Tables<'_, C>, row: usize) -> Magnitude
 }
 
 /// What the row has at no cost before any literal is counted.
-fn at_no_cost<C: Count>(tables: &Tables<'_, C>, terms: RowTerms<'_>) -> Magnitude
+fn at_no_cost<C: Count>(tables: &Tables<'_, '_, C>, terms: RowTerms<'_>) -> Magnitude
     requires variables { All (λ t. t.lit.var ≤ tables.now.vars) (terms_in terms) }
     requires fits { sum_by (λ t. t.coef) (terms_in terms) < 2 ^ 64 }
     ensures { result ≡ spare tables.now.form.objective [] (terms_in terms.entry) }
@@ -275,7 +285,7 @@ fn at_no_cost<C: Count>(tables: &Tables<'_, C>, terms: RowTerms<'_>) -> Magnitud
 }
 
 /// The sum of the coefficients of literals without cost.
-fn costless<C: Count, T: Weighs>(tables: &Tables<'_, C>, items: &[T]) -> Magnitude
+fn costless<C: Count, T: Weighs>(tables: &Tables<'_, '_, C>, items: &[T]) -> Magnitude
     requires variables { All (λ t. t.lit.var ≤ tables.now.vars) (map T.term items.now) }
     requires fits { sum_by (λ t. t.coef) (map T.term items.now) < 2 ^ 64 }
     ensures { result ≡ spare tables.now.form.objective [] (map T.term items.now) }

@@ -1,5 +1,6 @@
 pub mod NumberWidth
 pub mod Packed
+pub mod Parts
 pub mod RowLemmas
 pub mod SumLemmas
 pub mod LimitLemmas

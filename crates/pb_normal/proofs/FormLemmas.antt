@@ -1,19 +1,22 @@
 -- What the calls that add rows promise, from what they were told.
-use Rattle.std.proofs.Common.{◌≡◌, ℕ, ℤ, ◌≤◌, List, [], ◌∷◌, ◌++◌, map, sym, subst, Result}
+use Rattle.std.proofs.Common.{◌≡◌, ℕ, ℤ, ◌≤◌, List, [], ◌∷◌, ◌++◌, map, refl, sym, ◌∙◌, subst, arith, Bool, Option, Some, None, Result}
 use Rattle.std.specs.Prelude.{OnOk, pos, ◌+ℤ◌, ◌-ℤ◌, ◌≤ℤ◌, neg_ℤ}
 use Rattle.std.specs.List.{flat_map}
+use Rattle.std.specs.Option.{option_map_or}
+use Rattle.std.proofs.lemmas.Int.{ints}
 use Rattle.std.proofs.lemmas.List.{append-nil}
 use Rattle.std.proofs.lemmas.Result.{on_ok_weaker}
 use Rattle.pb_inst.specs.declared.TheConstants.{SUM_BOUND}
 use Rattle.pb_inst.specs.declared.constraints.Term.{Term}
 use Rattle.pb_inst.specs.declared.constraints.Relation.{Relation}
 use Rattle.pb_inst.specs.declared.constraints.Relation.TheVariants.{AtLeast, AtMost, Equal}
-use Rattle.pb_inst.specs.Limits.{AllVariablesWithin}
+use Rattle.pb_inst.specs.Limits.{total_magnitude, AllVariablesWithin}
+use Rattle.pb_inst.specs.Meaning.{sum_value}
 use Rattle.pb_inst.specs.Problem.{LinearConstraint, Problem}
 use Rattle.pb_normal.specs.declared.terms.PositiveTerm.{PositiveTerm}
 use Rattle.pb_normal.specs.Exact.{Inequality, negated, inequalities_of, inequalities, objective_terms, IsNormalFormOf}
 use Rattle.pb_normal.specs.Merging.{opposite, HasValueOf, IsSumOf, AreNormalRows, AddsRows}
-use Rattle.pb_normal.specs.NormalForm.{PositiveRow, total_coefficient, ArePositiveTerms}
+use Rattle.pb_normal.specs.NormalForm.{PositiveRow, total_coefficient, ArePositiveTerms, IsNormal, KeepsCost}
 use Rattle.pb_normal.proofs.ExactLemmas.{least_is, surplus_is}
 use Rattle.pb_normal.proofs.RowLemmas.{clipped_row, one_normal_row, no_normal_row, IsSumOf-negated, AddsRows-append}
 
@@ -73,3 +76,21 @@ form_is p vars rows base stored merged objective seen same normal sum base_is se
   base = least_is p.vars (objective_terms p) base merged sum;
   objective = record { coefficients = sum.shape.coefficients; rising = sum.shape.rising; weights = surplus_is p.vars (objective_terms p) base merged sum };
 })
+
+pub form_is_normal : (p : Problem) (vars : ℕ) (rows : List PositiveRow) (base stored : ℤ) (merged objective seen : List PositiveTerm) → vars ≡ p.vars → AreNormalRows p.vars (flat_map inequalities p.constraints) rows → IsSumOf p.vars (objective_terms p) base merged → HasValueOf (objective_terms p) base merged → total_magnitude (objective_terms p) ≤ SUM_BOUND → stored ≡ base → seen ≡ merged → objective ≡ [] ++ seen → IsNormal (record { vars = vars; rows = rows; base = stored; objective = objective })
+form_is_normal p vars rows base stored merged objective seen same normal sum value bounded base_is see copy = rw (same, base_is, copy, see) (record {
+  shape = record { rows = normal.positive; objective = sum.shape };
+  limits = record {
+    rows = normal.small;
+    lowest = (let low = value.lowest in omega arith);
+    coefficients = (let total = value.total in omega arith);
+    highest = (let high = value.highest in omega (arith, ints));
+  };
+})
+
+objective_cost : (a : List Bool) (objective : Option (List Term)) → sum_value a (option_map_or (λ terms. terms) objective []) ≡ option_map_or (λ terms. sum_value a terms) objective (pos 0)
+objective_cost a None = refl
+objective_cost a (Some terms) = refl
+
+pub form_keeps_cost : (p : Problem) (vars : ℕ) (rows : List PositiveRow) (base stored : ℤ) (merged objective seen : List PositiveTerm) → HasValueOf (objective_terms p) base merged → stored ≡ base → seen ≡ merged → objective ≡ [] ++ seen → KeepsCost p (record { vars = vars; rows = rows; base = stored; objective = objective })
+form_keeps_cost p vars rows base stored merged objective seen value base_is see copy = rw (base_is, copy, see) (λ a. value.value a ∙ objective_cost a p.objective)

@@ -1,17 +1,20 @@
 -- The steps of merging: two terms are joined, and a term is added to the positive terms.
-use Rattle.std.proofs.Common.{◌≡◌, ℕ, ℤ, zero, suc, ◌+◌, ◌-◌, ◌*◌, ◌<◌, ◌≤◌, List, [], ◌∷◌, ◌++◌, length, get_or, set, map, take, drop, refl, sym, ◌∙◌, ap, subst, arith, Bool, true, false, cond, not, All}
+use Rattle.std.proofs.Common.{◌≡◌, ℕ, ℤ, zero, suc, ◌+◌, ◌-◌, ◌*◌, ◌<◌, ◌≤◌, List, [], ◌∷◌, ◌++◌, length, get_or, set, map, take, drop, refl, sym, ◌∙◌, ap, subst, arith, Bool, true, false, cond, not, All, FitsSigned}
 use Rattle.std.specs.Prelude.{Some, AllPairs, pos, negsuc, ◌+ℤ◌, ◌*ℤ◌, ◌≤ℤ◌, ◌<ℤ◌, unsigned_abs}
 use Rattle.std.specs.List.Sorted.{IsNonDecreasingBy}
-use Rattle.std.proofs.lemmas.Int.{ints}
-use Rattle.std.proofs.lemmas.List.{length_push, length-take, get_or_append_left, get_or_push, get_or_read}
+use Rattle.std.proofs.lemmas.Int.{ints, fits_signed_from_abs}
+use Rattle.std.proofs.lemmas.List.{length_push, length-take, take_all, get_or_append_left, get_or_push, get_or_read}
 use Rattle.std.proofs.lemmas.List.Edits.{map_over_more}
 use Rattle.std.proofs.lemmas.List.Elements.{All-nil, All-push, All-pop, All-weaker}
+use Rattle.std.proofs.lemmas.List.Quantifiers.{all_pairs_push}
 use Rattle.std.proofs.lemmas.List.Sums.{sum_by_push}
 use Rattle.pb_inst.specs.Literal.{Literal}
-use Rattle.pb_inst.specs.Limits.{AllVariablesWithin}
+use Rattle.pb_inst.specs.Limits.{total_magnitude, AllVariablesWithin}
+use Rattle.pb_inst.specs.declared.TheConstants.{SUM_BOUND}
+use Rattle.pb_inst.proofs.NumberWidth.{number_width}
 use Rattle.pb_inst.specs.Meaning.{variable_value, literal_value}
 use Rattle.pb_inst.specs.declared.constraints.Term.{Term}
-use Rattle.pb_inst.proofs.SumLemmas.{sum_value_more, total_magnitude_more, unsigned_abs-add}
+use Rattle.pb_inst.proofs.SumLemmas.{sum_value_more, total_magnitude-take, total_magnitude_more, unsigned_abs-add}
 use Rattle.pb_normal.specs.declared.terms.PositiveTerm.{PositiveTerm}
 use Rattle.pb_normal.specs.NormalForm.{positive_value, total_coefficient, ArePositiveTerms}
 use Rattle.pb_normal.specs.Merging.{NoneAfter, AreJoined, AddsNonzero, AddsPositive, AddsTerm, HasValueOf, opposite}
@@ -75,6 +78,30 @@ no_terms (t ∷ ts) h = absurd (omega arith)
 no_end : (ts : List PositiveTerm) → ts ≡ ts ++ []
 no_end [] = refl
 no_end (t ∷ ts) = ap (λ (us : List PositiveTerm). t ∷ us) (no_end ts)
+
+-- a term of coefficient 0 adds nothing
+pub add_none : (old : List PositiveTerm) (t : PositiveTerm) → t.coef ≡ 0 → AddsNonzero old t old
+add_none old t none = record {
+  count = omega arith;
+  value = λ a. (let nothing : t.coef * literal_value a t.lit ≡ 0 * literal_value a t.lit = ap (λ (c : ℕ). c * literal_value a t.lit) none in omega arith);
+  total = omega arith;
+  none_after = λ h. h;
+  positive = λ n h below within. h;
+}
+
+-- a term of another coefficient stands at the end
+pub add_last : (old new : List PositiveTerm) (t : PositiveTerm) → new ≡ old ++ t ∷ [] → 1 ≤ t.coef → AddsNonzero old t new
+add_last old new t is one = rw is (record {
+  count = (let more = length_push old t in omega arith);
+  value = λ a. sum_by_push (λ (u : PositiveTerm). u.coef * literal_value a u.lit) old t;
+  total = sum_by_push (λ (u : PositiveTerm). u.coef) old t;
+  none_after = λ h. All-push (λ (u : PositiveTerm). u.lit.var ≤ t.lit.var) old t h (omega arith);
+  positive = λ n h below within. record {
+    coefficients = All-push HasCoefficient old t h.coefficients one;
+    variables = All-push (IsWithin n) old t h.variables within;
+    rising = all_pairs_push IsBelow old t h.rising (λ k d less. below k d less);
+  };
+})
 
 -- nothing stood there before
 pub add_to_none : (old rest new : List PositiveTerm) (t : PositiveTerm) → old ≡ rest ++ [] → length old ≡ 0 → AddsNonzero rest t new → AddsPositive old t 0 new
@@ -181,6 +208,35 @@ pub record MergesTo (terms : List Term) (i : ℕ) (base : ℤ) (merged : List Po
   pub value : HasValueOf (take i terms) base merged
   pub positive : (n : ℕ) → AllVariablesWithin n terms → ArePositiveTerms n merged
   pub none_after : (k : ℕ) (d : Term) → i ≤ k → k < length terms → NoneAfter (get_or terms k d).lit.var merged
+
+-- no term
+pub merges_none : (terms : List Term) (merged : List PositiveTerm) → merged ≡ [] → MergesTo terms 0 (pos 0) merged
+merges_none terms merged none = rw none (record {
+  value = record { value = λ a. refl; lowest = omega arith; total = omega arith; highest = omega (arith, ints); count = omega arith };
+  positive = λ n within. record { coefficients = All-nil HasCoefficient; variables = All-nil (IsWithin n); rising = λ i j d before less. absurd (omega arith) };
+  none_after = λ k d above below. All-nil (λ (u : PositiveTerm). u.lit.var ≤ (get_or terms k d).lit.var);
+})
+
+-- all terms
+pub merges_all : (terms : List Term) (i : ℕ) (base : ℤ) (merged : List PositiveTerm) → length terms ≤ i → MergesTo terms i base merged → HasValueOf terms base merged
+merges_all terms i base merged all h = subst (λ (ts : List Term). HasValueOf ts base merged) (take_all i terms all) h.value
+
+-- the sums of one more term are within the bound
+pub room_for_term : (terms : List Term) (i : ℕ) (t : Term) (base : ℤ) (merged : List PositiveTerm) → i < length terms → t ≡ get_or terms i t → total_magnitude terms ≤ SUM_BOUND → MergesTo terms i base merged → total_coefficient merged + unsigned_abs t.coef ≤ SUM_BOUND
+room_for_term terms i t base merged less is bounded before =
+    let more = total_magnitude_more terms i t less is in
+    let part = total_magnitude-take terms (i + 1) in
+    let most = before.value.total in
+    omega arith
+
+pub shift_fits : (terms : List Term) (i : ℕ) (t : Term) (base shift : ℤ) (old new : List PositiveTerm) → i < length terms → t ≡ get_or terms i t → total_magnitude terms ≤ SUM_BOUND → MergesTo terms i base old → AddsTerm old t shift new → FitsSigned number_width shift × FitsSigned number_width (base +ℤ shift)
+shift_fits terms i t base shift old new less is bounded before adds =
+    let more = total_magnitude_more terms i t less is in
+    let part = total_magnitude-take terms (i + 1) in
+    let low = before.value.lowest in
+    let small = adds.small in
+    let both = unsigned_abs-add base shift in
+    (fits_signed_from_abs number_width shift (omega arith), fits_signed_from_abs number_width (base +ℤ shift) (omega arith))
 
 pub merge_step : (terms : List Term) (i : ℕ) (t : Term) (base shift next : ℤ) (old new : List PositiveTerm) → IsNonDecreasingBy (λ (u : Term). u.lit.var) terms → i < length terms → t ≡ get_or terms i t → MergesTo terms i base old → AddsTerm old t shift new → next ≡ base +ℤ shift → MergesTo terms (i + 1) next new
 merge_step terms i t base shift next old new sorted less is before adds step =

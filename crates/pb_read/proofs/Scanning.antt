@@ -9,12 +9,17 @@ use Rattle.pb_read.specs.declared.fault.ReadKind.TheVariants.{Unfinished, Syntax
 use Rattle.pb_read.specs.Refusal.{first_kind}
 use Rattle.pb_read.specs.declared.dimacs.word.Word.TheVariants as variants
 use Rattle.pb_inst.specs.declared.TheConstants.{MAX_VARS}
-use Rattle.pb_read.specs.Clauses.{Word, Lit, Zero, Bad, is_zero, is_over, is_whole, word_faults, whole_words}
+use Rattle.pb_read.specs.Clauses.{Word, word_of, Lit, Zero, Bad, is_zero, is_over, is_whole, word_faults, whole_words}
 use Rattle.pb_read.specs.Capped.{cap}
 use Rattle.pb_read.specs.ClauseReading.{capped, IsBroken, Scanned, ending}
 
 abbrev record_of : ℕ → Bool → Literal
 record_of v p = record { var = v; positive = p }
+
+-- one more of the words that are left
+pub one_more_word : (seen before : List Word) (word : List ℕ) (rest after all : List (List ℕ)) → rest ≡ word ∷ after → seen ++ map word_of rest ≡ before ++ map word_of all → (seen ++ word_of word ∷ []) ++ map word_of after ≡ before ++ map word_of all
+one_more_word seen before word rest after all first whole =
+    append_assoc seen (word_of word ∷ []) (map word_of after) ∙ ap (λ (ws : List (List ℕ)). seen ++ map word_of ws) (sym first) ∙ whole
 
 bad_breaks : (seen more : List Word) → is_whole (seen ++ Bad ∷ more) ≡ false
 bad_breaks [] more = refl

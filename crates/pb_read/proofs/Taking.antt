@@ -1,6 +1,6 @@
 -- Tokens taken one by one are those of the line.
-use Rattle.std.proofs.Common.{◌≡◌, ℕ, ◌+◌, false, refl, sym, ap, subst, ◌∙◌, List, [], ◌∷◌, ◌++◌, append_assoc, inl, inr}
-use Rattle.std.proofs.lemmas.List.{map-append}
+use Rattle.std.proofs.Common.{◌≡◌, ℕ, ◌+◌, true, false, refl, sym, ap, subst, ◌∙◌, List, [], ◌∷◌, ◌++◌, append_assoc, inl, inr}
+use Rattle.std.proofs.lemmas.List.{append-nil, map-append}
 use Rattle.pb_read.specs.declared.fault.ReadFault.{ReadFault}
 use Rattle.std.specs.List.{flat_map}
 use Rattle.pb_read.specs.Text.{Placed, numbered}
@@ -34,12 +34,36 @@ line_fails taken n line rest after seen t f first whole h =
 on_line_is : (n : ℕ) (line : List ℕ) → is_comment line ≡ false → on_line (record { item = line; line = n }) ≡ placed n (line_tokens line)
 on_line_is n line h = rw h refl
 
+-- one more line, whose tokens were taken
+pub line_taken : (P : List (Placed Token) → Type 0) (seen total : List (Placed Token)) (n : ℕ) (left after : List (List ℕ)) (line : List ℕ)
+    → left ≡ line ∷ after → seen ++ flat_map on_line (numbered n left) ≡ total → is_comment line ≡ false → P (seen ++ placed n (line_tokens line))
+    → (x : List (Placed Token)) × (x ++ flat_map on_line (numbered (n + 1) after) ≡ total) × P x
+line_taken P seen total n left after line first whole plain h =
+    let more : List (Placed Token) = flat_map on_line (numbered (n + 1) after) in
+    let head : flat_map on_line (numbered n left) ≡ placed n (line_tokens line) ++ more =
+    ap (λ (ls : List (List ℕ)). flat_map on_line (numbered n ls)) first ∙ ap (λ (ts : List (Placed Token)). ts ++ more) (on_line_is n line plain) in
+    (seen ++ placed n (line_tokens line), append_assoc seen (placed n (line_tokens line)) more ∙ ap (λ (ts : List (Placed Token)). seen ++ ts) (sym head) ∙ whole, h)
+
+no_tokens : (n : ℕ) (line : List ℕ) → is_comment line ≡ true → on_line (record { item = line; line = n }) ≡ []
+no_tokens n line h = rw h refl
+
+-- one more line, which is a comment
+pub line_passed : (P : List (Placed Token) → Type 0) (seen total : List (Placed Token)) (n : ℕ) (left after : List (List ℕ)) (line : List ℕ)
+    → left ≡ line ∷ after → seen ++ flat_map on_line (numbered n left) ≡ total → is_comment line ≡ true → P seen
+    → (x : List (Placed Token)) × (x ++ flat_map on_line (numbered (n + 1) after) ≡ total) × P x
+line_passed P seen total n left after line first whole comment h =
+    let more : List (Placed Token) = flat_map on_line (numbered (n + 1) after) in
+    let head : flat_map on_line (numbered n left) ≡ more =
+    ap (λ (ls : List (List ℕ)). flat_map on_line (numbered n ls)) first ∙ ap (λ (ts : List (Placed Token)). ts ++ more) (no_tokens n line comment) in
+    (seen, ap (λ (ts : List (Placed Token)). seen ++ ts) (sym head) ∙ whole, h)
+
+-- no line is left
+pub text_taken : (P : List (Placed Token) → Type 0) (seen total : List (Placed Token)) (n : ℕ) (left : List (List ℕ)) → left ≡ [] → seen ++ flat_map on_line (numbered n left) ≡ total → P seen → P total
+text_taken P seen total n left none whole h = subst P (sym (append-nil seen) ∙ ap (λ (ls : List (List ℕ)). seen ++ flat_map on_line (numbered n ls)) (sym none) ∙ whole) h
+
 -- a fault of a line's tokens is one of the text's
 pub text_fails : (seen total : List (Placed Token)) (n : ℕ) (left after : List (List ℕ)) (line : List ℕ) (f : ReadFault)
     → left ≡ line ∷ after → seen ++ flat_map on_line (numbered n left) ≡ total → is_comment line ≡ false → Fails (seen ++ placed n (line_tokens line)) f → Fails total f
 text_fails seen total n left after line f first whole plain h =
-    let more : List (Placed Token) = flat_map on_line (numbered (n + 1) after) in
-    let head : flat_map on_line (numbered n left) ≡ placed n (line_tokens line) ++ more =
-    ap (λ (ls : List (List ℕ)). flat_map on_line (numbered n ls)) first ∙ ap (λ (ts : List (Placed Token)). ts ++ more) (on_line_is n line plain) in
-    let e : (seen ++ placed n (line_tokens line)) ++ more ≡ total = append_assoc seen (placed n (line_tokens line)) more ∙ ap (λ (ts : List (Placed Token)). seen ++ ts) (sym head) ∙ whole in
-    subst (λ (ts : List (Placed Token)). Fails ts f) e (fails_more (seen ++ placed n (line_tokens line)) more f h)
+    let more = line_taken (λ ts. Fails ts f) seen total n left after line first whole plain h in
+    subst (λ (ts : List (Placed Token)). Fails ts f) more.1 (fails_more more.0 (flat_map on_line (numbered (n + 1) after)) f more.2)

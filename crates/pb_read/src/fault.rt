@@ -53,7 +53,7 @@ pub struct ReadFault {
 
 impl ReadFault {
     /// Memory ran out.
-    pub const MEMORY: ReadFault = ReadFault {
+    pub(crate) const MEMORY: ReadFault = ReadFault {
         kind: ReadKind::Memory,
         line: 0,
     };

@@ -1,17 +1,17 @@
 -- How the clause of a cube is made.
-use Rattle.std.proofs.Common.{◌≡◌, ◌≢◌, ℕ, ◌+◌, ◌-◌, ◌<◌, ◌≤◌, List, [], ◌∷◌, ◌++◌, length, get_or, map, take, refl, sym, ◌∙◌, ap, subst, arith, Bool, true, false, not, All, inl, inr, ◌⊎◌, length-append}
+use Rattle.std.proofs.Common.{◌≡◌, ◌≢◌, ℕ, zero, suc, ◌+◌, ◌-◌, ◌<◌, ◌≤◌, List, [], ◌∷◌, ◌++◌, length, get_or, map, take, refl, sym, ◌∙◌, ap, subst, arith, Bool, true, false, not, All, inl, inr}
 use Rattle.std.specs.Prelude.{AllPairs, Any, Contains, IsPermutation}
 use Rattle.std.specs.List.Sorted.{IsNonDecreasingBy}
 use Rattle.std.proofs.lemmas.Bool.{cases_lt}
-use Rattle.std.proofs.lemmas.List.{take_more, length-map, get_or-map, get_or_default, take_all, map_push, get_or_append_left}
-use Rattle.std.proofs.lemmas.List.Elements.{All-push, All-weaker, All-map, All-contains, All-contains_itself, Contains-push, Contains-append_left, Contains-get_or}
-use Rattle.std.proofs.lemmas.List.Quantifiers.{all_pairs_push, Any-push}
+use Rattle.std.proofs.lemmas.List.{take_more, length-map, get_or-map, get_or_default, take_all, map_push}
+use Rattle.std.proofs.lemmas.List.Elements.{All-nil, All-cons, All-push, All-weaker, All-map, All-contains, All-contains_itself, Contains-push, Contains-append_left, Contains-get_or}
+use Rattle.std.proofs.lemmas.List.Quantifiers.{all_pairs_push}
 use Rattle.std.proofs.lemmas.List.Sorted.{All-permutation, IsPermutation-sym}
 use Rattle.pb_inst.specs.Literal.{Literal}
 use Rattle.pb_normal.specs.declared.terms.PositiveTerm.{PositiveTerm}
 use Rattle.pb_normal.specs.NormalForm.{PositiveRow}
 use Rattle.pb_normal.specs.Literals.{negation}
-use Rattle.pb_rows.specs.Clauses.{IsContradictory, IsClauseOf, AreClausesOf, unit_term, clause_row}
+use Rattle.pb_rows.specs.Clauses.{IsContradictory, IsClauseOf, AreClausesOf, no_cube, no_clause, one_clause, unit_term, clause_row}
 use Rattle.pb_rows.specs.Constraints.{AreRowsOver, HaveRisingVariables}
 
 abbrev blank : Literal
@@ -24,7 +24,7 @@ pub record IsClauseSoFar (cube : List Literal) (i : ℕ) (clause : List Literal)
   pub rising : AllPairs (λ l m. l.var < m.var) clause
   pub low : (k : ℕ) (d : Literal) → i ≤ k → k < length cube → All (λ m. m.var ≤ (get_or cube k d).var) clause
 
-double_negation : (l : Literal) → negation (negation l) ≡ l
+pub double_negation : (l : Literal) → negation (negation l) ≡ l
 double_negation l = by_sign l.positive refl
   where
     by_sign : (b : Bool) → l.positive ≡ b → negation (negation l) ≡ l
@@ -143,37 +143,44 @@ contradictory_sorted cube sorted same (k, l, low, at, there) =
 
 -- the clauses of one cube more
 pub clauses_none : (clauses : List (List Literal)) → clauses ≡ [] → AreClausesOf [] (map clause_row clauses)
-clauses_none clauses empty = rw empty (record { each = λ k d h. absurd (omega arith); only = λ k d h. absurd (omega arith) })
+clauses_none clauses empty = rw empty no_cube
+
+skipped : (cubes : List (List Literal)) (rows : List PositiveRow) (last : List Literal) → IsContradictory last → AreClausesOf cubes rows → AreClausesOf (cubes ++ last ∷ []) rows
+skipped _ _ last both no_cube = no_clause last [] [] both no_cube
+skipped _ _ last both (no_clause cube cubes rows other are) = no_clause cube (cubes ++ last ∷ []) rows other (skipped cubes rows last both are)
+skipped _ _ last both (one_clause cube row cubes rows clause are) = one_clause cube row (cubes ++ last ∷ []) rows clause (skipped cubes rows last both are)
+
+pushed : (cubes : List (List Literal)) (rows : List PositiveRow) (last : List Literal) (new : PositiveRow) → IsClauseOf last new → AreClausesOf cubes rows → AreClausesOf (cubes ++ last ∷ []) (rows ++ new ∷ [])
+pushed _ _ last new is no_cube = one_clause last new [] [] is no_cube
+pushed _ _ last new is (no_clause cube cubes rows both are) = no_clause cube (cubes ++ last ∷ []) (rows ++ new ∷ []) both (pushed cubes rows last new is are)
+pushed _ _ last new is (one_clause cube row cubes rows clause are) = one_clause cube row (cubes ++ last ∷ []) (rows ++ new ∷ []) clause (pushed cubes rows last new is are)
 
 pub clauses_skip : (cubes : List (List Literal)) (clauses : List PositiveRow) (i : ℕ) (cube : List Literal) → AreClausesOf (take i cubes) clauses → i < length cubes → cube ≡ get_or cubes i cube → IsContradictory cube → AreClausesOf (take (i + 1) cubes) clauses
-clauses_skip cubes clauses i cube are h read contradictory =
-    rw (take_more cubes i cube h, sym read) (record {
-      each = All-push (λ (c : List Literal). IsContradictory c ⊎ Any (λ row. IsClauseOf c row) clauses) (take i cubes) cube are.each (inl contradictory);
-      only = All-weaker (λ (row : PositiveRow). Any (λ (c : List Literal). IsClauseOf c row) (take i cubes)) (λ (row : PositiveRow). Any (λ (c : List Literal). IsClauseOf c row) (take i cubes ++ cube ∷ [])) (λ row (k, c, low, at, is). (k, c, omega (arith, length-append (take i cubes) (cube ∷ [])), get_or_append_left (take i cubes) (cube ∷ []) c k low ∙ at, is)) clauses are.only;
-    })
+clauses_skip cubes clauses i cube are h read contradictory = rw (take_more cubes i cube h, sym read) (skipped (take i cubes) clauses cube contradictory are)
 
 pub clauses_push : (cubes : List (List Literal)) (clauses new : List (List Literal)) (i : ℕ) (cube clause : List Literal) → AreClausesOf (take i cubes) (map clause_row clauses) → i < length cubes → cube ≡ get_or cubes i cube → IsClauseOf cube (clause_row clause) → new ≡ clauses ++ clause ∷ [] → AreClausesOf (take (i + 1) cubes) (map clause_row new)
-clauses_push cubes clauses new i cube clause are h read is new_is =
-    let rows = map clause_row clauses in
-    rw (new_is, map_push clause_row clauses clause, take_more cubes i cube h, sym read) (record {
-      each = All-push (λ (c : List Literal). IsContradictory c ⊎ Any (λ row. IsClauseOf c row) (rows ++ clause_row clause ∷ [])) (take i cubes) cube
-          (All-weaker (λ (c : List Literal). IsContradictory c ⊎ Any (λ row. IsClauseOf c row) rows) (λ (c : List Literal). IsContradictory c ⊎ Any (λ row. IsClauseOf c row) (rows ++ clause_row clause ∷ [])) (λ c e. longer c e) (take i cubes) are.each)
-          (inr (Any-push (λ row. IsClauseOf cube row) rows (clause_row clause) is));
-      only = All-push (λ (row : PositiveRow). Any (λ (c : List Literal). IsClauseOf c row) (take i cubes ++ cube ∷ [])) rows (clause_row clause)
-          (All-weaker (λ (row : PositiveRow). Any (λ (c : List Literal). IsClauseOf c row) (take i cubes)) (λ (row : PositiveRow). Any (λ (c : List Literal). IsClauseOf c row) (take i cubes ++ cube ∷ [])) (λ row (k, c, low, at, was). (k, c, omega (arith, length-append (take i cubes) (cube ∷ [])), get_or_append_left (take i cubes) (cube ∷ []) c k low ∙ at, was)) rows are.only)
-          (Any-push (λ (c : List Literal). IsClauseOf c (clause_row clause)) (take i cubes) cube is);
-    })
-  where
-    longer : (c : List Literal) → IsContradictory c ⊎ Any (λ (row : PositiveRow). IsClauseOf c row) (map clause_row clauses) → IsContradictory c ⊎ Any (λ (row : PositiveRow). IsClauseOf c row) (map clause_row clauses ++ clause_row clause ∷ [])
-    longer c (inl both) = inl both
-    longer c (inr (k, row, low, at, was)) = inr (k, row, omega (arith, length-append (map clause_row clauses) (clause_row clause ∷ [])), get_or_append_left (map clause_row clauses) (clause_row clause ∷ []) row k low ∙ at, was)
+clauses_push cubes clauses new i cube clause are h read is new_is = rw (new_is, map_push clause_row clauses clause, take_more cubes i cube h, sym read) (pushed (take i cubes) (map clause_row clauses) cube (clause_row clause) is are)
+
+-- each of the clauses is that of some cube
+abbrev IsClauseOfSome : List (List Literal) → PositiveRow → Type 0
+IsClauseOfSome cubes row = Any (λ (cube : List Literal). IsClauseOf cube row) cubes
+
+later : (cube : List Literal) (cubes : List (List Literal)) (row : PositiveRow) → IsClauseOfSome cubes row → IsClauseOfSome (cube ∷ cubes) row
+later cube cubes row (k, c, low, at, is) = (suc k, c, omega arith, at, is)
+
+clauses_only : (cubes : List (List Literal)) (rows : List PositiveRow) → AreClausesOf cubes rows → All (IsClauseOfSome cubes) rows
+clauses_only _ _ no_cube = All-nil (IsClauseOfSome [])
+clauses_only _ _ (no_clause cube cubes rows both are) = All-weaker (IsClauseOfSome cubes) (IsClauseOfSome (cube ∷ cubes)) (later cube cubes) rows (clauses_only cubes rows are)
+clauses_only _ _ (one_clause cube row cubes rows clause are) =
+    let rest = All-weaker (IsClauseOfSome cubes) (IsClauseOfSome (cube ∷ cubes)) (later cube cubes) rows (clauses_only cubes rows are) in
+    All-cons (IsClauseOfSome (cube ∷ cubes)) row rows (zero, cube, omega arith, refl, clause) rest
 
 -- the clauses of cubes over the variables up to n are over them too
 pub clauses_over : (vars : ℕ) (cubes clauses : List (List Literal)) → All (λ (cube : List Literal). All (λ (l : Literal). l.var ≤ vars) cube) cubes → AreClausesOf cubes (map clause_row clauses) → ((k : ℕ) → k < length clauses → All (λ (l : Literal). 1 ≤ l.var) (get_or clauses k [])) → AreRowsOver vars (map clause_row clauses)
 clauses_over vars cubes clauses within are from_one k d h =
     let rows = map clause_row clauses in
     let count = length-map clauses clause_row in
-    let there = are.only k d h in
+    let there = clauses_only cubes rows are k d h in
     let cube : All (λ (l : Literal). l.var ≤ vars) there.1 = subst (λ (c : List Literal). All (λ (l : Literal). l.var ≤ vars) c) there.3 (within there.0 there.1 there.2) in
     let row : get_or rows k d ≡ clause_row (get_or clauses k []) = get_or-map clause_row clauses k [] d (omega arith) in
     let low : All (λ (t : PositiveTerm). 1 ≤ t.lit.var) (get_or rows k d).terms = subst (λ (r : PositiveRow). All (λ (t : PositiveTerm). 1 ≤ t.lit.var) r.terms) (sym row) (All-map (λ (t : PositiveTerm). 1 ≤ t.lit.var) unit_term (get_or clauses k []) (from_one k (omega arith))) in
@@ -181,4 +188,4 @@ clauses_over vars cubes clauses within are from_one k d h =
 
 -- the literals of a clause stand by rising variable
 pub clauses_rise : (cubes : List (List Literal)) (rows : List PositiveRow) → AreClausesOf cubes rows → HaveRisingVariables rows
-clauses_rise cubes rows are k d h = (are.only k d h).4.rising
+clauses_rise cubes rows are k d h = (clauses_only cubes rows are k d h).4.rising

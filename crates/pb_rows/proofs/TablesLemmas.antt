@@ -28,9 +28,6 @@ pub clause_at : (rows : FormRows) (clauses : ClauseRows) (c : Constraints) (r n 
 clause_at rows clauses c r n view count high =
     ap (λ (k : Constraints). row_at k.rows r) (sym view) ∙ get_or-append_right rows.form.rows clauses.rows n r blank (sym count) high
 
-pub seen : (rows seen_rows : FormRows) (clauses seen_clauses : ClauseRows) (c : Constraints) → constraints_of rows clauses ≡ c → seen_rows ≡ rows → seen_clauses ≡ clauses → constraints_of seen_rows seen_clauses ≡ c
-seen rows seen_rows clauses seen_clauses c view same also = rw (same, also) view
-
 pub units_at_most : (lits : List Literal) → All (λ (t : PositiveTerm). t.coef ≤ 1) (clause_row lits).terms
 units_at_most lits = All-map (λ (t : PositiveTerm). t.coef ≤ 1) unit_term lits (λ k d h. omega arith)
 

@@ -4,8 +4,8 @@ use Rattle.pb_normal.specs.declared.terms.PositiveTerm.{PositiveTerm}
 use Rattle.pb_rows.specs.Clauses.{unit_term}
 use Rattle.pb_rows.specs.declared.tables.RowTerms.{RowTerms}
 use Rattle.pb_rows.specs.declared.tables.RowTerms.TheVariants.{Weighted, Units}
-use Rattle.pb_rows.specs.declared.tables.Source.{Source}
-use Rattle.pb_rows.specs.declared.tables.Source.TheVariants.{Lent, Own}
+use Rattle.pb_rows.specs.declared.tables_source.Source.{Source}
+use Rattle.pb_rows.specs.declared.tables_source.Source.TheVariants.{Lent, Own}
 use Rattle.pb_rows.specs.Constraints.{Constraints}
 use Rattle.pb_rows.specs.Table.{FormRows, ClauseRows}
 

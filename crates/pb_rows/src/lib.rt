@@ -10,13 +10,15 @@ mod negated;
 mod occurrences;
 mod rows;
 mod tables;
+mod tables_source;
 mod tally;
 mod weighs;
 
 pub use clauses::Clauses;
 pub use count::Count;
-pub use occurrences::{Occurrence, Occurs, Part, UnitOccurrence};
+pub use occurrences::{Occurrence, Occurs, UnitOccurrence};
 pub use rows::{Limits, Rows};
 pub use tables::{RowTerms, Tables};
+pub use tables_source::TablesSource;
 pub use tally::Tally;
 pub use weighs::Weighs;

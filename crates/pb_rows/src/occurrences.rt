@@ -95,13 +95,6 @@ impl<C: Count> Occurs<C> for UnitOccurrence {
     }
 }
 
-/// A part of a list of occurrences. Unlike a slice it does not keep the list from being lent.
-#[derive(Clone, Copy, Debug)]
-pub struct Part {
-    pub start: usize,
-    pub len: usize,
-}
-
 /// An occurrence, and the place of its literal. The occurrence's parts stand beside the place, since so an entry takes no more
 /// room than an occurrence alone: while tables are built there is one of each for every term. Contracts see an `Occurrence` in it.
 #[derive(Clone, Copy, Debug)]

@@ -1,17 +1,16 @@
 //! The rows of a normal form, with the rows in which each literal occurs.
 
-ghost use Rattle.std.specs.Prelude.{◌≡◌, ℕ, ◌+◌, ◌*◌, ◌^◌, ◌<◌, ◌≤◌, length, All, IfOk, slice_index_or};
+ghost use Rattle.std.specs.Prelude.{◌≡◌, ℕ, ◌+◌, ◌*◌, ◌^◌, ◌<◌, ◌≤◌, length, All, IfOk};
 ghost use Rattle.pb_normal.specs.NormalForm.{IsNormal};
 ghost use Rattle.pb_rows.specs.Constraints.{AreRowsOver, row_at};
-ghost use Rattle.pb_rows.specs.Index.{IsPartOf, occurrences_of, total_for, entries_from};
-ghost use Rattle.pb_rows.specs.Occurrences.{Occurrence as Weighted};
+ghost use Rattle.pb_rows.specs.Index.{occurrences_of, total_for, entries_from};
 ghost use Rattle.pb_rows.specs.Table.{AreLimits, AreLimitsOf};
 ghost use Rattle.pb_normal.specs.Literals.{weight_of};
 
 use crate::costs::costs_of;
 use crate::count::Count;
 use crate::index::{Index, part};
-use crate::occurrences::{Entry, Occurrence, Part, place_of, push_entries, row_number};
+use crate::occurrences::{Entry, Occurrence, place_of, push_entries, row_number};
 use crate::tally::Tally;
 use pb_inst::{Lit, Magnitude, Memory};
 use pb_normal::{Normal, PositiveTerm};
@@ -63,6 +62,7 @@ impl<'a, C: Count> Rows<'a, C> {
         })
     }
 
+    /// The normal form.
     pub fn form(&self) -> &'a Normal
         ensures { result.now ≡ self.now.form }
     {
@@ -85,6 +85,7 @@ impl<'a, C: Count> Rows<'a, C> {
         self.limits.len()
     }
 
+    /// The degree of the row.
     pub fn degree(&self, row: usize) -> Magnitude
         requires { row < length self.now.form.rows }
         ensures { result ≡ (row_at self.now.form.rows row).degree }
@@ -118,27 +119,6 @@ impl<'a, C: Count> Rows<'a, C> {
         let place = place_of(lit);
         let (start, end) = (self.index.starts[place], self.index.starts[place + 1]);
         part(&self.index.occurrences, start, end)
-    }
-
-    /// Which part of all occurrences the literal's are.
-    pub fn part(&self, lit: Lit) -> Part
-        requires { lit.var ≤ self.now.form.vars }
-        ensures part { IsPartOf self.now.occurrences self.now.starts lit result }
-        ensures fits { result.start + result.len < 2 ^ 64 }
-        ensures rows_exist { All (λ o. o.row < length self.now.form.rows) (occurrences_of self.now.occurrences self.now.starts lit) }
-    {
-        let place = place_of(lit);
-        let (start, end) = (self.index.starts[place], self.index.starts[place + 1]);
-        let len = end - start;
-        Part { start, len }
-    }
-
-    /// The row of an occurrence.
-    pub fn row_of(&self, occurrence: usize) -> usize
-        requires { occurrence < length self.now.occurrences }
-        ensures { (d : Weighted) → result ≡ (slice_index_or self.now.occurrences occurrence d).row }
-    {
-        self.index.occurrences[occurrence].row as usize
     }
 
     /// The objective's coefficient of the literal, 0 where it has none.

@@ -1,16 +1,16 @@
 -- How a search is laid out when it is made.
-use Rattle.std.proofs.Common.{◌≡◌, ℕ, ◌≤◌, List, [], ◌++◌, length, sym, ◌∙◌, subst, Bool, All}
+use Rattle.std.proofs.Common.{◌≡◌, ℕ, ◌≤◌, List, [], ◌++◌, length, get_or, sym, ◌∙◌, subst, Bool, All}
 use Rattle.std.specs.Prelude.{◌↔◌, vec_capacity}
-use Rattle.std.proofs.lemmas.List.Elements.{All-nil}
+use Rattle.std.proofs.lemmas.List.Elements.{All-nil, All-append, All-contains, All-contains_itself, Contains-append_left, Contains-append_right}
 use Rattle.pb_inst.specs.Literal.{Literal}
 use Rattle.pb_inst.specs.Problem.{Problem}
 use Rattle.pb_inst.specs.Meaning.{IsFeasible}
 use Rattle.pb_inst.specs.Cubes.{MakesFalse}
 use Rattle.pb_inst.specs.declared.TheConstants.{MAX_VARS}
-use Rattle.pb_normal.specs.NormalForm.{NormalForm, PositiveRow, MeetsRows, KeepsFeasible, KeepsCost}
+use Rattle.pb_normal.specs.NormalForm.{NormalForm, PositiveRow, MeetsRow, MeetsRows, KeepsFeasible, KeepsCost}
 use Rattle.pb_engine.specs.Clauses.{AreClausesOf}
 use Rattle.pb_engine.specs.EngineState.{EngineState}
-use Rattle.pb_trail.proofs.ClauseLemmas.{both_met, both_from}
+use Rattle.pb_engine.specs.Laws.{ClausesSayCubesAreFalse}
 use Rattle.pb_cubes.specs.Pieces.{CubeList}
 use Rattle.pb_search.specs.declared.search_state.SearchState.{SearchState}
 use Rattle.pb_search.specs.Layout.{IsLaidOut}
@@ -20,11 +20,18 @@ use Rattle.pb_search.specs.SearchState.{IsStateOf}
 abbrev pub HasRowsOf : NormalForm → List (List Literal) → EngineState → Type 0
 HasRowsOf f cubes s = (clauses : List PositiveRow) × (s.rows ≡ f.rows ++ clauses) × AreClausesOf cubes clauses
 
+-- what holds of two lists together holds of each
+all_left : (P : PositiveRow → Type 0) (xs ys : List PositiveRow) → All P (xs ++ ys) → All P xs
+all_left P xs ys all k d h = All-contains P (xs ++ ys) (get_or xs k d) all (Contains-append_left xs ys (get_or xs k d) (All-contains_itself xs k d h))
+
+all_right : (P : PositiveRow → Type 0) (xs ys : List PositiveRow) → All P (xs ++ ys) → All P ys
+all_right P xs ys all k d h = All-contains P (xs ++ ys) (get_or ys k d) all (Contains-append_right xs ys (get_or ys k d) (All-contains_itself ys k d h))
+
 -- so who meets them is feasible and makes each cube false
-rows_mean : (p : Problem) (f : NormalForm) (cubes : List (List Literal)) (s : EngineState) → KeepsFeasible p f → HasRowsOf f cubes s → (a : List Bool) → MeetsRows a s.rows ↔ (IsFeasible p a × All (λ cube. MakesFalse a cube) cubes)
-rows_mean p f cubes s feasible rows a = (
-  (λ h. (let b = both_met a f.rows rows.0 cubes rows.2 (subst (λ (x : List PositiveRow). MeetsRows a x) rows.1 h) in ((feasible a).0 b.0, b.1))),
-  (λ h. subst (λ (x : List PositiveRow). MeetsRows a x) (sym rows.1) (both_from a f.rows rows.0 cubes rows.2 ((feasible a).1 h.0) h.1)),
+rows_mean : (p : Problem) (f : NormalForm) (cubes : List (List Literal)) (s : EngineState) → ClausesSayCubesAreFalse → KeepsFeasible p f → HasRowsOf f cubes s → (a : List Bool) → MeetsRows a s.rows ↔ (IsFeasible p a × All (λ cube. MakesFalse a cube) cubes)
+rows_mean p f cubes s law feasible (clauses, rows, are) a = (
+  (λ h. (let both = subst (λ (x : List PositiveRow). MeetsRows a x) rows h in ((feasible a).0 (all_left (MeetsRow a) f.rows clauses both), (law a cubes clauses are).0 (all_right (MeetsRow a) f.rows clauses both)))),
+  (λ h. subst (λ (x : List PositiveRow). MeetsRows a x) (sym rows) (All-append (MeetsRow a) f.rows clauses ((feasible a).1 h.0) ((law a cubes clauses are).1 h.1))),
 )
 
 -- what a state has that was made over the form, to make the cubes false
@@ -35,11 +42,11 @@ pub record IsMade (f : NormalForm) (cubes : List (List Literal)) (t : SearchStat
   pub candidate : length t.candidate ≡ f.vars
   pub room : f.vars ≤ vec_capacity t.branches
 
-made_state : (p : Problem) (f : NormalForm) (cubes : List (List Literal)) (t : SearchState) → f.vars ≡ p.vars → KeepsFeasible p f → KeepsCost p f → p.vars ≤ MAX_VARS → IsMade f cubes t → IsStateOf p t
-made_state p f cubes t vars feasible costs few made = record {
+made_state : (p : Problem) (f : NormalForm) (cubes : List (List Literal)) (t : SearchState) → ClausesSayCubesAreFalse → f.vars ≡ p.vars → KeepsFeasible p f → KeepsCost p f → p.vars ≤ MAX_VARS → IsMade f cubes t → IsStateOf p t
+made_state p f cubes t law vars feasible costs few made = record {
   engine = record {
     vars = made.vars ∙ vars;
-    feasible = λ a h. ((rows_mean p f cubes t.engine feasible made.rows a).0 h).0;
+    feasible = λ a h. ((rows_mean p f cubes t.engine law feasible made.rows a).0 h).0;
     costs = subst (λ (x : NormalForm). KeepsCost p x) (sym made.form) costs;
   };
   few_variables = few;
@@ -47,11 +54,11 @@ made_state p f cubes t vars feasible costs few made = record {
   room = subst (λ (n : ℕ). n ≤ vec_capacity t.branches) vars made.room;
 }
 
-pub laid_out : (p : Problem) (f : NormalForm) (pieces : CubeList) (cube rest : SearchState) → f.vars ≡ p.vars → KeepsFeasible p f → KeepsCost p f → p.vars ≤ MAX_VARS → pieces.vars ≡ p.vars → IsMade f [] cube → IsMade f pieces.cubes rest → IsLaidOut p pieces cube rest
-laid_out p f pieces cube rest vars feasible costs few same none all = record {
+pub laid_out : (p : Problem) (f : NormalForm) (pieces : CubeList) (cube rest : SearchState) → ClausesSayCubesAreFalse → f.vars ≡ p.vars → KeepsFeasible p f → KeepsCost p f → p.vars ≤ MAX_VARS → pieces.vars ≡ p.vars → IsMade f [] cube → IsMade f pieces.cubes rest → IsLaidOut p pieces cube rest
+laid_out p f pieces cube rest law vars feasible costs few same none all = record {
   vars = same;
-  cube_state = made_state p f [] cube vars feasible costs few none;
-  rest_state = made_state p f pieces.cubes rest vars feasible costs few all;
-  cube_rows = λ a h. (rows_mean p f [] cube.engine feasible none.rows a).1 (h, All-nil (λ (c : List Literal). MakesFalse a c));
-  rest_rows = rows_mean p f pieces.cubes rest.engine feasible all.rows;
+  cube_state = made_state p f [] cube law vars feasible costs few none;
+  rest_state = made_state p f pieces.cubes rest law vars feasible costs few all;
+  cube_rows = λ a h. (rows_mean p f [] cube.engine law feasible none.rows a).1 (h, All-nil (λ (c : List Literal). MakesFalse a c));
+  rest_rows = rows_mean p f pieces.cubes rest.engine law feasible all.rows;
 }

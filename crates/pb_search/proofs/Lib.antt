@@ -7,3 +7,4 @@ pub mod Moves
 pub mod SearchLemmas
 pub mod RootLemmas
 pub mod LayoutLemmas
+pub mod BudgetLemmas

@@ -1,6 +1,7 @@
 pub mod Held
 pub mod Solutions
 pub mod Done
+pub mod Budget
 pub mod Paths
 pub mod SearchState
 pub mod Layout

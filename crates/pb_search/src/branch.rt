@@ -1,9 +1,10 @@
 //! A decision of the search, and how one is made.
 
-ghost use Rattle.std.specs.Prelude.{◌≡◌, ◌++◌, ◌∷◌, [], ◌≤◌, List, length, vec_capacity};
+ghost use Rattle.std.specs.Prelude.{◌≡◌, ◌≢◌, ◌++◌, ◌∷◌, [], ◌≤◌, List, length, vec_capacity, Some};
 ghost use Rattle.pb_inst.specs.Literal.{Literal};
 ghost use Rattle.pb_search.specs.Solutions.{SameConstraints};
 ghost use Rattle.pb_search.specs.SearchState.{IsAtPath, IsAtSomePath, IsFree};
+ghost use Rattle.pb_search.specs.Budget.{one_more};
 
 use pb_engine::Engine;
 use pb_inst::{Lit, Number};
@@ -15,9 +16,9 @@ pub struct Branch {
     pub lit: Lit,
     /// Whether the other value was tried before it.
     pub flipped: bool,
-    /// The bound of the trail before the decision, or the least number where none was taken: no more than a hint of whether
-    /// to ask the engine again.
-    pub bound: Number,
+    /// The bound of the trail before the decision, or none where none was taken: no more than a hint of whether to ask the
+    /// engine again.
+    pub bound: Option<Number>,
     pub hints: Hints,
 }
 
@@ -40,18 +41,36 @@ impl Hints {
     }
 }
 
-/// Adds a decision to the path and assumes its literal.
-pub fn decide(engine: &mut Engine<'_>, path: &mut Vec<Branch>, branch: Branch)
+/// Adds a decision to the path, assumes its literal, and takes one off what is left of the budget.
+pub fn decide(
+    engine: &mut Engine<'_>,
+    path: &mut Vec<Branch>,
+    branch: Branch,
+    left: &mut Option<u64>,
+)
     requires at_path { IsAtSomePath engine.old path.old.items }
     requires free { IsFree engine.old branch.lit }
     requires room { engine.old.vars ≤ vec_capacity path.old }
+    requires some_left { left.old ≢ Some 0 }
     ensures added { path.new.items ≡ path.old.items ++ branch ∷ [] }
     ensures few { length path.new.items ≤ engine.old.vars }
     ensures at_path { (root : List Literal) → IsAtPath root engine.old path.old.items → IsAtPath root engine.new path.new.items }
     ensures constraints { SameConstraints engine.old engine.new }
     ensures same_room { vec_capacity path.new ≡ vec_capacity path.old }
     ensures longer { engine.new.trail ≡ engine.old.trail ++ branch.lit ∷ [] }
+    ensures counted { left.old ≡ one_more left.new }
 {
     engine.assume(branch.lit);
+    count_down(left);
     path.push_reserved(branch);
+}
+
+/// Takes one decision off what is left, where there is a budget.
+fn count_down(left: &mut Option<u64>)
+    requires { left.old ≢ Some 0 }
+    ensures { left.old ≡ one_more left.new }
+{
+    if let Some(count) = *left {
+        *left = Some(count - 1);
+    }
 }

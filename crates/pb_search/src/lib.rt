@@ -13,6 +13,7 @@ mod branch;
 mod incumbent;
 mod node;
 mod order;
+mod outcome;
 mod pruning;
 mod root;
 mod search;
@@ -22,6 +23,7 @@ mod tables;
 #[cfg(test)]
 mod tests;
 
+pub use outcome::Outcome;
 pub use search::Search;
 pub use share::{Alone, Share};
 pub use tables::SearchTables;

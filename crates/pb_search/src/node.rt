@@ -1,12 +1,13 @@
 //! The search of a subtree, node by node.
 
-ghost use Rattle.std.specs.Prelude.{◌≡◌, ◌⊎◌, ◌+◌, ◌<◌, false, [], IfSome, IfNone, IsSomeAnd};
+ghost use Rattle.std.specs.Prelude.{◌≡◌, ◌⊎◌, ◌+◌, ◌<◌, false, [], Some, IfSome, IfNone, IsSomeAnd};
 ghost use Rattle.pb_inst.specs.Incumbent.{IsSound};
 ghost use Rattle.pb_engine.specs.EngineState.{EngineState};
 ghost use Rattle.pb_engine.specs.Soundness.{IsSoundTrail};
 ghost use Rattle.pb_search.specs.Held.{MovesOn};
 ghost use Rattle.pb_search.specs.Solutions.{SameConstraints, Completes};
 ghost use Rattle.pb_search.specs.AgreedPrefix.{KnowsHeldPrefix};
+ghost use Rattle.pb_search.specs.Budget.{IsLeftOf};
 ghost use Rattle.pb_search.specs.SearchState.{IsStateOf, IsAtSomePath, IsFree, IsClosed, SameBranches, IsUnderWay, IsNext, LeavesFewer, IsSearched, IsOwn};
 
 use crate::Share;
@@ -15,6 +16,7 @@ use crate::backtrack::backtrack;
 use crate::branch::{Branch, decide};
 use crate::incumbent::{borrow_on_the_way, take_leaf};
 use crate::order::next_decision;
+use crate::outcome::Outcome;
 use crate::pruning::{Pruning, check_bound};
 use crate::search_state::SearchState;
 use pb_engine::Step;
@@ -96,13 +98,21 @@ fn next_branch<S: Share>(
     }
 }
 
-/// Searches all solutions below the trail. No call of it recurses, and it takes no memory.
-pub fn search_subtree<S: Share>(state: &mut SearchState<'_>, best: &mut Best<'_>, share: &mut S)
+/// Searches all solutions below the trail, or stops where it would need one decision more than are left. No call of it
+/// recurses, and it takes no memory.
+pub fn search_subtree<S: Share>(
+    state: &mut SearchState<'_>,
+    best: &mut Best<'_>,
+    share: &mut S,
+    left: &mut Option<u64>,
+) -> Outcome
     requires state { IsStateOf best.old.problem state.old }
     requires sound { IsSoundTrail state.old.engine }
     requires no_decisions { state.old.branches.items ≡ [] }
     requires held_sound { IsSound best.old }
-    ensures searched { IsSearched best.old.problem state.old.engine best.new.held }
+    ensures searched { result ≡ Outcome.Whole → IsSearched best.old.problem state.old.engine best.new.held }
+    ensures used_up { result ≡ Outcome.Cut → left.new ≡ Some 0 }
+    ensures budget { IsLeftOf left.old left.new }
     ensures moves_on { MovesOn best.old best.new }
     ensures held_sound { IsSound best.new }
     ensures own { S.lends share.old ≡ false → IsOwn state.old.engine best.old best.new }
@@ -114,7 +124,10 @@ pub fn search_subtree<S: Share>(state: &mut SearchState<'_>, best: &mut Best<'_>
     let mut decisions = 0;
     let mut agreed = AgreedPrefix::none();
     while let Some(branch) = next_branch(state, best, share, &mut agreed) {
-        decide(&mut state.engine, &mut state.branches, branch);
+        if *left == Some(0) {
+            return Outcome::Cut;
+        }
+        decide(&mut state.engine, &mut state.branches, branch, left);
         // Any moment would do. Asked this seldom, the share costs next to nothing, and the bound is still soon compared with
         // what another search found.
         decisions = (decisions + 1) % BORROW_INTERVAL;
@@ -122,4 +135,5 @@ pub fn search_subtree<S: Share>(state: &mut SearchState<'_>, best: &mut Best<'_>
             borrow_on_the_way(&mut state.candidate, best, share, &mut agreed);
         }
     }
+    Outcome::Whole
 }

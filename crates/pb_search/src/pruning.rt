@@ -22,12 +22,12 @@ pub enum Pruning {
     Closed,
 }
 
-/// What the bound says of the subtree below the trail, and the bound itself: the least number where none was taken.
+/// What the bound says of the subtree below the trail, and the bound itself: none where none was taken.
 pub fn check_bound(
     engine: &mut Engine<'_>,
     best: &Best<'_>,
     agreed: &mut AgreedPrefix,
-) -> (Pruning, Number)
+) -> (Pruning, Option<Number>)
     requires engine { IsEngineOf best.now.problem engine.old }
     requires known { KnowsHeldPrefix engine.old.trail best.now.held agreed.old }
     ensures closed { result.0 ≡ Pruning.Closed → IsClosed best.now.problem engine.old best.now.held }
@@ -37,10 +37,10 @@ pub fn check_bound(
     // Where nothing is held there is nothing to compare a bound with, and taking one would go through rows for nothing:
     // the first descent to a solution costs propagation alone.
     if best.cost().is_none() {
-        return (Pruning::Open, Number::MIN);
+        return (Pruning::Open, None);
     }
     let bound = engine.bound();
-    (judge_bound(engine, bound, best, agreed), bound)
+    (judge_bound(engine, bound, best, agreed), Some(bound))
 }
 
 /// Compares a bound of the trail's completions with the best cost. Where they are equal the order of assignments decides.
@@ -116,8 +116,9 @@ pub fn is_spent(
         return false;
     };
     // The best may have improved since the first value was decided, so the bound is compared before the second one too.
-    // The trail is the same again, so the bound that the branch keeps tells where asking the engine would be in vain.
-    if branch.bound < cost {
+    // The trail is the same again, so a bound that the branch keeps tells where asking the engine would be in vain. On the
+    // first descent none was taken.
+    if branch.bound.is_some_and(|bound| bound < cost) {
         return false;
     }
     check_bound(engine, best, agreed).0 == Pruning::Closed

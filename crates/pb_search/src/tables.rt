@@ -6,7 +6,7 @@ ghost use Rattle.pb_search.specs.Layout.{IsLaidOut, pieces_of};
 
 use crate::search_state::SearchState;
 use pb_cubes::Pieces;
-use pb_engine::{Clauses, Rows};
+use pb_engine::{Clauses, Rows, clause_laws};
 use pb_inst::{Instance, Memory};
 use pb_normal::Normal;
 use std::alloc::Global;
@@ -81,6 +81,7 @@ impl<'a> SearchTables<'a> {
     ) -> Result<(SearchState<'a>, SearchState<'a>), Memory>
         ensures { IfOk result (λ t. IsLaidOut self.now.problem (pieces_of self.now.problem self.now.cubes) t.0 t.1) }
     {
+        clause_laws();
         let cube = SearchState::over(alloc, &self.rows, &self.none, &[])?;
         let rest = SearchState::over(alloc, &self.rows, &self.rest, self.pieces.cubes())?;
         Ok((cube, rest))

@@ -1,19 +1,15 @@
 -- The cubes of the texts are of the instance's variables, so that they make pieces.
-use Rattle.std.proofs.Common.{◌≡◌, ◌∙◌, ◌+◌, ◌++◌, length, flat_map, inl, inr, ◌⊎◌, ◌↔◌, ℕ, ◌≤◌, ◌<◌, List, [], ◌∷◌, Result, Ok, Err, All, max, min, subst, sym, ap, arith}
+use Rattle.std.proofs.Common.{◌≡◌, ◌∙◌, ◌+◌, ◌++◌, length, flat_map, inl, inr, ◌⊎◌, ◌↔◌, ℕ, ◌≤◌, ◌<◌, List, [], ◌∷◌, Result, Ok, Err, All, min, subst, sym, ap, arith}
 use Rattle.std.specs.Prelude.{IfErr, IsErrOf}
 use Rattle.std.proofs.lemmas.List.{length-append}
 use Rattle.std.proofs.lemmas.List.Elements.{All-nil, All-cons, All-append}
 use Rattle.pb_inst.specs.Literal.{Literal}
-use Rattle.pb_inst.specs.Problem.{Problem}
-use Rattle.pb_read.specs.Clauses.{VarsUpTo, greatest_var}
+use Rattle.pb_read.specs.Clauses.{VarsUpTo}
 use Rattle.pb_read.proofs.Limits.{all_front, all_back, all_map, all_of}
-use Rattle.pb_read.proofs.IcnfReading.{up_to_greatest}
 use Rattle.pb_cubes.specs.declared.TheConstants.{MAX_CUBES}
 use Rattle.pb_cubes.specs.declared.faults.CubeFault.{CubeFault}
 use Rattle.pb_cubes.specs.declared.faults.CubeFault.TheVariants.{TooMany, BadVariable, Memory}
 use Rattle.pb_cubes.specs.Pieces.{AreWithin, HasVariableOver}
-use Rattle.pb_read.specs.declared.format.Format.TheVariants.{Icnf}
-use Rattle.pb_read.specs.Format.{Spells}
 use Rattle.pb_solve.specs.Texts.{SpellsCubes}
 
 abbrev IsUpTo : ℕ → Literal → Type 0
@@ -47,11 +43,11 @@ Fit n cubes = (length cubes ≤ MAX_CUBES) × AreWithin n cubes
 within_joined : (n : ℕ) (xs ys : List (List Literal)) → AreWithin n xs → AreWithin n ys → AreWithin n (xs ++ ys)
 within_joined n xs ys h k = All-append (λ (cube : List Literal). All (IsUpTo n) cube) xs ys h k
 
-pub joined_fit : (n : ℕ) (own filed made given all : List (List Literal)) → given ≡ own ++ filed → all ≡ given ++ made → AreWithin n own → AreWithin n filed → AreWithin n made → length own + length filed + length made ≤ MAX_CUBES → Fit n all
-joined_fit n own filed made given all given_is all_is of_own of_filed of_made few =
-    let joined : all ≡ (own ++ filed) ++ made = all_is ∙ ap (λ (cubes : List (List Literal)). cubes ++ made) given_is in (
-      omega (arith, few, ap length joined, length-append (own ++ filed) made, length-append own filed),
-      subst (AreWithin n) (sym joined) (within_joined n (own ++ filed) made (within_joined n own filed of_own of_filed) of_made),
+pub joined_fit : (n : ℕ) (input_cubes file_cubes split_cubes given all : List (List Literal)) → given ≡ input_cubes ++ file_cubes → all ≡ given ++ split_cubes → AreWithin n input_cubes → AreWithin n file_cubes → AreWithin n split_cubes → length input_cubes + length file_cubes + length split_cubes ≤ MAX_CUBES → Fit n all
+joined_fit n input_cubes file_cubes split_cubes given all given_is all_is of_input of_file of_split few =
+    let joined : all ≡ (input_cubes ++ file_cubes) ++ split_cubes = all_is ∙ ap (λ (cubes : List (List Literal)). cubes ++ split_cubes) given_is in (
+      omega (arith, few, ap length joined, length-append (input_cubes ++ file_cubes) split_cubes, length-append input_cubes file_cubes),
+      subst (AreWithin n) (sym joined) (within_joined n (input_cubes ++ file_cubes) split_cubes (within_joined n input_cubes file_cubes of_input of_file) of_split),
     )
 
 -- cubes that fit are not refused

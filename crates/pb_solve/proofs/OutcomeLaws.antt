@@ -7,7 +7,7 @@ use Rattle.pb_inst.specs.Problem.{Problem}
 use Rattle.pb_inst.specs.Meaning.{cost}
 use Rattle.pb_inst.specs.Order.{IsLeast}
 use Rattle.pb_inst.specs.Incumbent.{Solution}
-use Rattle.pb_solve.specs.declared.preparing.Prepared.{Prepared}
+use Rattle.pb_solve.specs.declared.prepare.Prepared.{Prepared}
 use Rattle.pb_read.specs.declared.format.Format.{Format}
 use Rattle.pb_solve.specs.declared.options.Status.{Status}
 use Rattle.pb_solve.specs.declared.options.Status.TheVariants.{Satisfiable, Optimum, Unsupported, Unknown}

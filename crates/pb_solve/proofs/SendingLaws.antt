@@ -1,9 +1,11 @@
--- How writes through a chunk join.
+-- How the bytes of a report come to be written.
 use Rattle.std.proofs.Common.{◌≡◌, ℕ, Bool, true, false, ◌||◌, ◌∷◌, subst, arith, refl, ◌-◌, List, [], ◌++◌, length, take, drop, Option, Some, None, Result, Ok, Err, is_err, OnOk, sym, ◌∙◌, ap, append_assoc, append-nil, take-append-drop}
 use Rattle.std.proofs.lemmas.List.{take_rest}
 use Rattle.std.proofs.lemmas.Bool.{false≢true}
 use Rattle.std.specs.Io.KnownBytes.{Appends, append_known}
-use Rattle.pb_solve.specs.Sending.{Grows}
+use Rattle.pb_solve.specs.Device.{Device}
+use Rattle.pb_solve.specs.Sending.{Grows, Writes, Adds}
+use Rattle.pb_solve.specs.declared.report.writer.Report.{Report}
 
 pub appended_both : (a b c : Option (List ℕ)) (bs cs : List ℕ) → Appends a b bs → Appends b c cs → Appends a c (bs ++ cs)
 appended_both None b c bs cs p q = tt
@@ -59,8 +61,20 @@ all_sent f g h a b c empty waiting bs none put sent = record {
   grown = λ unfailed. sent_all a b c empty waiting bs none (put.grown (unfailed_before g h sent.stays unfailed)) (sent.grown unfailed);
 }
 
+-- what was added first and what was added then
+pub adds_both : {T : Type 0} (contents : T → Option (List ℕ)) (a b c : Report T) (bs cs : List ℕ) → Adds contents a b bs → Adds contents b c cs → Adds contents a c (bs ++ cs)
+adds_both contents a b c bs cs p q = record {
+  same_device = q.same_device ∙ p.same_device;
+  grows = grown_both _ _ _ _ _ _ _ _ p.grows q.grows;
+}
+
+-- nothing was added so far
+pub adds_none : {T : Type 0} (contents : T → Option (List ℕ)) (a : Report T) → Adds contents a a []
+adds_none contents a = record { same_device = refl; grows = grown_none _ _ }
+
 -- a report that ended with no fault was written whole
-pub reported : {X E : Type 0} (r : Result X E) (f g h : Bool) (a b c : Option (List ℕ)) (empty waiting bs : List ℕ) → empty ≡ []
-    → Grows f g (append_known a empty) (append_known b waiting) bs → Grows g h b c waiting → h ≡ is_err r → OnOk r (Appends a c bs)
-reported (Ok ended) f g h a b c empty waiting bs none put sent noted = (all_sent f g h a b c empty waiting bs none put sent).grown noted
-reported (Err fault) f g h a b c empty waiting bs none put sent noted = tt
+pub reported : {T X E : Type 0} (contents : T → Option (List ℕ)) (r : Result X E) (out : Device T) (first last : Report T) (out' : Device T) (bs : List ℕ) → first.out.now ≡ out → first.waiting ≡ []
+    → Adds contents first last bs → Writes contents last.out.now out' last.waiting → out'.failed ≡ is_err r → OnOk r (Appends (contents out.held) (contents out'.held) bs)
+reported contents (Ok ended) out first last out' bs same none put sent noted =
+    subst (λ d. Appends (contents d.held) (contents out'.held) bs) same ((all_sent _ _ _ _ _ _ _ _ _ none put.grows sent).grown noted)
+reported contents (Err fault) out first last out' bs same none put sent noted = tt

@@ -13,25 +13,25 @@ use Rattle.pb_read.specs.declared.format.Format.TheVariants.{Opb, Cnf, Icnf}
 use Rattle.pb_read.specs.Format.{Spells, text_refusal}
 use Rattle.pb_solve.specs.Texts.{SpellsCubes, cube_text_refusal}
 
-not_refused : (format : Format) (text : List ℕ) (p : Problem) (own : List (List Literal)) → Spells format text p own → text_refusal format text ≡ None
-not_refused Opb text p own h = opb.not_refused text p h.0
-not_refused Cnf text p own h = cnf.not_refused text p h.0
-not_refused Icnf text p own h = icnf.not_refused text p own h
+not_refused : (format : Format) (text : List ℕ) (p : Problem) (input_cubes : List (List Literal)) → Spells format text p input_cubes → text_refusal format text ≡ None
+not_refused Opb text p input_cubes h = opb.not_refused text p h.0
+not_refused Cnf text p input_cubes h = cnf.not_refused text p h.0
+not_refused Icnf text p input_cubes h = icnf.not_refused text p input_cubes h
 
 -- what has a refusal spells nothing
-pub not_both : (format : Format) (text : List ℕ) (p : Problem) (own : List (List Literal)) (fault : ReadFault) → Spells format text p own → text_refusal format text ≡ Some fault → ⊥
-not_both format text p own fault h refused =
-    let both : None ≡ Some fault = sym (not_refused format text p own h) ∙ refused in cc
+pub not_both : (format : Format) (text : List ℕ) (p : Problem) (input_cubes : List (List Literal)) (fault : ReadFault) → Spells format text p input_cubes → text_refusal format text ≡ Some fault → ⊥
+not_both format text p input_cubes fault h refused =
+    let both : None ≡ Some fault = sym (not_refused format text p input_cubes h) ∙ refused in cc
 
 -- the same where it is known what was read
-pub spelled_not_refused : (X : Type 0) (format : Format) (input : Option (List ℕ)) (p : Problem) (own : List (List Literal)) → IfSome input (λ t. Spells format t p own) → IfSome input (λ t. (fault : ReadFault) → text_refusal format t ≡ Some fault → X)
-spelled_not_refused X format None p own spells = tt
-spelled_not_refused X format (Some ts) p own spells = λ fault refused. absurd (not_both format ts p own fault spells refused)
+pub spelled_not_refused : (X : Type 0) (format : Format) (input : Option (List ℕ)) (p : Problem) (input_cubes : List (List Literal)) → IfSome input (λ t. Spells format t p input_cubes) → IfSome input (λ t. (fault : ReadFault) → text_refusal format t ≡ Some fault → X)
+spelled_not_refused X format None p input_cubes spells = tt
+spelled_not_refused X format (Some ts) p input_cubes spells = λ fault refused. absurd (not_both format ts p input_cubes fault spells refused)
 
-pub one_spelling : (format : Format) (text : List ℕ) (p q : Problem) (own own' : List (List Literal)) → Spells format text p own → Spells format text q own' → (p ≡ q) × (own ≡ own')
-one_spelling Opb text p q own own' h k = (opb.one_instance text p q h.0 k.0, h.1 ∙ sym k.1)
-one_spelling Cnf text p q own own' h k = (cnf.one text p q h.0 k.0, h.1 ∙ sym k.1)
-one_spelling Icnf text p q own own' h k = icnf.one text p q own own' h k
+pub one_spelling : (format : Format) (text : List ℕ) (p q : Problem) (input_cubes input_cubes' : List (List Literal)) → Spells format text p input_cubes → Spells format text q input_cubes' → (p ≡ q) × (input_cubes ≡ input_cubes')
+one_spelling Opb text p q input_cubes input_cubes' h k = (opb.one_instance text p q h.0 k.0, h.1 ∙ sym k.1)
+one_spelling Cnf text p q input_cubes input_cubes' h k = (cnf.one text p q h.0 k.0, h.1 ∙ sym k.1)
+one_spelling Icnf text p q input_cubes input_cubes' h k = icnf.one text p q input_cubes input_cubes' h k
 
 pub same_fault : (o : Option ReadFault) (f g : ReadFault) → o ≡ Some f → o ≡ Some g → f ≡ g
 same_fault o f g h k = let both : Some f ≡ Some g = sym h ∙ k in cc

@@ -10,13 +10,13 @@ abbrev pub AreOfSplit : Problem → ℕ → List (List Literal) → Type 0
 AreOfSplit p split cubes = ((split ≡ 0) × (cubes ≡ [])) ⊎ ((1 ≤ split) × IsSplit p split cubes)
 
 -- the cubes are the input's own, those of the cube file and those of the split, joined in this order
-pub record AreJoined (p : Problem) (own : List (List Literal)) (cube_text : Option (List ℕ)) (split : ℕ) (cubes : List (List Literal)) : Type 0 where
-  pub filed : List (List Literal)
-  pub file : FileSpells p.vars cube_text filed
-  pub made : List (List Literal)
-  pub of_split : AreOfSplit p split made
-  pub joined : cubes ≡ (own ++ filed) ++ made
+pub record AreJoined (p : Problem) (input_cubes : List (List Literal)) (cube_text : Option (List ℕ)) (split : ℕ) (cubes : List (List Literal)) : Type 0 where
+  pub file_cubes : List (List Literal)
+  pub file : FileSpells p.vars cube_text file_cubes
+  pub split_cubes : List (List Literal)
+  pub of_split : AreOfSplit p split split_cubes
+  pub joined : cubes ≡ (input_cubes ++ file_cubes) ++ split_cubes
 
 -- nothing of the cubes and the split is refused, and these are all cubes together
 abbrev pub IsDivided : Problem → List (List Literal) → Option (List ℕ) → ℕ → List (List Literal) → Type 0
-IsDivided p own cube_text split cubes = IsDivisionAccepted p own cube_text split × AreJoined p own cube_text split cubes
+IsDivided p input_cubes cube_text split cubes = IsDivisionAccepted p input_cubes cube_text split × AreJoined p input_cubes cube_text split cubes

@@ -42,8 +42,8 @@ abbrev pub IsBadSplit : ℕ → ℕ → Type 0
 IsBadSplit split vars = (1 ≤ split) × ((most_split < split) ⊎ (vars < split))
 
 -- a split of 0 makes no cube
-abbrev pub split_cubes : ℕ → ℕ
-split_cubes split = if split == 0 then 0 else 2 ^ split
+abbrev pub split_count : ℕ → ℕ
+split_count split = if split == 0 then 0 else 2 ^ split
 
 -- the cubes of a cube file, and none where there is no file
 abbrev pub FileSpells : ℕ → Option (List ℕ) → List (List Literal) → Type 0
@@ -56,30 +56,30 @@ IsFileRefused vars cube_text fault = IsSomeAnd cube_text (λ text. cube_text_ref
 
 -- so many cubes are too many with those that the split makes
 abbrev pub IsTooMany : ℕ → ℕ → Type 0
-IsTooMany count split = most_cubes < count + split_cubes split
+IsTooMany count split = most_cubes < count + split_count split
 
 -- of the cubes and the split, the first that is refused is this
 abbrev pub IsDivisionRefused : Problem → List (List Literal) → Option (List ℕ) → ℕ → Refusal → Type 0
-IsDivisionRefused p own cube_text split (Input fault) = ⊥
-IsDivisionRefused p own cube_text split (Cubes fault) = IsFileRefused p.vars cube_text fault
-IsDivisionRefused p own cube_text split Split = ((filed : List (List Literal)) × FileSpells p.vars cube_text filed) × IsBadSplit split p.vars
-IsDivisionRefused p own cube_text split TooManyCubes =
-    (filed : List (List Literal)) × FileSpells p.vars cube_text filed × (¬ IsBadSplit split p.vars) × IsTooMany (length own + length filed) split
+IsDivisionRefused p input_cubes cube_text split (Input fault) = ⊥
+IsDivisionRefused p input_cubes cube_text split (Cubes fault) = IsFileRefused p.vars cube_text fault
+IsDivisionRefused p input_cubes cube_text split Split = ((file_cubes : List (List Literal)) × FileSpells p.vars cube_text file_cubes) × IsBadSplit split p.vars
+IsDivisionRefused p input_cubes cube_text split TooManyCubes =
+    (file_cubes : List (List Literal)) × FileSpells p.vars cube_text file_cubes × (¬ IsBadSplit split p.vars) × IsTooMany (length input_cubes + length file_cubes) split
 
 -- nothing of the cubes and the split is refused
 abbrev pub IsDivisionAccepted : Problem → List (List Literal) → Option (List ℕ) → ℕ → Type 0
-IsDivisionAccepted p own cube_text split =
-    (filed : List (List Literal)) × FileSpells p.vars cube_text filed × (¬ IsBadSplit split p.vars) × (¬ IsTooMany (length own + length filed) split)
+IsDivisionAccepted p input_cubes cube_text split =
+    (file_cubes : List (List Literal)) × FileSpells p.vars cube_text file_cubes × (¬ IsBadSplit split p.vars) × (¬ IsTooMany (length input_cubes + length file_cubes) split)
 
 -- the outcome on an instance and its text's own cubes
 abbrev pub IsOutcomeOn : Problem → List (List Literal) → Option (List ℕ) → ℕ → Outcome → Type 0
-IsOutcomeOn p own cube_text split outcome =
-    ((refusal : Refusal) × (outcome ≡ Refused refusal) × IsDivisionRefused p own cube_text split refusal)
-    ⊎ (IsDivisionAccepted p own cube_text split × IsAnswer p outcome)
+IsOutcomeOn p input_cubes cube_text split outcome =
+    ((refusal : Refusal) × (outcome ≡ Refused refusal) × IsDivisionRefused p input_cubes cube_text split refusal)
+    ⊎ (IsDivisionAccepted p input_cubes cube_text split × IsAnswer p outcome)
 
 -- The outcome of an input text, the text of a cube file if there is one, and a split: the input's refusal,
 -- else that of the cubes or the split, else the answer.
 abbrev pub IsOutcome : Format → List ℕ → Option (List ℕ) → ℕ → Outcome → Type 0
 IsOutcome format text cube_text split outcome =
     ((fault : ReadFault) × (outcome ≡ Refused (Input fault)) × (text_refusal format text ≡ Some fault))
-    ⊎ ((p : Problem) × (own : List (List Literal)) × Spells format text p own × IsOutcomeOn p own cube_text split outcome)
+    ⊎ ((p : Problem) × (input_cubes : List (List Literal)) × Spells format text p input_cubes × IsOutcomeOn p input_cubes cube_text split outcome)

@@ -1,7 +1,7 @@
 -- What reading a device to its end tells.
 use Rattle.std.specs.Prelude.{◌≡◌, ℕ, Bool, true, false, List, Option, Some, None, Result, Ok, Err, ⊤}
-use Rattle.pb_solve.specs.declared.reading.ReadStop.{ReadStop}
-use Rattle.pb_solve.specs.declared.reading.ReadStop.TheVariants.{Fault, Memory}
+use Rattle.pb_solve.specs.declared.prepare.reading.ReadStop.{ReadStop}
+use Rattle.pb_solve.specs.declared.prepare.reading.ReadStop.TheVariants.{Fault, Memory}
 
 -- the device answered a fault
 abbrev pub is_fault : {T : Type 0} → Result T ReadStop → Bool

@@ -7,9 +7,9 @@ use Rattle.pb_inst.specs.Literal.{Literal}
 use Rattle.pb_inst.specs.Problem.{Problem}
 use Rattle.pb_read.specs.declared.format.Format.{Format}
 use Rattle.pb_solve.specs.declared.options.Status.{Status}
-use Rattle.pb_solve.specs.declared.preparing.Prepared.{Prepared}
-use Rattle.pb_solve.specs.declared.preparing.Halt.{Halt}
-use Rattle.pb_solve.specs.declared.preparing.Halt.TheVariants.{ReadInput, ReadCubes, Memory, Refused}
+use Rattle.pb_solve.specs.declared.prepare.Prepared.{Prepared}
+use Rattle.pb_solve.specs.declared.prepare.Halt.{Halt}
+use Rattle.pb_solve.specs.declared.prepare.Halt.TheVariants.{ReadInput, ReadCubes, Memory, Refused}
 use Rattle.pb_solve.specs.Device.{Device}
 use Rattle.pb_solve.specs.declared.options.Refusal.TheVariants as refusal
 use Rattle.pb_read.specs.Format.{Spells, text_refusal}
@@ -63,7 +63,7 @@ pub record Answers (format : Format) (p : Problem) (old new : Option (List ℕ))
 
 -- the input spells the instance, with cubes of its own, and the cubes and the split are accepted and make the pieces
 abbrev pub IsAccepted : Format → List ℕ → Option (List ℕ) → ℕ → Prepared → Type 0
-IsAccepted format text cube_text split found = (own : List (List Literal)) × Spells format text found.instance own × IsDivided found.instance own cube_text split found.pieces.cubes
+IsAccepted format text cube_text split found = (input_cubes : List (List Literal)) × Spells format text found.instance input_cubes × IsDivided found.instance input_cubes cube_text split found.pieces.cubes
 
 -- the instance and the pieces of the texts and the split, unless something is refused: then that is the outcome
 abbrev pub IsPrepared : Format → Option (List ℕ) → Option (Option (List ℕ)) → ℕ → Result Prepared Halt → Type 0
@@ -91,10 +91,10 @@ CubesTold (Some (Some cubes)) P = P (Some cubes)
 
 -- the cube file could not be read, or memory ran out, or this is refused of the cubes and the split
 abbrev pub HaltsDivision : Problem → List (List Literal) → Option (List ℕ) → ℕ → Halt → Type 0
-HaltsDivision p own cube_text split ReadInput = ⊥
-HaltsDivision p own cube_text split ReadCubes = ⊤
-HaltsDivision p own cube_text split Memory = ⊤
-HaltsDivision p own cube_text split (Refused refusal) = IsDivisionRefused p own cube_text split refusal
+HaltsDivision p input_cubes cube_text split ReadInput = ⊥
+HaltsDivision p input_cubes cube_text split ReadCubes = ⊤
+HaltsDivision p input_cubes cube_text split Memory = ⊤
+HaltsDivision p input_cubes cube_text split (Refused refusal) = IsDivisionRefused p input_cubes cube_text split refusal
 
 -- the input answered a fault
 abbrev pub stops_at_input : {T : Type 0} → Result T Halt → Bool

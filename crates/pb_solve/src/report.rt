@@ -1,16 +1,18 @@
 //! The reports of a run. Writing one takes no memory.
 ghost use Rattle.std.specs.Prelude.{◌≡◌, false, is_err, IfOk, IfErr, OnOk};
 ghost use Rattle.std.specs.Io.KnownBytes.{Appends};
-ghost use Rattle.pb_solve.specs.Sending.{Writes};
 ghost use Rattle.pb_solve.specs.Report.{refusal_report, memory_report, infeasible_report, satisfiable_report, optimum_report};
 
+mod chunk;
+mod lines;
+mod writer;
+
 use crate::device::Device;
-use crate::lines::{put_cost, put_line, put_refusal, put_values};
 use crate::options::{Refusal, RunFault, Status};
-use crate::sending::Chunk;
 use pb_inst::{Assignment, Number};
 use pb_read::Format;
 use std::io::Write;
+use writer::Report;
 
 /// Reports that something was refused.
 pub(crate) fn report_refusal<W: Write>(
@@ -22,10 +24,10 @@ pub(crate) fn report_refusal<W: Write>(
     ensures fault { IfErr result (λ fault. fault ≡ RunFault.Write) }
     ensures failed { out.new.failed ≡ is_err result }
 {
-    let mut chunk = Chunk::new();
-    put_refusal(&mut chunk, out, refusal);
-    put_line(&mut chunk, out, b"s UNSUPPORTED");
-    finish(chunk, out, Status::Unsupported)
+    let mut report = Report::new(out);
+    report.put_refusal(refusal);
+    report.put_line(b"s UNSUPPORTED");
+    report.finish(Status::Unsupported)
 }
 
 /// Reports that memory ran out before the answer was known: `c refused: Memory` and `s UNKNOWN`. Takes none itself.
@@ -38,10 +40,10 @@ pub fn report_memory<W: Write>(out: &mut Device<W>) -> Result<Status, RunFault>
     ensures fault { IfErr result (λ fault. fault ≡ RunFault.Write) }
     ensures failed { out.new.failed ≡ is_err result }
 {
-    let mut chunk = Chunk::new();
-    put_line(&mut chunk, out, b"c refused: Memory");
-    put_line(&mut chunk, out, b"s UNKNOWN");
-    finish(chunk, out, Status::Unknown)
+    let mut report = Report::new(out);
+    report.put_line(b"c refused: Memory");
+    report.put_line(b"s UNKNOWN");
+    report.finish(Status::Unknown)
 }
 
 /// Reports that no assignment meets every constraint.
@@ -51,9 +53,9 @@ pub(crate) fn report_infeasible<W: Write>(out: &mut Device<W>) -> Result<Status,
     ensures fault { IfErr result (λ fault. fault ≡ RunFault.Write) }
     ensures failed { out.new.failed ≡ is_err result }
 {
-    let mut chunk = Chunk::new();
-    put_line(&mut chunk, out, b"s UNSATISFIABLE");
-    finish(chunk, out, Status::Unsatisfiable)
+    let mut report = Report::new(out);
+    report.put_line(b"s UNSATISFIABLE");
+    report.finish(Status::Unsatisfiable)
 }
 
 /// Reports the least assignment of an instance without an objective.
@@ -67,10 +69,10 @@ pub(crate) fn report_satisfiable<W: Write>(
     ensures fault { IfErr result (λ fault. fault ≡ RunFault.Write) }
     ensures failed { out.new.failed ≡ is_err result }
 {
-    let mut chunk = Chunk::new();
-    put_line(&mut chunk, out, b"s SATISFIABLE");
-    put_values(&mut chunk, out, format, values);
-    finish(chunk, out, Status::Satisfiable)
+    let mut report = Report::new(out);
+    report.put_line(b"s SATISFIABLE");
+    report.put_values(format, values);
+    report.finish(Status::Satisfiable)
 }
 
 /// Reports the least assignment and its cost.
@@ -85,29 +87,9 @@ pub(crate) fn report_optimum<W: Write>(
     ensures fault { IfErr result (λ fault. fault ≡ RunFault.Write) }
     ensures failed { out.new.failed ≡ is_err result }
 {
-    let mut chunk = Chunk::new();
-    put_cost(&mut chunk, out, cost);
-    put_line(&mut chunk, out, b"s OPTIMUM FOUND");
-    put_values(&mut chunk, out, format, values);
-    finish(chunk, out, Status::Optimum)
-}
-
-/// Writes what waits, and flushes. The status is that of the report, unless the device has failed.
-fn finish<W: Write>(
-    mut chunk: Chunk,
-    out: &mut Device<W>,
-    status: Status,
-) -> Result<Status, RunFault>
-    ensures status { IfOk result (λ ended. ended ≡ status) }
-    ensures written { Writes W.contents out.old out.new chunk }
-    ensures fault { IfErr result (λ fault. fault ≡ RunFault.Write) }
-    ensures failed { out.new.failed ≡ is_err result }
-{
-    chunk.send(out);
-    let _ = out.flush();
-    if out.failed() {
-        Err(RunFault::Write)
-    } else {
-        Ok(status)
-    }
+    let mut report = Report::new(out);
+    report.put_cost(cost);
+    report.put_line(b"s OPTIMUM FOUND");
+    report.put_values(format, values);
+    report.finish(Status::Optimum)
 }

@@ -1,21 +1,21 @@
 //! The whole run.
-ghost use Rattle.std.specs.Prelude.{◌≡◌, ◌≢◌, ◌↔◌, false, is_err, Ok, Some, IfOk, IfErr, IfSome, IsErrOf, IsTrue};
+ghost use Rattle.std.specs.Prelude.{◌≡◌, ◌≢◌, ◌↔◌, ℕ, List, Option, false, is_err, Ok, Some, IfOk, IfErr, IfSome, IsErrOf, IsTrue};
 ghost use Rattle.std.specs.Io.KnownBytes.{Appends};
 ghost use Rattle.pb_read.specs.declared.fault.ReadFault.{ReadFault};
 ghost use Rattle.pb_solve.specs.Solving.{HoldsLeast};
 ghost use Rattle.pb_solve.specs.Report.{memory_report};
 ghost use Rattle.pb_read.specs.Format.{text_refusal};
-ghost use Rattle.pb_solve.specs.Run.{Reports, Answers, IsUnfailed, IsUnread, failed_after, text_left};
+ghost use Rattle.pb_solve.specs.Run.{Reports, Answers, IsPrepared, IsUnfailed, IsUnread, failed_after, stops_at_cubes, stops_at_input, text_left};
 
 use crate::device::Device;
-use crate::gates::OpenGate;
 use crate::options::{Options, RunFault, Status};
-use crate::preparing::{Halt, Prepared, prepare};
-use crate::reading::{CubeFile, NoCubeFile};
+use crate::prepare::reading::NoCubeFile;
+use crate::prepare::{Halt, Prepared, prepare};
 use crate::report::{
     report_infeasible, report_memory, report_optimum, report_refusal, report_satisfiable,
 };
-use crate::solving::{SolveFault, solve};
+use crate::workers::gate::OpenGate;
+use crate::workers::solve::{SolveFault, solve};
 use pb_inst::{Best, Instance};
 use pb_read::Format;
 use std::alloc::Global;
@@ -55,41 +55,40 @@ pub fn run<R: Threads + Sync, I: Read, C: Read, W: Write>(
     ensures unread { IfSome (I.remaining input.old.held) (λ text. (fault : ReadFault) → text_refusal options.format text ≡ Some fault
         → IsUnread cubes.entry cubes.exit) }
 {
-    match cubes {
-        None => run_with(rt, alloc, input, &mut NoCubeFile, options, out),
-        Some(cubes) => run_with(rt, alloc, input, cubes, options, out),
-    }
+    let found = match cubes {
+        None => prepare(alloc, input, &mut NoCubeFile, options.format, options.split),
+        Some(cubes) => prepare(alloc, input, cubes, options.format, options.split),
+    };
+    conclude(rt, alloc, found, options, out)
 }
 
-/// The run with a cube file or none.
-fn run_with<R: Threads + Sync, I: Read, C: CubeFile, W: Write>(
+/// Ends a run that has read its texts: with the report of the answer on what was found, or of why there is none.
+fn conclude<R: Threads + Sync, W: Write>(
     rt: &R,
     alloc: Global,
-    input: &mut Device<I>,
-    cubes: &mut C,
+    found: Result<Prepared, Halt>,
     options: Options,
     out: &mut Device<W>,
 ) -> Result<Status, RunFault>
-    requires input { input.old.failed ≡ false }
-    requires cubes { C.has_failed cubes.old ≡ false }
     requires out { out.old.failed ≡ false }
-    ensures headline { IfOk result (λ status. status ≢ Status.Unknown
-        → Reports options.format (I.remaining input.old.held) (C.text_left cubes.old) options.split
-        (W.contents out.old.held) (W.contents out.new.held) status) }
+    requires same_variables { IfOk found (λ found. found.pieces.vars ≡ found.instance.vars) }
+    ensures reports { (input : Option (List ℕ)) (cubes : Option (Option (List ℕ))) → IsPrepared options.format input cubes options.split found
+        → IfOk result (λ status. status ≢ Status.Unknown
+        → Reports options.format input cubes options.split (W.contents out.old.held) (W.contents out.new.held) status) }
     ensures memory { result ≡ Ok Status.Unknown → Appends (W.contents out.old.held) (W.contents out.new.held) memory_report }
-    ensures read_input { IsTrue input.new.failed ↔ IsErrOf result RunFault.ReadInput }
-    ensures read_cubes { IsTrue (C.has_failed cubes.new) ↔ IsErrOf result RunFault.ReadCubes }
+    ensures read_input { IsTrue (stops_at_input found) ↔ IsErrOf result RunFault.ReadInput }
+    ensures read_cubes { IsTrue (stops_at_cubes found) ↔ IsErrOf result RunFault.ReadCubes }
     ensures write { IsTrue out.new.failed ↔ IsErrOf result RunFault.Write }
     ensures unwritten { IfErr result (λ fault. fault ≢ RunFault.Write → out.new ≡ out.old) }
-    ensures unread { IfSome (I.remaining input.old.held) (λ text. (fault : ReadFault) → text_refusal options.format text ≡ Some fault
-        → cubes.new ≡ cubes.old) }
 {
-    match prepare(alloc, input, cubes, options.format, options.split) {
+    match found {
         Ok(found) => answer(rt, alloc, &found, options, out),
-        Err(Halt::Refused(refusal)) => report_refusal(out, refusal),
-        Err(Halt::Memory) => report_memory(out),
-        Err(Halt::ReadInput) => Err(RunFault::ReadInput),
-        Err(Halt::ReadCubes) => Err(RunFault::ReadCubes),
+        Err(halt) => match halt {
+            Halt::Refused(refusal) => report_refusal(out, refusal),
+            Halt::Memory => report_memory(out),
+            Halt::ReadInput => Err(RunFault::ReadInput),
+            Halt::ReadCubes => Err(RunFault::ReadCubes),
+        },
     }
 }
 

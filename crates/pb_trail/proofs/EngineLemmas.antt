@@ -6,9 +6,9 @@ use Rattle.std.proofs.lemmas.List.{length-map, map_push, get_or-map, take_all, t
 use Rattle.pb_inst.specs.Literal.{Literal}
 use Rattle.pb_normal.specs.NormalForm.{PositiveRow, NormalForm}
 use Rattle.pb_trail.specs.declared.propagator.Level.{Level}
-use Rattle.pb_rows.specs.Constraints.{row_at}
+use Rattle.pb_rows.specs.Constraints.{Constraints, row_at}
 use Rattle.pb_trail.specs.Trail.{value_on, reachable}
-use Rattle.pb_trail.specs.Tracked.{Tracked}
+use Rattle.pb_trail.specs.Tracked.{TrailState, IsUpToDate}
 use Rattle.pb_trail.specs.Completion.{HasNoCompletion}
 use Rattle.pb_trail.specs.Propagation.{AddsForced, nothing, one_more, IsBroken}
 use Rattle.pb_trail.specs.EngineState.{HasNegativeSlack}
@@ -18,9 +18,9 @@ use Rattle.pb_trail.specs.Soundness.{IsJustified, IsProperTrail, ArePlaces, IsSo
 use Rattle.pb_trail.proofs.SoundLemmas.{justified-push, justified-AddsForced, justified-take, proper-push, proper-take, assumptions_force}
 
 -- a longer trail that is to be cut
-pub record IsCutTo (before now : Tracked) (n : ℕ) : Type 0 where
-  pub same_rows : now ≡ record before { trail = now.trail }
-  pub front : take n now.trail ≡ take n before.trail
+pub record IsCutTo (c : Constraints) (before now : TrailState) (n : ℕ) : Type 0 where
+  pub up_to_date : IsUpToDate c now
+  pub front : take n now.lits ≡ take n before.lits
 
 pub length-starts_of : (levels : List Level) → length (starts_of levels) ≡ length levels
 unfolding starts_of

@@ -5,4 +5,3 @@ pub mod SoundLemmas
 pub mod Looking
 pub mod EngineLemmas
 pub mod AssumptionLemmas
-pub mod ClauseLemmas

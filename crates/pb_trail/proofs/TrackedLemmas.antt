@@ -9,7 +9,7 @@ use Rattle.pb_normal.specs.declared.terms.PositiveTerm.{PositiveTerm}
 use Rattle.pb_rows.specs.Constraints.{AreRowsOver, Constraints, row_at}
 use Rattle.pb_normal.specs.Literals.{negation, weight_of}
 use Rattle.pb_trail.specs.Trail.{value_on, reachable}
-use Rattle.pb_trail.specs.Tracked.{IsConsistent, IsUpToDate}
+use Rattle.pb_trail.specs.Tracked.{TrailState, IsConsistent, AreValues, IsUpToDate}
 use Rattle.pb_trail.proofs.TrailLemmas.{value_on-same, value_on-other, reachable-push, is_true-nil}
 
 -- how many are set once one more is
@@ -58,87 +58,78 @@ last_is_free trail l whole =
     rw (front, here) at at
 
 -- while a variable has no value the trail is shorter than there are variables
-pub trail_has_room : (c : Constraints) (counters : List ℕ) (marks : List (Option Bool)) (trail : List Literal) (capacity v : ℕ) → IsUpToDate c counters marks trail capacity → 1 ≤ v → v ≤ c.vars → value_on trail v ≡ None → length trail < c.vars
-trail_has_room c counters marks trail capacity v are low high free =
+pub trail_has_room : (marks : List (Option Bool)) (trail : List Literal) (capacity v : ℕ) → AreValues marks trail capacity → 1 ≤ v → v ≤ length marks → value_on trail v ≡ None → length trail < length marks
+trail_has_room marks trail capacity v are low high free =
     let mark : get_or marks (v - 1) None ≡ None = are.values v low high ∙ free in
-    let more = count_set marks (v - 1) true (omega (arith, are.value_count)) mark in
+    let more = count_set marks (v - 1) true (omega arith) mark in
     let most = count_by-le-length is_some (set marks (v - 1) (Some true)) in
-    omega (arith, length-set {A = Option Bool}, are.assigned, are.value_count)
+    omega (arith, length-set {A = Option Bool}, are.assigned)
 
-pub IsUpToDate-push : (c : Constraints) (counters new_counters : List ℕ) (marks new_marks : List (Option Bool)) (trail new_trail : List Literal) (capacity new_capacity : ℕ) (l : Literal) → IsUpToDate c counters marks trail capacity → 1 ≤ l.var → l.var ≤ c.vars → value_on trail l.var ≡ None → new_marks ≡ set marks (l.var - 1) (Some l.positive) → new_trail ≡ trail ++ l ∷ [] → new_capacity ≡ capacity → length new_counters ≡ length counters → ((r : ℕ) → r < length counters → get_or new_counters r 0 + weight_of (negation l) (row_at c.rows r).terms ≡ get_or counters r 0) → IsUpToDate c new_counters new_marks new_trail new_capacity
-IsUpToDate-push c counters new_counters marks new_marks trail new_trail capacity new_capacity l are low high free marks_are trail_is capacity_is count lowered =
-    let within : l.var - 1 < length marks = omega (arith, are.value_count) in
+-- a literal without a value joins
+pub AreValues-push : (marks new_marks : List (Option Bool)) (trail new_trail : List Literal) (capacity new_capacity : ℕ) (l : Literal) → AreValues marks trail capacity → 1 ≤ l.var → l.var ≤ length marks → value_on trail l.var ≡ None → new_marks ≡ set marks (l.var - 1) (Some l.positive) → new_trail ≡ trail ++ l ∷ [] → new_capacity ≡ capacity → AreValues new_marks new_trail new_capacity
+AreValues-push marks new_marks trail new_trail capacity new_capacity l are low high free marks_are trail_is capacity_is =
+    let within : l.var - 1 < length marks = omega arith in
     let mark : get_or marks (l.var - 1) None ≡ None = are.values l.var low high ∙ free in
     rw (marks_are, trail_is, capacity_is) (record {
-      rows_over = are.rows_over;
-      sum_count = count ∙ are.sum_count;
-      sums = λ r h. omega (arith, lowered r (omega (arith, are.sum_count)), reachable-push trail l (row_at c.rows r).terms free, are.sums r h);
-      value_count = rw length-set are.value_count;
-      values = λ v from upto. value_after v from upto within;
+      values = λ v from upto. value_after v from (omega (arith, length-set {A = Option Bool})) within;
       assigned = omega (arith, count_set marks (l.var - 1) l.positive within mark, are.assigned, length-append trail (l ∷ []));
-      within = All-push (λ (m : Literal). (1 ≤ m.var) × (m.var ≤ c.vars)) trail l are.within (low, high);
+      within = rw length-set (All-push (λ (m : Literal). (1 ≤ m.var) × (m.var ≤ length marks)) trail l are.within (low, high));
       consistent = IsConsistent-push trail l are.consistent free;
-      room = are.room;
-      fits = are.fits;
+      room = rw length-set are.room;
+      small = rw length-set are.small;
     })
   where
-    value_after : (v : ℕ) → 1 ≤ v → v ≤ c.vars → l.var - 1 < length marks → get_or (set marks (l.var - 1) (Some l.positive)) (v - 1) None ≡ value_on (trail ++ l ∷ []) v
+    value_after : (v : ℕ) → 1 ≤ v → v ≤ length marks → l.var - 1 < length marks → get_or (set marks (l.var - 1) (Some l.positive)) (v - 1) None ≡ value_on (trail ++ l ∷ []) v
     value_after v from upto within = elim (cases_eq v l.var) [
       | inl same ↦ (let here : get_or (set marks (l.var - 1) (Some l.positive)) (l.var - 1) None ≡ Some l.positive = rw get_or-set_same refl in rw same (here ∙ sym (value_on-same trail l free)))
       | inr other ↦ (let apart : v - 1 ≢ l.var - 1 = λ e. other (omega arith) in rw get_or-set_other (are.values v from upto ∙ sym (value_on-other trail l v other)))
     ]
 
-pub IsUpToDate-pop : (c : Constraints) (counters new_counters : List ℕ) (marks new_marks : List (Option Bool)) (trail front : List Literal) (capacity new_capacity : ℕ) (l : Literal) → IsUpToDate c counters marks trail capacity → 1 ≤ l.var → l.var ≤ c.vars → new_marks ≡ set marks (l.var - 1) None → trail ≡ front ++ l ∷ [] → new_capacity ≡ capacity → length new_counters ≡ length counters → ((r : ℕ) → r < length counters → get_or new_counters r 0 ≡ get_or counters r 0 + weight_of (negation l) (row_at c.rows r).terms) → IsUpToDate c new_counters new_marks front new_capacity
-IsUpToDate-pop c counters new_counters marks new_marks trail front capacity new_capacity l before low high marks_are trail_is capacity_is count raised =
-    let are : IsUpToDate c counters marks (front ++ l ∷ []) capacity = subst (λ (t : List Literal). IsUpToDate c counters marks t capacity) trail_is before in
-    let within : l.var - 1 < length marks = omega (arith, are.value_count) in
+-- the last literal leaves
+pub AreValues-pop : (marks new_marks : List (Option Bool)) (trail front : List Literal) (capacity new_capacity : ℕ) (l : Literal) → AreValues marks trail capacity → 1 ≤ l.var → l.var ≤ length marks → new_marks ≡ set marks (l.var - 1) None → trail ≡ front ++ l ∷ [] → new_capacity ≡ capacity → AreValues new_marks front new_capacity
+AreValues-pop marks new_marks trail front capacity new_capacity l before low high marks_are trail_is capacity_is =
+    let are : AreValues marks (front ++ l ∷ []) capacity = subst (λ (t : List Literal). AreValues marks t capacity) trail_is before in
+    let within : l.var - 1 < length marks = omega arith in
     let free = last_is_free front l are.consistent in
     let mark : get_or marks (l.var - 1) None ≡ Some l.positive = are.values l.var low high ∙ value_on-same front l free in
     rw (marks_are, capacity_is) (record {
-      rows_over = are.rows_over;
-      sum_count = count ∙ are.sum_count;
-      sums = λ r h. omega (arith, raised r (omega (arith, are.sum_count)), reachable-push front l (row_at c.rows r).terms free, are.sums r h);
-      value_count = rw length-set are.value_count;
-      values = λ v from upto. value_after are free v from upto within;
+      values = λ v from upto. value_after are free v from (omega (arith, length-set {A = Option Bool})) within;
       assigned = omega (arith, count_unset marks (l.var - 1) l.positive within mark, are.assigned, length-append front (l ∷ []));
-      within = λ k d h. front_within are k d h;
+      within = rw length-set (λ k d h. front_within are k d h);
       consistent = IsConsistent-front front l are.consistent;
-      room = are.room;
-      fits = are.fits;
+      room = rw length-set are.room;
+      small = rw length-set are.small;
     })
   where
-    value_after : IsUpToDate c counters marks (front ++ l ∷ []) capacity → value_on front l.var ≡ None → (v : ℕ) → 1 ≤ v → v ≤ c.vars → l.var - 1 < length marks → get_or (set marks (l.var - 1) None) (v - 1) None ≡ value_on front v
+    value_after : AreValues marks (front ++ l ∷ []) capacity → value_on front l.var ≡ None → (v : ℕ) → 1 ≤ v → v ≤ length marks → l.var - 1 < length marks → get_or (set marks (l.var - 1) None) (v - 1) None ≡ value_on front v
     value_after are free v from upto within = elim (cases_eq v l.var) [
       | inl same ↦ (let here : get_or (set marks (l.var - 1) None) (l.var - 1) None ≡ None = rw get_or-set_same refl in rw same (here ∙ sym free))
       | inr other ↦ (let apart : v - 1 ≢ l.var - 1 = λ e. other (omega arith) in rw get_or-set_other (are.values v from upto ∙ value_on-other front l v other))
     ]
 
-    front_within : IsUpToDate c counters marks (front ++ l ∷ []) capacity → (k : ℕ) (d : Literal) → k < length front → (1 ≤ (get_or front k d).var) × ((get_or front k d).var ≤ c.vars)
+    front_within : AreValues marks (front ++ l ∷ []) capacity → (k : ℕ) (d : Literal) → k < length front → (1 ≤ (get_or front k d).var) × ((get_or front k d).var ≤ length marks)
     front_within are k d h =
         let here : get_or (front ++ l ∷ []) k d ≡ get_or front k d = get_or_append_left front (l ∷ []) d k h in
-        subst (λ (m : Literal). (1 ≤ m.var) × (m.var ≤ c.vars)) here (are.within k d (omega (arith, length-append front (l ∷ []))))
+        subst (λ (m : Literal). (1 ≤ m.var) × (m.var ≤ length marks)) here (are.within k d (omega (arith, length-append front (l ∷ []))))
 
 -- the variable of the last literal
-pub IsUpToDate-last : (c : Constraints) (counters : List ℕ) (marks : List (Option Bool)) (trail front : List Literal) (capacity : ℕ) (l : Literal) → IsUpToDate c counters marks trail capacity → trail ≡ front ++ l ∷ [] → (1 ≤ l.var) × (l.var ≤ c.vars)
-IsUpToDate-last c counters marks trail front capacity l are whole =
-    let all : All (λ (m : Literal). (1 ≤ m.var) × (m.var ≤ c.vars)) (front ++ l ∷ []) = subst (λ (t : List Literal). All (λ (m : Literal). (1 ≤ m.var) × (m.var ≤ c.vars)) t) whole are.within in
+pub AreValues-last : (marks : List (Option Bool)) (trail front : List Literal) (capacity : ℕ) (l : Literal) → AreValues marks trail capacity → trail ≡ front ++ l ∷ [] → (1 ≤ l.var) × (l.var ≤ length marks)
+AreValues-last marks trail front capacity l are whole =
+    let all : All (λ (m : Literal). (1 ≤ m.var) × (m.var ≤ length marks)) (front ++ l ∷ []) = subst (λ (t : List Literal). All (λ (m : Literal). (1 ≤ m.var) × (m.var ≤ length marks)) t) whole are.within in
     let here : get_or (front ++ l ∷ []) (length front) l ≡ l = get_or-append_right front (l ∷ []) (length front) (length front) l refl (omega arith) ∙ ap (λ (i : ℕ). get_or (l ∷ []) i l) (let zero : length front - length front ≡ 0 = omega arith in zero) in
-    subst (λ (m : Literal). (1 ≤ m.var) × (m.var ≤ c.vars)) here (all (length front) l (omega (arith, length-append front (l ∷ []))))
+    subst (λ (m : Literal). (1 ≤ m.var) × (m.var ≤ length marks)) here (all (length front) l (omega (arith, length-append front (l ∷ []))))
 
 -- nothing is on the empty trail
-pub IsUpToDate-nil : (c : Constraints) (counters : List ℕ) (marks : List (Option Bool)) (trail : List Literal) (capacity n : ℕ) → length counters ≡ length c.rows → ((r : ℕ) → r < length c.rows → (get_or counters r 0 ≡ reachable [] (row_at c.rows r).terms) × (sum_by (λ (t : PositiveTerm). t.coef) (row_at c.rows r).terms < 2 ^ 64)) → marks ≡ replicate n None → n ≡ c.vars → trail ≡ [] → c.vars ≤ capacity → AreRowsOver c.vars c.rows → IsUpToDate c counters marks trail capacity
-IsUpToDate-nil c counters marks trail capacity n count totals unset vars empty room over =
+pub AreValues-nil : (marks : List (Option Bool)) (trail : List Literal) (capacity n : ℕ) → marks ≡ replicate n None → trail ≡ [] → n ≤ capacity → n < 2 ^ 32 → AreValues marks trail capacity
+AreValues-nil marks trail capacity n unset empty room small =
+    let count : length (replicate {A = Option Bool} n None) ≡ n = length-replicate n None in
     rw (unset, empty) (record {
-      rows_over = over;
-      sum_count = count;
-      sums = λ r h. (totals r h).0;
-      value_count = length-replicate n None ∙ vars;
       values = λ v low high. get_or-replicate n (v - 1) None None (omega arith) ∙ sym (no_value_on_nil v);
       assigned = count_none n;
       within = λ k d h. absurd (omega arith);
       consistent = λ k d h. absurd (omega arith);
-      room = room;
-      fits = λ r h. (totals r h).1;
+      room = omega arith;
+      small = omega arith;
     })
   where
     no_value_on_nil : (v : ℕ) → value_on [] v ≡ None
@@ -147,3 +138,37 @@ IsUpToDate-nil c counters marks trail capacity n count totals unset vars empty r
     count_none : (n : ℕ) → count_by is_some (replicate {A = Option Bool} n None) ≡ 0
     count_none zero = refl
     count_none (suc n) = count_none n
+
+-- the sums when a literal without a value joins
+pub IsUpToDate-push : (c : Constraints) (old new : TrailState) (l : Literal) → IsUpToDate c old → value_on old.lits l.var ≡ None → new.vars ≡ old.vars → new.lits ≡ old.lits ++ l ∷ [] → length new.sums ≡ length old.sums → ((r : ℕ) → r < length old.sums → get_or new.sums r 0 + weight_of (negation l) (row_at c.rows r).terms ≡ get_or old.sums r 0) → IsUpToDate c new
+IsUpToDate-push c old new l is free vars joined count lowered = record {
+  rows_over = is.rows_over;
+  vars = vars ∙ is.vars;
+  sum_count = count ∙ is.sum_count;
+  sums = λ r h.
+      (let now = ap (λ (t : List Literal). reachable t (row_at c.rows r).terms) joined in
+      omega (arith, lowered r (omega (arith, is.sum_count)), reachable-push old.lits l (row_at c.rows r).terms free, is.sums r h));
+  fits = is.fits;
+}
+
+-- the sums when the last literal leaves
+pub IsUpToDate-pop : (c : Constraints) (old new : TrailState) (l : Literal) → IsUpToDate c old → value_on new.lits l.var ≡ None → new.vars ≡ old.vars → old.lits ≡ new.lits ++ l ∷ [] → length new.sums ≡ length old.sums → ((r : ℕ) → r < length old.sums → get_or new.sums r 0 ≡ get_or old.sums r 0 + weight_of (negation l) (row_at c.rows r).terms) → IsUpToDate c new
+IsUpToDate-pop c old new l is free vars whole count raised = record {
+  rows_over = is.rows_over;
+  vars = vars ∙ is.vars;
+  sum_count = count ∙ is.sum_count;
+  sums = λ r h.
+      (let before = ap (λ (t : List Literal). reachable t (row_at c.rows r).terms) whole in
+      omega (arith, raised r (omega (arith, is.sum_count)), reachable-push new.lits l (row_at c.rows r).terms free, is.sums r h));
+  fits = is.fits;
+}
+
+-- the sums of the empty trail
+pub IsUpToDate-nil : (c : Constraints) (t : TrailState) → length t.sums ≡ length c.rows → ((r : ℕ) → r < length c.rows → (get_or t.sums r 0 ≡ reachable [] (row_at c.rows r).terms) × (sum_by (λ (t : PositiveTerm). t.coef) (row_at c.rows r).terms < 2 ^ 64)) → t.lits ≡ [] → t.vars ≡ c.vars → AreRowsOver c.vars c.rows → IsUpToDate c t
+IsUpToDate-nil c t count totals empty vars over = record {
+  rows_over = over;
+  vars = vars;
+  sum_count = count;
+  sums = λ r h. (totals r h).0 ∙ ap (λ (ls : List Literal). reachable ls (row_at c.rows r).terms) (sym empty);
+  fits = λ r h. (totals r h).1;
+}

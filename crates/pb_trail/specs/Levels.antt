@@ -4,10 +4,11 @@ use Rattle.std.specs.Option.{ForSome}
 use Rattle.pb_inst.specs.Literal.{Literal}
 use Rattle.pb_normal.specs.NormalForm.{PositiveRow}
 use Rattle.pb_trail.specs.declared.propagator.Level.{Level}
-use Rattle.pb_rows.specs.Constraints.{row_at}
+use Rattle.pb_rows.specs.Constraints.{Constraints, row_at}
 use Rattle.pb_trail.specs.Completion.{IsSettled, HasNoCompletion}
 use Rattle.pb_trail.specs.Propagation.{IsSettledFrom}
 use Rattle.pb_trail.specs.Soundness.{IsJustified, IsProperTrail}
+use Rattle.pb_trail.specs.Tracked.{TrailState, IsUpToDate}
 
 unfoldable pub starts_of : List Level → List ℕ
 starts_of levels = map (λ l. l.start) levels
@@ -36,3 +37,8 @@ pub record IsEngine (vars : ℕ) (rows : List PositiveRow) (trail : List Literal
   pub count : length levels ≤ vars
   pub small : vars < 2 ^ 32
   pub room : vars ≤ capacity
+
+-- the trail is up to date with the tables, and it and the levels are those of an engine
+pub record IsPropagator (c : Constraints) (t : TrailState) (levels : List Level) (settled_until : Option ℕ) (conflict : Bool) (capacity : ℕ) : Type 0 where
+  pub up_to_date : IsUpToDate c t
+  pub engine : IsEngine c.vars c.rows t.lits levels settled_until conflict capacity

@@ -25,15 +25,25 @@ tracked_of c trail = record { form = c.form; vars = c.vars; rows = c.rows; occur
 abbrev pub IsConsistent : List Literal → Type 0
 IsConsistent trail = (k : ℕ) (d : Literal) → k < length trail → value_on (take k trail) (slice_index_or trail k d).var ≡ None
 
--- each row's sum is that of the trail, and each variable's value is its value on the trail
-pub record IsUpToDate (c : Constraints) (counters : List ℕ) (marks : List (Option Bool)) (trail : List Literal) (capacity : ℕ) : Type 0 where
-  pub rows_over : AreRowsOver c.vars c.rows
-  pub sum_count : length counters ≡ length c.rows
-  pub sums : (r : ℕ) → r < length c.rows → slice_index counters r ≡ reachable trail (row_at c.rows r).terms
-  pub value_count : length marks ≡ c.vars
-  pub values : (v : ℕ) → 1 ≤ v → v ≤ c.vars → slice_index_or marks (v - 1) None ≡ value_on trail v
+-- the literals of a trail over the variables 1 to `vars`, and a sum for each of some rows
+pub record TrailState : Type 0 where
+  pub vars : ℕ
+  pub lits : List Literal
+  pub sums : List ℕ
+
+-- each variable's value is its value on the trail, whose literals are of these variables, and there is room for all of them
+pub record AreValues (marks : List (Option Bool)) (trail : List Literal) (capacity : ℕ) : Type 0 where
+  pub values : (v : ℕ) → 1 ≤ v → v ≤ length marks → slice_index_or marks (v - 1) None ≡ value_on trail v
   pub assigned : count_by is_some marks ≡ length trail
-  pub within : All (λ l. (1 ≤ l.var) × (l.var ≤ c.vars)) trail
+  pub within : All (λ l. (1 ≤ l.var) × (l.var ≤ length marks)) trail
   pub consistent : IsConsistent trail
-  pub room : c.vars ≤ capacity
+  pub room : length marks ≤ capacity
+  pub small : length marks < 2 ^ 32
+
+-- the trail is over the variables of the rows, and each row's sum is what it can still reach under the trail
+pub record IsUpToDate (c : Constraints) (t : TrailState) : Type 0 where
+  pub rows_over : AreRowsOver c.vars c.rows
+  pub vars : t.vars ≡ c.vars
+  pub sum_count : length t.sums ≡ length c.rows
+  pub sums : (r : ℕ) → r < length c.rows → slice_index t.sums r ≡ reachable t.lits (row_at c.rows r).terms
   pub fits : (r : ℕ) → r < length c.rows → sum_by (λ t. t.coef) (row_at c.rows r).terms < 2 ^ 64

@@ -4,6 +4,7 @@
 mod propagation;
 mod propagator;
 mod slacks;
+mod trail;
 
 pub use propagation::Step;
 pub use propagator::Propagator;

@@ -11,9 +11,10 @@ ghost use Rattle.pb_trail.specs.EngineState.{trail_before, is_conflict, HasNegat
 ghost use Rattle.pb_trail.specs.Soundness.{IsFull, IsSolved, IsSoundTrail};
 
 use crate::propagation::{Step, propagate_all};
-use crate::slacks::{Slacks, cut};
+use crate::slacks::Slacks;
+use crate::trail::Trail;
 use pb_inst::{Lit, Memory};
-use pb_rows::{Count, RowTerms, Tables};
+use pb_rows::{Count, RowTerms, TablesSource};
 use std::alloc::Global;
 use std::marker::Model;
 
@@ -27,7 +28,8 @@ struct Level {
 /// A trail over the variables of rows with some literals assumed, and whether a conflict stands.
 #[derive(Debug, Drop)]
 pub struct Propagator<'a, C: Count> {
-    slacks: Slacks<'a, C>,
+    source: TablesSource<'a, C>,
+    trail: Trail<C>,
     levels: Vec<Level>,
     settled_until: Option<usize>,
     conflict: bool,
@@ -39,22 +41,24 @@ impl<'a, C: Count> Model for Propagator<'a, C> {
 
     ghost Value = { EngineState };
 
-    ghost use Rattle.pb_trail.specs.Levels.{starts_of, IsEngine};
+    ghost use Rattle.pb_trail.specs.Levels.{starts_of, IsPropagator};
 
-    ghost view = { λ p. record { form = p.slacks.form; vars = p.slacks.vars; rows = p.slacks.rows; trail = p.slacks.trail; levels = starts_of p.levels.items; conflict = p.conflict } };
+    ghost view = { λ p. record { form = p.source.form; vars = p.source.vars; rows = p.source.rows; trail = p.trail.lits; levels = starts_of p.levels.items; conflict = p.conflict } };
 
-    ghost invariant = { λ p. IsEngine p.slacks.vars p.slacks.rows p.slacks.trail p.levels.items p.settled_until p.conflict (vec_capacity p.levels) };
+    ghost invariant = { λ p. IsPropagator p.source p.trail p.levels.items p.settled_until p.conflict (vec_capacity p.levels) };
 }
 
 impl<'a, C: Count> Propagator<'a, C> {
     /// The empty trail over the rows. Nothing after it takes memory.
-    pub fn new(alloc: Global, tables: Tables<'a, C>) -> Result<Propagator<'a, C>, Memory>
-        ensures { IfOk result (λ p. p ≡ record { form = tables.entry.form; vars = tables.entry.vars; rows = tables.entry.rows; trail = []; levels = []; conflict = false }) }
+    pub fn new(alloc: Global, source: TablesSource<'a, C>) -> Result<Propagator<'a, C>, Memory>
+        ensures { IfOk result (λ p. p ≡ record { form = source.entry.form; vars = source.entry.vars; rows = source.entry.rows; trail = []; levels = []; conflict = false }) }
     {
+        let tables = source.tables();
         let levels = Vec::with_capacity(alloc, tables.vars() as usize)?;
-        let slacks = Slacks::new(alloc, tables)?;
+        let trail = Trail::new(alloc, &tables)?;
         Ok(Propagator {
-            slacks,
+            source,
+            trail,
             levels,
             settled_until: None,
             conflict: false,
@@ -62,13 +66,13 @@ impl<'a, C: Count> Propagator<'a, C> {
     }
 
     /// The trail with the slacks of the rows.
-    pub fn slacks(&self) -> &Slacks<'a, C>
-        ensures form { result.now.form ≡ self.now.form }
-        ensures vars { result.now.vars ≡ self.now.vars }
-        ensures rows { result.now.rows ≡ self.now.rows }
-        ensures trail { result.now.trail ≡ self.now.trail }
+    pub fn slacks(&self) -> Slacks<'_, 'a, C>
+        ensures form { result.form ≡ self.now.form }
+        ensures vars { result.vars ≡ self.now.vars }
+        ensures rows { result.rows ≡ self.now.rows }
+        ensures trail { result.trail ≡ self.now.trail }
     {
-        &self.slacks
+        Slacks::new(self.source.tables(), &self.trail)
     }
 
     /// Where the assumption after as many others stands on the trail, and the trail's length where there is none.
@@ -79,7 +83,7 @@ impl<'a, C: Count> Propagator<'a, C> {
         if level < self.levels.len() {
             self.levels[level].start
         } else {
-            self.slacks.len()
+            self.trail.len()
         }
     }
 
@@ -88,17 +92,17 @@ impl<'a, C: Count> Propagator<'a, C> {
         ensures value { result ≡ value_on self.now.trail var }
         ensures sound { IsSoundTrail self.now }
     {
-        if var == 0 || var > self.slacks.vars() {
+        if var == 0 || var > self.trail.vars() {
             return None;
         }
-        self.slacks.value(var)
+        self.trail.value(var)
     }
 
     /// The number of variables.
     pub fn vars(&self) -> u32
         ensures { result ≡ self.now.vars }
     {
-        self.slacks.vars()
+        self.trail.vars()
     }
 
     /// The number of assumptions on the trail.
@@ -122,7 +126,7 @@ impl<'a, C: Count> Propagator<'a, C> {
     pub fn trail_len(&self) -> usize
         ensures { result ≡ length self.now.trail }
     {
-        self.slacks.len()
+        self.trail.len()
     }
 
     /// The literal at a place of the trail, from 0 on.
@@ -131,7 +135,7 @@ impl<'a, C: Count> Propagator<'a, C> {
         ensures value { result ≡ slice_index_or self.now.trail place result }
         ensures within { result.var ≤ self.now.vars }
     {
-        self.slacks.literal(place)
+        self.trail.literal(place)
     }
 
     /// Where a conflict stands: the row at which it was found, which can't be met under the trail.
@@ -140,7 +144,7 @@ impl<'a, C: Count> Propagator<'a, C> {
         ensures broken { IfSome result (λ row. IsBrokenAt self.now.rows self.now.trail row) }
     {
         if self.conflict {
-            self.slacks.broken_row()
+            self.slacks().broken_row()
         } else {
             None
         }
@@ -151,7 +155,7 @@ impl<'a, C: Count> Propagator<'a, C> {
         requires { row < length self.now.rows }
         ensures { terms_in result ≡ (row_at self.now.rows row).terms }
     {
-        self.slacks.tables().terms(row)
+        self.source.tables().terms(row)
     }
 
     /// Puts a literal without a value on the trail, as an assumption.
@@ -164,9 +168,9 @@ impl<'a, C: Count> Propagator<'a, C> {
         ensures fixed { result ≡ Step.Fixed }
         ensures sound { IsSoundTrail self.new }
     {
-        let start = self.slacks.len();
+        let start = self.trail.len();
         let settled = is_at(self.settled_until, start);
-        self.slacks.push(lit);
+        self.trail.push(&self.source.tables(), lit);
         self.levels.push_reserved(Level { start, settled });
         Step::Fixed
     }
@@ -182,8 +186,9 @@ impl<'a, C: Count> Propagator<'a, C> {
         ensures no_completion { result ≡ Step.Conflict → HasNoCompletion self.old.rows self.new.trail }
         ensures sound { IsSoundTrail self.new }
     {
-        let step = propagate_all(&mut self.slacks, self.settled_until);
-        let length = self.slacks.len();
+        let tables = self.source.tables();
+        let step = propagate_all(&tables, &mut self.trail, self.settled_until);
+        let length = self.trail.len();
         match step {
             Step::Fixed => self.settled_until = Some(length),
             Step::Conflict => self.conflict = true,
@@ -204,7 +209,7 @@ impl<'a, C: Count> Propagator<'a, C> {
             return;
         }
         let Level { start, settled } = self.levels[level];
-        cut(&mut self.slacks, start);
+        self.trail.cut(&self.source.tables(), start);
         self.levels.truncate(level);
         self.settled_until = known_if(settled, Some(start));
         self.conflict = false;

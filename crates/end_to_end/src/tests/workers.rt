@@ -5,7 +5,6 @@ use pb_cubes::Pieces;
 use pb_inst::{Assignment, Best, Cube, Lit, Number, Workers};
 use pb_normal::normalise;
 use pb_read::read_cnf;
-use pb_search::SearchTables;
 use pb_solve::{Gate, OpenGate, solve, work};
 use std::alloc::Global;
 use std::sync::atomic::{AtomicBool, AtomicU64, Ordering};
@@ -192,9 +191,8 @@ fn work_alone(rt: HostRuntime) -> Result<(), Fail> {
     let normal = normalise(alloc, &instance)?;
     let pieces = Pieces::new(instance.vars(), two_cubes(alloc)?)?;
     let (board, seat) = Board::new(alloc, Workers::new(1)?, instance.vars())?;
-    let tables = SearchTables::new(alloc, &instance, &normal, &pieces)?;
     let (part, seat) = work(
-        alloc, &instance, &pieces, &tables, &board, seat, 0, &OpenGate,
+        alloc, &instance, &normal, &pieces, &board, seat, 0, &OpenGate,
     )?;
     let claims = seat.claims();
     board.close(seat);

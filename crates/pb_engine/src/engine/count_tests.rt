@@ -1,29 +1,32 @@
 //! The same course with counters of 64 and of 128 bits.
 
-use crate::engine::tests::{form, slack};
-use crate::{Count, Engine, Step};
+use crate::engine::courses::{form, rows, slack};
+use crate::{Count, CountingEngine, Engine, Step};
 use pb_inst::{Lit, Magnitude, Number};
 use pb_normal::Normal;
 use std::alloc::Global;
 use std::process::Abort;
 
+/// An engine that counts in 128 bits.
+type WideEngine<'a> = CountingEngine<'a, u128>;
+
 /// What an engine says between two steps: its bound, the value of each variable, and the slack of each row.
 type Look = (Number, Vec<Option<bool>>, Vec<Option<Magnitude>>);
 
-fn look<C: Count>(rt: &impl Abort, alloc: Global, engine: &mut Engine<'_, C>) -> Look {
+fn look<C: Count>(rt: &impl Abort, alloc: Global, engine: &mut CountingEngine<'_, C>) -> Look {
     let mut values = Vec::new(alloc);
     for var in 1..=engine.vars() {
         values.push(engine.value(var)).expect(rt, "memory");
     }
     let mut slacks = Vec::new(alloc);
-    for row in 0..engine.propagator.slacks().rows() {
+    for row in 0..rows(engine) {
         slacks.push(slack(rt, engine, row)).expect(rt, "memory");
     }
     (engine.bound(), values, slacks)
 }
 
 /// Assumes the literal where it can be assumed, and propagates.
-fn step<C: Count>(engine: &mut Engine<'_, C>, lit: Lit) {
+fn step<C: Count>(engine: &mut CountingEngine<'_, C>, lit: Lit) {
     if engine.conflict() || lit.var() > engine.vars() || engine.value(lit.var()).is_some() {
         return;
     }
@@ -36,7 +39,7 @@ fn step<C: Count>(engine: &mut Engine<'_, C>, lit: Lit) {
 fn course<C: Count>(
     rt: &impl Abort,
     alloc: Global,
-    engine: &mut Engine<'_, C>,
+    engine: &mut CountingEngine<'_, C>,
     positive: bool,
 ) -> Vec<Look> {
     let mut looks = Vec::new(alloc);
@@ -51,8 +54,8 @@ fn course<C: Count>(
 }
 
 fn compare(rt: &impl Abort, alloc: Global, form: &Normal) {
-    let mut narrow: Engine<'_, u64> = Engine::new(alloc, form, &[]).expect(rt, "memory");
-    let mut wide: Engine<'_, u128> = Engine::new(alloc, form, &[]).expect(rt, "memory");
+    let mut narrow = Engine::new(alloc, form, &[]).expect(rt, "memory");
+    let mut wide = WideEngine::new(alloc, form, &[]).expect(rt, "memory");
     for positive in [false, true] {
         let expected = course(rt, alloc, &mut narrow, positive);
         let found = course(rt, alloc, &mut wide, positive);

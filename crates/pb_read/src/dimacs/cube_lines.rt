@@ -13,12 +13,10 @@ use crate::dimacs::content_lines::ContentLines;
 use crate::dimacs::scan::Scan;
 use crate::dimacs::word::next_word;
 use crate::fault::{ReadFault, ReadKind};
+use pb_cubes::MAX_CUBES;
 use pb_inst::{Cube, MAX_TERMS, MAX_VARS};
 use std::alloc::Global;
 use std::vec::Vec;
-
-/// The most cubes of a text.
-const MAX_CUBES: usize = 1_048_575;
 
 /// Whether the word is `a`, with which a cube line begins.
 fn is_a(word: &[u8]) -> bool

@@ -20,7 +20,7 @@ pub fn next_decision(
     order: &mut Order,
     hints: Hints,
     pruning: Pruning,
-    bound: Number,
+    bound: Option<Number>,
 ) -> Option<Branch>
     requires variables { vars ≡ engine.now.vars }
     requires few { vars ≤ MAX_VARS }
@@ -50,7 +50,7 @@ pub fn next_decision(
 }
 
 /// The decision for the literal, the first one of its variable.
-fn decision(lit: Lit, bound: Number, hints: Hints) -> Branch
+fn decision(lit: Lit, bound: Option<Number>, hints: Hints) -> Branch
     ensures literal { result.lit ≡ lit }
     ensures fresh { result.flipped ≡ false }
 {
@@ -68,7 +68,7 @@ fn ordered_decision(
     vars: u32,
     order: &mut Order,
     hints: Hints,
-    bound: Number,
+    bound: Option<Number>,
 ) -> Option<Branch>
     requires variables { vars ≡ engine.now.vars }
     ensures free { IfSome result (λ b. (b.lit.var ≤ vars) × (value_on engine.now.trail b.lit.var ≡ None)) }

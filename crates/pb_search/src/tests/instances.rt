@@ -199,7 +199,7 @@ pub fn search_pieces<S: Share>(
     let mut search = Search::new(alloc, instance, &normal, pieces).expect(rt, "memory");
     for piece in first..end {
         assert!(rt; piece < pieces.len());
-        search.run(piece, best, share);
+        search.run(piece, best, share, None);
     }
 }
 

@@ -6,7 +6,7 @@ use Rattle.pb_inst.specs.Limits.{constraint_magnitude, AllVariablesWithin}
 use Rattle.pb_inst.specs.Problem.{LinearConstraint}
 use Rattle.pb_inst.specs.declared.TheConstants.{SUM_BOUND}
 use Rattle.pb_normal.specs.declared.terms.PositiveTerm.{PositiveTerm}
-use Rattle.pb_normal.proofs.FormLemmas.{form_is}
+use Rattle.pb_normal.proofs.FormLemmas.{form_is, form_is_normal, form_keeps_cost}
 use Rattle.pb_normal.proofs.RowLemmas.{read_all, room_for, no_rows_yet, rows_step, all_rows, rows_mean}
 use Rattle.pb_normal.proofs.forms.normalise.Goals as goal
 
@@ -36,3 +36,24 @@ returns-clause-exact c =
     let rows = all_rows vars c.args.instance.now.constraints c.loop-i.i c.loop-i.rows (omega arith) c.loop-i.invariant in
     let fits : FitsSigned number_width c.merge_objective.new.sum.base = search rules in
     form_is c.args.instance.now c.vars.result c.loop-i.rows c.merge_objective.new.sum.base _ c.merge_objective.new.sum.terms.items _ c.deref.result.now c.vars.ensures.value rows c.in_ok-merge_objective.ensures.sum (to_z-of_z number_width _ fits) c.deref.ensures.value (c.in_ok-extend_from_slice.ensures.items ∙ ap (λ (ts : List PositiveTerm). ts ++ c.deref.result.now) c.new-objective.ensures.items)
+
+pub returns-clause-cost : goal.returns-clause-cost
+returns-clause-cost c =
+    let fits : FitsSigned number_width c.merge_objective.new.sum.base = search rules in
+    form_keeps_cost c.args.instance.now c.vars.result c.loop-i.rows c.merge_objective.new.sum.base _ c.merge_objective.new.sum.terms.items _ c.deref.result.now c.in_ok-merge_objective.ensures.value (to_z-of_z number_width _ fits) c.deref.ensures.value (c.in_ok-extend_from_slice.ensures.items ∙ ap (λ (ts : List PositiveTerm). ts ++ c.deref.result.now) c.new-objective.ensures.items)
+
+pub invariant_of-result : goal.invariant_of-result
+invariant_of-result c =
+    let vars = c.args.instance.now.vars in
+    let rows = all_rows vars c.args.instance.now.constraints c.loop-i.i c.loop-i.rows (omega arith) c.loop-i.invariant in
+    let fits : FitsSigned number_width c.merge_objective.new.sum.base = search rules in
+    let told = c.in_ok-merge_objective.ensures in
+    form_is_normal c.args.instance.now c.vars.result c.loop-i.rows c.merge_objective.new.sum.base _ c.merge_objective.new.sum.terms.items _ c.deref.result.now c.vars.ensures.value rows told.sum told.value told.bounded (to_z-of_z number_width _ fits) c.deref.ensures.value (c.in_ok-extend_from_slice.ensures.items ∙ ap (λ (ts : List PositiveTerm). ts ++ c.deref.result.now) c.new-objective.ensures.items)
+
+pub returns-clause-normal : goal.returns-clause-normal
+returns-clause-normal c =
+    let vars = c.args.instance.now.vars in
+    let rows = all_rows vars c.args.instance.now.constraints c.loop-i.i c.loop-i.rows (omega arith) c.loop-i.invariant in
+    let fits : FitsSigned number_width c.merge_objective.new.sum.base = search rules in
+    let told = c.in_ok-merge_objective.ensures in
+    form_is_normal c.args.instance.now c.vars.result c.loop-i.rows c.merge_objective.new.sum.base _ c.merge_objective.new.sum.terms.items _ c.deref.result.now c.vars.ensures.value rows told.sum told.value told.bounded (to_z-of_z number_width _ fits) c.deref.ensures.value (c.in_ok-extend_from_slice.ensures.items ∙ ap (λ (ts : List PositiveTerm). ts ++ c.deref.result.now) c.new-objective.ensures.items)

@@ -5,6 +5,7 @@ use Rattle.pb_search.specs.Held.{IsNotAfter}
 use Rattle.pb_search.specs.declared.search_state.SearchState.{SearchState}
 use Rattle.pb_search.specs.SearchState.{IsUnderWay, IsNext, IsOwn, IsSearched, IsStateOf}
 use Rattle.pb_search.proofs.AgreedPrefixLemmas.{knows_longer}
+use Rattle.pb_search.proofs.BudgetLemmas.{left_itself, left_onward}
 use Rattle.pb_search.proofs.Engines.{same_constraints_onward}
 use Rattle.pb_search.proofs.HeldLemmas.{moves_onward, moves_itself, not_after_itself}
 use Rattle.pb_search.proofs.SearchLemmas.{begins, goes_on, at_problem, at_next, next_falls, own_onward, state_moves}
@@ -31,6 +32,7 @@ loop-branch-preserved-then-decisions-eq0 g c =
       kept = g.met.S.Share.keeps_onward _ _ _ c.loop-branch.invariant.kept (g.met.S.Share.keeps_onward _ _ _ c.next_branch.ensures.kept c.borrow_on_the_way.ensures.kept);
       same_lending = c.borrow_on_the_way.ensures.same_lending ∙ c.next_branch.ensures.same_lending ∙ c.loop-branch.invariant.same_lending;
       counted = omega arith;
+      budget = left_onward c.args.left.now c.loop-branch.left c.decide.new.left c.loop-branch.invariant.budget c.decide.ensures.counted;
       known = c.borrow_on_the_way.ensures.known c.decide.new.engine.trail (knows_longer c.next_branch.new.state.engine.trail c.decide.new.engine.trail (c.in-Some.branch.lit ∷ []) c.next_branch.new.best.held c.next_branch.new.agreed c.decide.ensures.longer c.next_branch.ensures.known);
     }
 
@@ -51,6 +53,7 @@ loop-branch-preserved g c =
       kept = g.met.S.Share.keeps_onward _ _ _ c.loop-branch.invariant.kept c.next_branch.ensures.kept;
       same_lending = c.next_branch.ensures.same_lending ∙ c.loop-branch.invariant.same_lending;
       counted = omega arith;
+      budget = left_onward c.args.left.now c.loop-branch.left c.decide.new.left c.loop-branch.invariant.budget c.decide.ensures.counted;
       known = knows_longer c.next_branch.new.state.engine.trail c.decide.new.engine.trail (c.in-Some.branch.lit ∷ []) c.next_branch.new.best.held c.next_branch.new.agreed c.decide.ensures.longer c.next_branch.ensures.known;
     }
 
@@ -65,6 +68,7 @@ loop-branch-init g c = record {
   kept = g.met.S.Share.keeps_itself _;
   same_lending = refl;
   counted = omega arith;
+  budget = left_itself c.args.left.now;
   known = c.none-agreed.ensures c.args.state.now.engine.trail c.args.best.now.held;
 }
 
@@ -100,7 +104,7 @@ loop-branch-smaller g c =
     next_falls c.args.best.now.problem c.loop-branch.best.problem c.next_branch.new.state.engine.vars c.loop-branch.state.branches.items c.next_branch.new.state.branches.items c.decide.new.path.items c.in-Some.branch c.loop-branch.invariant.moves_on.same_instance c.in-Some.ensures.fewer c.decide.ensures.added c.decide.ensures.few next.made_for.engine.vars
 
 pub returns-clause-searched : goal.returns-clause-searched
-returns-clause-searched g c =
+returns-clause-searched g c _ =
     at_problem c.args.best.now.problem c.loop-branch.best.problem (λ p. IsUnderWay p c.args.state.now.engine c.loop-branch.state c.loop-branch.best.held) (λ p. IsSearched p c.args.state.now.engine c.next_branch.new.best.held) c.loop-branch.invariant.moves_on.same_instance (c.in_default.ensures.finished c.args.state.now.engine) c.loop-branch.invariant.under_way
 
 pub returns-clause-held_sound : goal.returns-clause-held_sound
@@ -116,3 +120,20 @@ returns-clause-made_for g c = subst (λ (p : Problem). IsStateOf p c.next_branch
 
 pub returns-clause-constraints : goal.returns-clause-constraints
 returns-clause-constraints g c = same_constraints_onward c.args.state.now.engine c.loop-branch.state.engine c.next_branch.new.state.engine c.loop-branch.invariant.under_way.constraints c.next_branch.ensures.constraints
+
+pub returns-then-eq-clause-moves_on : goal.returns-then-eq-clause-moves_on
+returns-then-eq-clause-moves_on g c = moves_onward c.args.best.now c.loop-branch.best c.next_branch.new.best c.loop-branch.invariant.moves_on c.next_branch.ensures.moves_on
+
+pub returns-then-eq-clause-held_sound : goal.returns-then-eq-clause-held_sound
+returns-then-eq-clause-held_sound g c = c.next_branch.ensures.moves_on.sound (c.loop-branch.invariant.moves_on.sound c.requires.held_sound)
+
+pub returns-then-eq-clause-own : goal.returns-then-eq-clause-own
+returns-then-eq-clause-own g c none =
+    own_onward c.args.state.now.engine c.args.best.now c.loop-branch.best c.next_branch.new.best (c.loop-branch.invariant.own none)
+    (at_problem c.args.best.now.problem c.loop-branch.best.problem (λ p. IsUnderWay p c.args.state.now.engine c.loop-branch.state c.loop-branch.best.held) (λ _. IsOwn c.args.state.now.engine c.loop-branch.best c.next_branch.new.best) c.loop-branch.invariant.moves_on.same_instance (c.next_branch.ensures.own c.args.state.now.engine) c.loop-branch.invariant.under_way)
+
+pub returns-then-eq-clause-made_for : goal.returns-then-eq-clause-made_for
+returns-then-eq-clause-made_for g c = subst (λ (p : Problem). IsStateOf p c.next_branch.new.state) c.loop-branch.invariant.moves_on.same_instance c.next_branch.ensures.made_for
+
+pub returns-then-eq-clause-constraints : goal.returns-then-eq-clause-constraints
+returns-then-eq-clause-constraints g c = same_constraints_onward c.args.state.now.engine c.loop-branch.state.engine c.next_branch.new.state.engine c.loop-branch.invariant.under_way.constraints c.next_branch.ensures.constraints

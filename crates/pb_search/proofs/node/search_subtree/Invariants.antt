@@ -3,6 +3,7 @@ use Rattle.pb_search.specs.Held.{MovesOn}
 use Rattle.pb_search.specs.AgreedPrefix.{KnowsHeldPrefix}
 use Rattle.pb_search.specs.SearchState.{IsUnderWay, IsOwn}
 use Rattle.pb_search.specs.Paths.{steps_left}
+use Rattle.pb_search.specs.Budget.{IsLeftOf}
 use Rattle.pb_search.proofs.node.search_subtree.Given as goal
 
 abbrev pub invariant-loop-branch : goal.invariant-loop-branch
@@ -13,6 +14,7 @@ invariant-loop-branch g l = record {
   kept : g.S.Share.keeps l.fn.share l.share;
   same_lending : g.S.Share.lends l.share ≡ g.S.Share.lends l.fn.share;
   counted : l.decisions < 256;
+  budget : IsLeftOf l.fn.left l.left;
   known : KnowsHeldPrefix l.state.engine.trail l.best.held l.agreed;
 }
 

@@ -3,4 +3,4 @@ use Rattle.pb_trail.proofs.Looking.{IsLookedThrough}
 use Rattle.pb_trail.proofs.propagation.look_at_all.Given as goal
 
 abbrev pub invariant-loop-row : goal.invariant-loop-row
-invariant-loop-row g l = IsLookedThrough l.initial.slacks l.slacks (λ r. r < l.row)
+invariant-loop-row g l = IsLookedThrough l.tables l.initial.trail l.trail (λ r. r < l.row)

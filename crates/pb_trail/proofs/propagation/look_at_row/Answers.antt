@@ -1,5 +1,5 @@
 use Rattle.std.proofs.Common.{subst, sym}
-use Rattle.pb_trail.specs.Tracked.{Tracked}
+use Rattle.pb_trail.specs.Tracked.{TrailState}
 use Rattle.pb_trail.specs.Propagation.{AddsForced, nothing}
 use Rattle.pb_trail.proofs.propagation.look_at_row.Goals as goal
 
@@ -7,4 +7,4 @@ pub returns-then-not-is_below-clause-forced : goal.returns-then-not-is_below-cla
 returns-then-not-is_below-clause-forced g c = nothing
 
 pub returns-then-is_below-clause-forced : goal.returns-then-is_below-clause-forced
-returns-then-is_below-clause-forced g c = subst (λ (k : Tracked). AddsForced c.args.slacks.now.rows c.args.slacks.now.trail k.trail) (sym c.blame.ensures) nothing
+returns-then-is_below-clause-forced g c = subst (λ (k : TrailState). AddsForced c.args.tables.now.rows c.args.trail.now.lits k.lits) (sym c.blame.ensures) nothing

@@ -3,28 +3,25 @@ use Rattle.pb_normal.specs.declared.terms.PositiveTerm.{PositiveTerm}
 use Rattle.pb_normal.specs.NormalForm.{PositiveRow, total_coefficient}
 use Rattle.pb_rows.specs.Clauses.{clause_row}
 use Rattle.pb_rows.specs.Constraints.{row_at}
-use Rattle.pb_rows.specs.Tables.{rows_of, clauses_of}
-use Rattle.pb_rows.proofs.TablesLemmas.{seen, form_row_at, clause_at, total_units}
+use Rattle.pb_rows.proofs.TablesLemmas.{form_row_at, clause_at, total_units}
 use Rattle.pb_rows.proofs.tables.Tables.total.Goals as goal
 
 pub returns-then-row-len-clause-value : goal.returns-then-row-len-clause-value
 returns-then-row-len-clause-value g c =
-    let source = c.self.inside.source in
-    let view = seen (rows_of source) c.rows-rows.result.now (clauses_of source) (clauses_of source) c.args.self.now c.self.view_is c.rows-rows.ensures (let same : clauses_of source ≡ clauses_of source = cc in same) in
-    let here = form_row_at c.rows-rows.result.now (clauses_of source) c.args.self.now c.args.row c.len.result view c.len.ensures.value (omega arith) in
+    let here = form_row_at c.self.inside.rows.now c.self.inside.clauses.now c.args.self.now c.args.row c.len.result c.self.view_is c.len.ensures.value (omega arith) in
     c.total.ensures ∙ (ap total_coefficient c.terms.ensures ∙ ap (λ (p : PositiveRow). total_coefficient p.terms) (sym here))
 
 pub returns-else-row-len-clause-value : goal.returns-else-row-len-clause-value
 returns-else-row-len-clause-value g c =
-    let source = c.self.inside.source in
-    let view = seen (rows_of source) c.rows-rows.result.now (clauses_of source) c.clauses.result.now c.args.self.now c.self.view_is c.rows-rows.ensures c.clauses.ensures in
-    let here : row_at c.args.self.now.rows c.args.row ≡ clause_row c.lits.result.now = clause_at c.rows-rows.result.now c.clauses.result.now c.args.self.now c.args.row c.len.result view c.len.ensures.value (omega arith) ∙ (ap (λ (n : ℕ). row_at c.clauses.result.now.rows (c.args.row - n)) (omega (arith, c.len.ensures.value, c.len-else-row-len.ensures.value)) ∙ c.lits.ensures) in
+    let rows = c.self.inside.rows.now in
+    let clauses = c.self.inside.clauses.now in
+    let here : row_at c.args.self.now.rows c.args.row ≡ clause_row c.lits.result.now = clause_at rows clauses c.args.self.now c.args.row c.len.result c.self.view_is c.len.ensures.value (omega arith) ∙ (ap (λ (n : ℕ). row_at clauses.rows (c.args.row - n)) (omega (arith, c.len.ensures.value, c.len-else-row-len.ensures.value)) ∙ c.lits.ensures) in
     sym (total_units c.lits.result.now) ∙ ap (λ (p : PositiveRow). total_coefficient p.terms) (sym here)
 
 pub returns-else-row-len-clause-fits : goal.returns-else-row-len-clause-fits
 returns-else-row-len-clause-fits g c =
-    let source = c.self.inside.source in
-    let view = seen (rows_of source) c.rows-rows.result.now (clauses_of source) c.clauses.result.now c.args.self.now c.self.view_is c.rows-rows.ensures c.clauses.ensures in
-    let here : row_at c.args.self.now.rows c.args.row ≡ clause_row c.lits.result.now = clause_at c.rows-rows.result.now c.clauses.result.now c.args.self.now c.args.row c.len.result view c.len.ensures.value (omega arith) ∙ (ap (λ (n : ℕ). row_at c.clauses.result.now.rows (c.args.row - n)) (omega (arith, c.len.ensures.value, c.len-else-row-len.ensures.value)) ∙ c.lits.ensures) in
+    let rows = c.self.inside.rows.now in
+    let clauses = c.self.inside.clauses.now in
+    let here : row_at c.args.self.now.rows c.args.row ≡ clause_row c.lits.result.now = clause_at rows clauses c.args.self.now c.args.row c.len.result c.self.view_is c.len.ensures.value (omega arith) ∙ (ap (λ (n : ℕ). row_at clauses.rows (c.args.row - n)) (omega (arith, c.len.ensures.value, c.len-else-row-len.ensures.value)) ∙ c.lits.ensures) in
     let total = ap (λ (p : PositiveRow). sum_by (λ (t : PositiveTerm). t.coef) p.terms) here in
     omega (arith, total_units c.lits.result.now)

@@ -8,7 +8,7 @@ pub invariant_of-result : goal.invariant_of-result
 invariant_of-result c =
     let none : IsMade c.args.normal.now [] c.in_ok-cube.cube = record { form = c.in_ok-cube.ensures.form; vars = c.in_ok-cube.ensures.vars; rows = c.in_ok-cube.ensures.rows; candidate = c.in_ok-cube.ensures.candidate; room = c.in_ok-cube.ensures.room } in
     let all : IsMade c.args.normal.now c.cubes.result.now c.in_ok-rest.rest = record { form = c.in_ok-rest.ensures.form; vars = c.in_ok-rest.ensures.vars; rows = c.in_ok-rest.ensures.rows; candidate = c.in_ok-rest.ensures.candidate; room = c.in_ok-rest.ensures.room } in
-    laid_out c.args.instance.now c.args.normal.now c.args.pieces.now c.in_ok-cube.cube c.in_ok-rest.rest c.requires.vars c.requires.feasible c.requires.costs c.vars-vars.ensures.proper.variable_count c.requires.pieces none
+    laid_out c.args.instance.now c.args.normal.now c.args.pieces.now c.in_ok-cube.cube c.in_ok-rest.rest c.clause_laws.ensures.met c.requires.vars c.requires.feasible c.requires.costs c.vars-vars.ensures.proper.variable_count c.requires.pieces none
     (subst (λ (x : List (List Literal)). IsMade c.args.normal.now x c.in_ok-rest.rest) c.cubes.ensures.value all)
 
 pub new-requires-2 : goal.new-requires-2

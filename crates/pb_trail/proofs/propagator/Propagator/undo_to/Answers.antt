@@ -4,7 +4,8 @@ use Rattle.std.proofs.lemmas.List.{take_all}
 use Rattle.pb_inst.specs.Literal.{Literal}
 use Rattle.pb_normal.specs.NormalForm.{PositiveRow, NormalForm}
 use Rattle.pb_trail.specs.declared.propagator.Level.{Level}
-use Rattle.pb_trail.specs.Tracked.{Tracked}
+use Rattle.pb_rows.specs.Constraints.{Constraints}
+use Rattle.pb_trail.specs.Tracked.{IsUpToDate}
 use Rattle.pb_trail.specs.EngineState.{EngineState, trail_before}
 use Rattle.pb_trail.specs.Levels.{starts_of, IsEngine}
 use Rattle.pb_trail.proofs.EngineLemmas.{length-starts_of, starts_of-take, start_at, IsEngine-undo, sound-IsEngine}
@@ -45,12 +46,12 @@ invariant_of-self-2 g c =
     let count = length-starts_of inside.levels.items in
     let view = ap (λ (e : EngineState). length e.levels) c.self.view_is in
     let below : c.args.level < length inside.levels.items = omega (arith, inside.levels.ok.0, c.requires) in
-    let stays = IsEngine-undo inside.slacks.vars inside.slacks.rows inside.slacks.trail inside.levels.items inside.settled_until inside.conflict (vec_capacity inside.levels) c.args.level c.index.result.now c.self.invariant below c.index.ensures c.known_if-self-inside-2.result
+    let stays = IsEngine-undo inside.source.vars inside.source.rows inside.trail.lits inside.levels.items inside.settled_until inside.conflict (vec_capacity inside.levels) c.args.level c.index.result.now c.self.invariant.engine below c.index.ensures c.known_if-self-inside-2.result
     (λ from is. (let h = c.known_if-self-inside-2.ensures from is in (some_is c.index.result.now.start from h.1, h.0))) in
-    let P : Tracked → Type 0 = λ k. IsEngine k.vars k.rows k.trail c.truncate.new.self.items c.known_if-self-inside-2.result false (vec_capacity c.truncate.new.self) in
-    let Q : List Level → Type 0 = λ ls. IsEngine inside.slacks.vars inside.slacks.rows (take c.index.result.now.start inside.slacks.trail) ls c.known_if-self-inside-2.result false (vec_capacity inside.levels) in
-    let R : ℕ → Type 0 = λ n. IsEngine inside.slacks.vars inside.slacks.rows (take c.index.result.now.start inside.slacks.trail) c.truncate.new.self.items c.known_if-self-inside-2.result false n in
-    subst P (sym c.cut.ensures) (subst R (sym c.truncate.ensures.capacity) (subst Q (sym c.truncate.ensures.items) stays))
+    let P : List Literal → Type 0 = λ t. IsEngine inside.source.vars inside.source.rows t c.truncate.new.self.items c.known_if-self-inside-2.result false (vec_capacity c.truncate.new.self) in
+    let Q : List Level → Type 0 = λ ls. IsEngine inside.source.vars inside.source.rows (take c.index.result.now.start inside.trail.lits) ls c.known_if-self-inside-2.result false (vec_capacity inside.levels) in
+    let R : ℕ → Type 0 = λ n. IsEngine inside.source.vars inside.source.rows (take c.index.result.now.start inside.trail.lits) c.truncate.new.self.items c.known_if-self-inside-2.result false n in
+    record { up_to_date = subst (λ (t : Constraints). IsUpToDate t c.cut.new.self) c.tables.ensures c.cut.ensures.up_to_date; engine = subst P (sym c.cut.ensures.left) (subst R (sym c.truncate.ensures.capacity) (subst Q (sym c.truncate.ensures.items) stays)) }
 
 pub returns-clause-undone : goal.returns-clause-undone
 returns-clause-undone g c =
@@ -59,18 +60,18 @@ returns-clause-undone g c =
     let count = length-starts_of inside.levels.items in
     let view = ap (λ (e : EngineState). length e.levels) c.self.view_is in
     let below : c.args.level < length inside.levels.items = omega (arith, inside.levels.ok.0, c.requires) in
-    let place : get_or (starts_of inside.levels.items) c.args.level (length inside.slacks.trail) ≡ c.index.result.now.start =
-    start_at inside.levels.items c.args.level (length inside.slacks.trail) c.index.result.now below ∙ ap (λ (l : Level). l.start) (sym c.index.ensures) in
+    let place : get_or (starts_of inside.levels.items) c.args.level (length inside.trail.lits) ≡ c.index.result.now.start =
+    start_at inside.levels.items c.args.level (length inside.trail.lits) c.index.result.now below ∙ ap (λ (l : Level). l.start) (sym c.index.ensures) in
     let levels : starts_of c.truncate.new.self.items ≡ take c.args.level (starts_of inside.levels.items) = ap starts_of c.truncate.ensures.items ∙ starts_of-take inside.levels.items c.args.level in
-    ap (λ (k : Tracked). state k.form k.vars k.rows k.trail (starts_of c.truncate.new.self.items)) c.cut.ensures
-    ∙ (ap (λ (ls : List ℕ). state inside.slacks.form inside.slacks.vars inside.slacks.rows (take c.index.result.now.start inside.slacks.trail) ls) levels
-    ∙ (ap (λ (n : ℕ). state inside.slacks.form inside.slacks.vars inside.slacks.rows (take n inside.slacks.trail) (take c.args.level (starts_of inside.levels.items))) (sym place)
+    ap (λ (t : List Literal). state inside.source.form inside.source.vars inside.source.rows t (starts_of c.truncate.new.self.items)) c.cut.ensures.left
+    ∙ (ap (λ (ls : List ℕ). state inside.source.form inside.source.vars inside.source.rows (take c.index.result.now.start inside.trail.lits) ls) levels
+    ∙ (ap (λ (n : ℕ). state inside.source.form inside.source.vars inside.source.rows (take n inside.trail.lits) (take c.args.level (starts_of inside.levels.items))) (sym place)
     ∙ ap (λ (e : EngineState). state e.form e.vars e.rows (trail_before e c.args.level) (take c.args.level e.levels)) c.self.view_is))
 
 pub returns-then-level-len-clause-sound : goal.returns-then-level-len-clause-sound
 returns-then-level-len-clause-sound g c =
     let inside = c.self.inside in
-    sound-IsEngine inside.slacks.form inside.slacks.vars inside.slacks.rows inside.slacks.trail inside.levels.items inside.settled_until inside.conflict false (vec_capacity inside.levels) c.self.invariant
+    sound-IsEngine inside.source.form inside.source.vars inside.source.rows inside.trail.lits inside.levels.items inside.settled_until inside.conflict false (vec_capacity inside.levels) c.self.invariant.engine
 
 pub returns-clause-sound : goal.returns-clause-sound
 returns-clause-sound g c =
@@ -78,8 +79,8 @@ returns-clause-sound g c =
     let count = length-starts_of inside.levels.items in
     let view = ap (λ (e : EngineState). length e.levels) c.self.view_is in
     let below : c.args.level < length inside.levels.items = omega (arith, inside.levels.ok.0, c.requires) in
-    let stays = IsEngine-undo inside.slacks.vars inside.slacks.rows inside.slacks.trail inside.levels.items inside.settled_until inside.conflict (vec_capacity inside.levels) c.args.level c.index.result.now c.self.invariant below c.index.ensures c.known_if-self-inside-2.result
+    let stays = IsEngine-undo inside.source.vars inside.source.rows inside.trail.lits inside.levels.items inside.settled_until inside.conflict (vec_capacity inside.levels) c.args.level c.index.result.now c.self.invariant.engine below c.index.ensures c.known_if-self-inside-2.result
     (λ from is. (let h = c.known_if-self-inside-2.ensures from is in (some_is c.index.result.now.start from h.1, h.0))) in
-    let P : Tracked → Type 0 = λ k. IsSoundTrail (record { form = k.form; vars = k.vars; rows = k.rows; trail = k.trail; levels = starts_of c.truncate.new.self.items; conflict = false }) in
-    let Q : List Level → Type 0 = λ ls. IsSoundTrail (record { form = inside.slacks.form; vars = inside.slacks.vars; rows = inside.slacks.rows; trail = take c.index.result.now.start inside.slacks.trail; levels = starts_of ls; conflict = false }) in
-    subst P (sym c.cut.ensures) (subst Q (sym c.truncate.ensures.items) (sound-IsEngine inside.slacks.form inside.slacks.vars inside.slacks.rows (take c.index.result.now.start inside.slacks.trail) (take c.args.level inside.levels.items) c.known_if-self-inside-2.result false false (vec_capacity inside.levels) stays))
+    let P : List Literal → Type 0 = λ t. IsSoundTrail (record { form = inside.source.form; vars = inside.source.vars; rows = inside.source.rows; trail = t; levels = starts_of c.truncate.new.self.items; conflict = false }) in
+    let Q : List Level → Type 0 = λ ls. IsSoundTrail (record { form = inside.source.form; vars = inside.source.vars; rows = inside.source.rows; trail = take c.index.result.now.start inside.trail.lits; levels = starts_of ls; conflict = false }) in
+    subst P (sym c.cut.ensures.left) (subst Q (sym c.truncate.ensures.items) (sound-IsEngine inside.source.form inside.source.vars inside.source.rows (take c.index.result.now.start inside.trail.lits) (take c.args.level inside.levels.items) c.known_if-self-inside-2.result false false (vec_capacity inside.levels) stays))

@@ -1,5 +1,4 @@
 use Rattle.std.proofs.Common.{◌<◌, length, ap, arith}
-use Rattle.std.proofs.lemmas.List.{get_or_default}
 use Rattle.pb_rows.specs.Constraints.{row_at}
 use Rattle.pb_trail.specs.Tracked.{Tracked}
 use Rattle.pb_trail.proofs.TrailLemmas.{reachable-le-total}
@@ -10,6 +9,5 @@ returns-clause-fits g c =
     let inside = c.self.inside in
     let rows = ap (λ (t : Tracked). length t.rows) c.self.view_is in
     let exists : c.args.row < length inside.tables.rows = omega arith in
-    let read = get_or_default inside.sums.items c.args.row c.index.result.now 0 (omega (arith, c.self.invariant.sum_count)) in
-    let most = reachable-le-total inside.trail.items (row_at inside.tables.rows c.args.row).terms in
-    omega (arith, c.self.invariant.fits c.args.row exists, c.self.invariant.sums c.args.row exists)
+    let most = reachable-le-total inside.trail.now.lits (row_at inside.tables.rows c.args.row).terms in
+    omega (arith, c.self.invariant.fits c.args.row exists, c.self.invariant.sums c.args.row exists, c.sum.ensures)

@@ -1,0 +1,41 @@
+//! The answer of all workers.
+ghost use Rattle.std.specs.Prelude.{◌≡◌, ◌∷◌, ◌++◌, [], List, Option, map, All};
+ghost use Rattle.std.specs.Option.{IfSome};
+ghost use Rattle.pb_inst.specs.Incumbent.{Solution, IsSolution};
+ghost use Rattle.pb_cubes.specs.Pieces.{CubeList};
+ghost use Rattle.pb_solve.specs.Parts.{AreSolutions, AreWhole, IsFirst};
+ghost use Rattle.pb_solve.specs.Solving.{HoldsLeast};
+
+use crate::workers::part::Part;
+use pb_inst::Best;
+
+/// Afterwards `into` holds the first, by cost and then by the variables, of what it held and what the parts found. Where
+/// the parts are of one list and name all its pieces that is the least assignment, or nothing where nothing is feasible.
+/// Asks that all are of one instance. Takes no memory.
+pub fn gather(into: &mut Best<'_>, parts: &[Part<'_>])
+    requires one_instance { All (λ part. part.best.problem ≡ into.old.problem) parts.now }
+    ensures same_instance { into.new.problem ≡ into.old.problem }
+    ensures first { IsFirst (into.old.held ∷ map (λ part. part.best.held) parts.now) into.new.held }
+    ensures least { (list : CubeList) → AreWhole list parts.now → HoldsLeast into.old.problem into.new.held }
+{
+    // A call tells that what is held is a solution.
+    let _ = into.cost();
+    for part in parts {
+        take_from(into, part.best());
+    }
+}
+
+/// Holds the first of what is held and what the other holds.
+fn take_from(into: &mut Best<'_>, other: &Best<'_>)
+    requires { other.now.problem ≡ into.old.problem }
+    ensures same_instance { into.new.problem ≡ into.old.problem }
+    ensures sound { IfSome into.new.held (IsSolution into.old.problem) }
+    ensures other_sound { IfSome other.now.held (IsSolution into.old.problem) }
+    ensures adds { (found : List (Option Solution)) → AreSolutions into.old.problem found → IsFirst found into.old.held
+        → IsFirst (found ++ other.now.held ∷ []) into.new.held }
+{
+    let _ = into.cost();
+    if let Some(assignment) = other.assignment() {
+        let _ = into.take(assignment);
+    }
+}

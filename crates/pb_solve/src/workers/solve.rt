@@ -1,0 +1,72 @@
+//! Solving with many workers, which claim pieces and lend each other what they found.
+ghost use Rattle.std.specs.Prelude.{◌≡◌, ◌≤◌, min, IfOk};
+ghost use Rattle.pb_inst.specs.declared.TheConstants.{MAX_WORKERS};
+ghost use Rattle.pb_solve.specs.Solving.{HoldsLeast};
+
+use crate::workers::crew::SearchCrew;
+use crate::workers::fork::fork;
+use crate::workers::gate::Gate;
+use crate::workers::gather::gather;
+use pb_board::Board;
+use pb_cubes::Pieces;
+use pb_inst::{Best, Instance, Memory, Workers};
+use pb_normal::normalise;
+use pb_search::SearchTables;
+use std::alloc::Global;
+use std::thread::Threads;
+use thiserror::Error;
+
+/// Why an instance was not solved.
+#[derive(Clone, Copy, Debug, PartialEq, Eq, Error)]
+pub enum SolveFault {
+    /// The memory that the call needs was refused.
+    #[error("out of memory")]
+    Memory,
+}
+
+impl From<Memory> for SolveFault {
+    fn from(_: Memory) -> SolveFault {
+        SolveFault::Memory
+    }
+}
+
+/// The least assignment, or none where nothing is feasible. The workers, numbered from 0, run on threads of their own
+/// where the system gives them; else some of them run one after the other, with the same answer. A worker beyond the number
+/// of pieces is not started: it would get none, and yet take memory for a search of its own, the want of which would end
+/// the run. Asks for pieces over the instance's variables.
+pub fn solve<'i, R: Threads + Sync, G: Gate + Sync>(
+    rt: &R,
+    alloc: Global,
+    inst: &'i Instance,
+    pieces: &'i Pieces,
+    workers: Workers,
+    gate: &G,
+) -> Result<Best<'i>, SolveFault>
+    requires { pieces.now.vars ≡ inst.now.vars }
+    ensures same_instance { IfOk result (λ best. best.problem ≡ inst.now) }
+    ensures least { IfOk result (λ best. HoldsLeast inst.now best.held) }
+{
+    let mut best = Best::none(alloc, inst)?;
+    let normal = normalise(alloc, inst)?;
+    let tables = SearchTables::new(alloc, inst, &normal, pieces)?;
+    let workers = workers_with_a_piece(workers, pieces.len());
+    let (board, seat) = Board::new(alloc, workers, inst.vars())?;
+    let crew = SearchCrew::new(inst, pieces, &tables, &board, gate);
+    let (parts, seat) = fork(rt, alloc, &crew, seat, 0)?;
+    gather(&mut best, &parts);
+    drop(parts);
+    board.close(seat);
+    Ok(best)
+}
+
+/// As many workers as are asked for, and no more than there are pieces.
+fn workers_with_a_piece(asked: Workers, pieces: u32) -> Workers
+    requires { 1 ≤ pieces }
+    ensures fewest { result ≡ min asked pieces }
+    ensures in_range { (1 ≤ result) × (result ≤ MAX_WORKERS) }
+{
+    match Workers::new(asked.get().min(pieces)) {
+        Ok(fewest) => fewest,
+        Err(_) => asked,
+    }
+}

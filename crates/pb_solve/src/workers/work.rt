@@ -1,0 +1,132 @@
+//! The whole work of one worker.
+ghost use Rattle.std.specs.Prelude.{◌≡◌, ◌<◌, ◌≤◌, ◌⊎◌, ◌+◌, ◌^◌, ◌++◌, ◌∷◌, [], length, All, IfOk, IfSome, IfNone};
+ghost use Rattle.pb_normal.specs.NormalForm.{KeepsCost, KeepsFeasible};
+ghost use Rattle.pb_search.specs.Done.{IsDone};
+ghost use Rattle.pb_solve.specs.Claims.{EndsPast, IsWholeWork, pieces_among};
+ghost use Rattle.pb_share.specs.Sharing.{SameSeat};
+
+use crate::workers::gate::Gate;
+use crate::workers::part::Part;
+use pb_board::{Board, Seat};
+use pb_cubes::Pieces;
+use pb_inst::{Best, Instance, Memory};
+use pb_normal::Normal;
+use pb_search::{Search, SearchTables};
+use pb_share::BoardShare;
+use std::alloc::Global;
+
+/// The whole work of one worker: it claims numbers from the board until it gets one that is no piece, and searches each
+/// piece that it got, of which it tells the gate before. The part names exactly the claims of the answered seat that are
+/// pieces, in order. The worker builds the tables of its searches for itself; where many share them, `solve` lends them.
+///
+/// Asks for a normal form of the instance, pieces over its variables, a seat of this board without claims, a board for the
+/// instance's variables, and a worker below the board's number of workers. At `Memory` the seat is dropped.
+pub fn work<'i, G: Gate + Sync>(
+    alloc: Global,
+    inst: &'i Instance,
+    normal: &Normal,
+    pieces: &'i Pieces,
+    board: &Board,
+    seat: Seat,
+    worker: u32,
+    gate: &G,
+) -> Result<(Part<'i>, Seat), Memory>
+    requires vars { normal.now.vars ≡ inst.now.vars }
+    requires feasible { KeepsFeasible inst.now normal.now }
+    requires costs { KeepsCost inst.now normal.now }
+    requires pieces { pieces.now.vars ≡ inst.now.vars }
+    requires seat { seat.board ≡ board.now.id }
+    requires unclaimed { seat.claimed ≡ [] }
+    requires board { board.now.vars ≡ inst.now.vars }
+    requires worker { worker < board.now.workers }
+    ensures whole { IfOk result (λ done. IsWholeWork inst.now pieces.now done.0 done.1.claimed) }
+    ensures seat { IfOk result (λ done. (done.1.board ≡ board.now.id) × (done.1.parts ≡ seat.parts)) }
+    ensures claims { IfOk result (λ done. length done.1.claimed ≤ 2 ^ 32) }
+{
+    let tables = SearchTables::new(alloc, inst, normal, pieces)?;
+    work_over(alloc, inst, pieces, &tables, board, seat, worker, gate)
+}
+
+/// The same over tables of the instance and the pieces that are lent, to any number of workers at a time; what the worker
+/// changes is its own.
+pub(crate) fn work_over<'i, G: Gate>(
+    alloc: Global,
+    inst: &'i Instance,
+    pieces: &'i Pieces,
+    tables: &SearchTables<'_>,
+    board: &Board,
+    seat: Seat,
+    worker: u32,
+    gate: &G,
+) -> Result<(Part<'i>, Seat), Memory>
+    requires tables { tables.now ≡ record { problem = inst.now; cubes = pieces.now.cubes } }
+    requires seat { seat.board ≡ board.now.id }
+    requires unclaimed { seat.claimed ≡ [] }
+    requires board { board.now.vars ≡ inst.now.vars }
+    requires worker { worker < board.now.workers }
+    ensures whole { IfOk result (λ done. IsWholeWork inst.now pieces.now done.0 done.1.claimed) }
+    ensures seat { IfOk result (λ done. (done.1.board ≡ board.now.id) × (done.1.parts ≡ seat.parts)) }
+    ensures claims { IfOk result (λ done. length done.1.claimed ≤ 2 ^ 32) }
+{
+    let mut best = Best::none(alloc, inst)?;
+    let mut search = Search::over(alloc, tables)?;
+    let mut share = BoardShare::new(board, seat, worker);
+    let named = search_claimed(
+        alloc,
+        &mut search,
+        pieces.len(),
+        &mut best,
+        &mut share,
+        gate,
+    )?;
+    Ok((Part::new(pieces, named, best), share.into_seat()))
+}
+
+/// Searches the pieces that the share claims, and answers their numbers.
+fn search_claimed<G: Gate>(
+    alloc: Global,
+    search: &mut Search<'_>,
+    count: u32,
+    best: &mut Best<'_>,
+    share: &mut BoardShare<'_>,
+    gate: &G,
+) -> Result<Vec<u32>, Memory>
+    requires count { count ≡ length search.old.division.cubes + 1 }
+    requires same_instance { best.old.problem ≡ search.old.division.problem }
+    requires unclaimed { share.old.seat.claimed ≡ [] }
+    ensures same_instance { best.new.problem ≡ best.old.problem }
+    ensures done { IfOk result (λ named. All (λ i. IsDone search.old.division i best.new.held) named.items) }
+    ensures named { IfOk result (λ named. named.items ≡ pieces_among count share.new.seat.claimed) }
+    ensures most { IfOk result (λ named. length share.new.seat.claimed ≤ count + 1) }
+    ensures ends { IfOk result (λ named. EndsPast count share.new.seat.claimed ⊎ (length share.new.seat.claimed ≡ count + 1)) }
+    ensures seat { SameSeat share.old share.new }
+{
+    let mut named = Vec::new(alloc);
+    for _turn in 0..u64::from(count) + 1 {
+        let Some(piece) = claim_piece(share, count) else {
+            return Ok(named);
+        };
+        // What is refused here is refused before the piece is searched, so that no finished work is lost for it.
+        named.reserve(1)?;
+        gate.pass(share.worker(), piece);
+        search.run(piece, best, share, None);
+        named.push_reserved(piece);
+    }
+    Ok(named)
+}
+
+/// Claims the next number, and answers it where it is a piece's.
+fn claim_piece(share: &mut BoardShare<'_>, count: u32) -> Option<u32>
+    requires { length share.old.seat.claimed < 2 ^ 32 }
+    ensures piece { IfSome result (λ piece. (piece < count) × (share.new.seat.claimed ≡ share.old.seat.claimed ++ piece ∷ [])) }
+    ensures none { IfNone result (EndsPast count share.new.seat.claimed × (pieces_among count share.new.seat.claimed ≡ pieces_among count share.old.seat.claimed)) }
+    ensures one { length share.new.seat.claimed ≡ length share.old.seat.claimed + 1 }
+    ensures seat { SameSeat share.old share.new }
+{
+    let number = share.claim();
+    if number < u64::from(count) {
+        Some(number as u32)
+    } else {
+        None
+    }
+}

@@ -1,0 +1,9 @@
+use Rattle.std.proofs.Common.{length}
+use Rattle.pb_trail.proofs.EngineLemmas.{IsCutTo}
+use Rattle.pb_trail.proofs.trail.Trail.cut.Given as goal
+
+abbrev pub invariant-loop-self : goal.invariant-loop-self
+invariant-loop-self g l = IsCutTo l.tables l.initial.self l.self l.length
+
+abbrev pub decreases-loop-self : goal.decreases-loop-self
+decreases-loop-self g l = length l.self.lits
