@@ -7,6 +7,7 @@ mod division;
 mod failing_inputs;
 mod failing_outputs;
 mod largest_inputs;
+mod limits;
 mod oracle;
 mod refused_memory;
 mod reports;
@@ -54,12 +55,42 @@ impl Ended {
     }
 }
 
+/// What a run is asked for.
+#[derive(Clone, Copy, Debug)]
+struct Asked<'a> {
+    format: Format,
+    text: &'a [u8],
+    cubes: Option<&'a [u8]>,
+    workers: u32,
+    split: u32,
+}
+
 fn options(rt: &impl Abort, format: Format, workers: u32, split: u32) -> Options {
     Options {
         format,
         workers: Workers::new(workers).expect(rt, "a number of workers"),
         split,
     }
+}
+
+/// Runs as asked, and compares the report and the status with these. Where they differ it tells how the text begins.
+fn assert_report<R: Abort + Threads + Sync>(
+    rt: &R,
+    alloc: Global,
+    asked: Asked<'_>,
+    report: &[u8],
+    status: Status,
+) {
+    let mut written = Vec::new(alloc);
+    let options = options(rt, asked.format, asked.workers, asked.split);
+    let ended = run_on(rt, alloc, asked.text, asked.cubes, options, &mut written);
+    let beginning = asked.text.get(..200).unwrap_or(asked.text);
+    assert_eq!(rt;
+        ended,
+        Ended::reported(status),
+        "{beginning:?}, {options:?}"
+    );
+    assert_eq!(rt; written.as_slice(), report, "{beginning:?}, {options:?}");
 }
 
 /// One run over these readers and this writer. All tests call `run` here.

@@ -1,10 +1,11 @@
 //! Each beginning of a text has the report that the format gives it.
 
 use super::cases::{CLAUSE_AND_CUBE, CONTRADICTION, Case};
-use super::{Ended, WORKERS, options, run_on};
+use super::{Asked, WORKERS, assert_report};
 use pb_solve::Status;
-use std::io::Empty;
-use std::test::Fail;
+use std::alloc::Global;
+use std::process::Abort;
+use std::thread::Threads;
 
 /// The report on the beginnings up to this length that are longer than those before.
 struct Beginnings {
@@ -80,34 +81,33 @@ const CUTS: [(Case, &[Beginnings]); 2] = [
     (CLAUSE_AND_CUBE, &CLAUSE_AND_CUBE_CUT),
 ];
 
+/// Runs with each number of workers on the beginning of this length.
+fn assert_beginning<R: Abort + Threads + Sync>(
+    rt: &R,
+    alloc: Global,
+    case: &Case,
+    cut: &[Beginnings],
+    length: usize,
+) {
+    let expected = cut.iter().find(|beginnings| length <= beginnings.most);
+    let expected = expected.expect(rt, "a report for each length");
+    for workers in WORKERS {
+        let asked = Asked {
+            format: case.format,
+            text: case.text.get(..length).unwrap_or(&[]),
+            cubes: None,
+            workers,
+            split: 0,
+        };
+        assert_report(rt, alloc, asked, expected.report, expected.status);
+    }
+}
+
 #[test]
-fn each_beginning(rt: HostRuntime) -> Result<(), Fail> {
+fn each_beginning(rt: HostRuntime) {
     for (case, cut) in &CUTS {
         for length in 0..=case.text.len() {
-            let expected = cut.iter().find(|beginnings| length <= beginnings.most);
-            let expected = expected.expect(&rt, "a report for each length");
-            for workers in WORKERS {
-                let mut written = Vec::new(rt.alloc());
-                let ended = run_on(
-                    &rt,
-                    rt.alloc(),
-                    &case.text[..length],
-                    None::<Empty>,
-                    options(&rt, case.format, workers, 0),
-                    &mut written,
-                );
-                assert_eq!(rt;
-                    ended,
-                    Ended::reported(expected.status),
-                    "{length} bytes, {workers} workers"
-                );
-                assert_eq!(rt;
-                    written.as_slice(),
-                    expected.report,
-                    "{length} bytes, {workers} workers"
-                );
-            }
+            assert_beginning(&rt, rt.alloc(), case, cut, length);
         }
     }
-    Ok(())
 }

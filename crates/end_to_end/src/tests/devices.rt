@@ -2,7 +2,8 @@
 
 use std::io::{self, Error, ErrorKind, Read, Write};
 
-pub const KINDS: [ErrorKind; 4] = [
+pub const KINDS: [ErrorKind; 5] = [
+    ErrorKind::Other,
     ErrorKind::Interrupted,
     ErrorKind::WouldBlock,
     ErrorKind::UnexpectedEof,

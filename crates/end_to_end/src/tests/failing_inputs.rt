@@ -3,61 +3,120 @@
 use super::cases::{CASES, CLAUSE_AND_CUBE, COVER, Case, NO_HEADER, PRODUCT};
 use super::devices::{Broken, Failing, KINDS, Resumed};
 use super::{Ended, options, run_on};
-use pb_solve::{Format, RunFault, Status};
+use pb_solve::{Format, Options, RunFault, Status};
 use std::alloc::Global;
-use std::io::{Empty, ErrorKind};
+use std::io::{Empty, ErrorKind, Read};
 use std::process::Abort;
 use std::test::Fail;
 use std::thread::Threads;
 
-/// More calls than any input of these tests gets.
-const MOST_CALLS: usize = 1000;
+/// Runs over these readers, and compares how the run ended and what it wrote. The number tells which run differs.
+fn assert_run<R: Abort + Threads + Sync, I: Read + Drop, C: Read + Drop>(
+    rt: &R,
+    alloc: Global,
+    input: I,
+    cubes: Option<C>,
+    options: Options,
+    expected: Expected,
+    number: usize,
+) {
+    let mut written = Vec::new(alloc);
+    let ended = run_on(rt, alloc, input, cubes, options, &mut written);
+    assert_eq!(rt; ended, expected.ended, "run {number}");
+    assert_eq!(rt; written.as_slice(), expected.report, "run {number}");
+}
 
-/// At how many reads the input fails before a run of so many workers has it whole, with reads of at most so many bytes.
-fn failing_reads<R: Abort + Threads + Sync>(
+/// How a run is to end, and what it is to write.
+#[derive(Clone, Copy)]
+struct Expected {
+    ended: Ended,
+    report: &'static [u8],
+}
+
+impl Expected {
+    fn reported(case: &Case) -> Expected {
+        Expected {
+            ended: Ended::reported(case.status),
+            report: case.report,
+        }
+    }
+
+    /// A read fault, after which nothing was written.
+    fn failed(fault: RunFault) -> Expected {
+        Expected {
+            ended: Ended::failed(fault),
+            report: b"",
+        }
+    }
+}
+
+/// Runs the case with an input that gives so many bytes a read and fails after so many reads.
+fn assert_input_for_reads<R: Abort + Threads + Sync>(
     rt: &R,
     alloc: Global,
     case: &Case,
-    step: usize,
-    workers: u32,
-) -> usize {
-    for calls_left in 0..MOST_CALLS {
-        let input = Failing {
-            inner: case.text,
-            step,
-            calls_left,
-        };
-        let mut written = Vec::new(alloc);
-        let options = options(rt, case.format, workers, 0);
-        let ended = run_on(rt, alloc, input, None::<Empty>, options, &mut written);
-        if !ended.input_failed {
-            assert_eq!(rt; ended, Ended::reported(case.status));
-            assert_eq!(rt; written.as_slice(), case.report);
-            return calls_left;
-        }
-        assert_eq!(rt;
-            ended,
-            Ended::failed(RunFault::ReadInput),
-            "at read {calls_left}"
-        );
-        assert_eq!(rt; written.len(), 0, "at read {calls_left}");
-    }
-    MOST_CALLS
+    (step, workers): (usize, u32),
+    calls_left: usize,
+    fails: bool,
+) {
+    let input = Failing {
+        inner: case.text,
+        step,
+        calls_left,
+    };
+    let expected = if fails {
+        Expected::failed(RunFault::ReadInput)
+    } else {
+        Expected::reported(case)
+    };
+    let options = options(rt, case.format, workers, 0);
+    assert_run(
+        rt,
+        alloc,
+        input,
+        None::<Empty>,
+        options,
+        expected,
+        calls_left,
+    );
 }
 
 #[test]
-fn inputs_that_fail_at_any_read(rt: HostRuntime) -> Result<(), Fail> {
+fn inputs_that_fail_at_any_read(rt: HostRuntime) {
     for case in &CASES {
         for (step, workers) in [(1usize, 2), (2, 2), (7, 2), (9, 1), (32, 2)] {
-            let reads = failing_reads(&rt, rt.alloc(), case, step, workers);
-            assert_eq!(rt;
-                reads,
-                case.text.len().div_ceil(step) + 1,
-                "{step} bytes a call"
-            );
+            // The last read finds the end.
+            let reads = case.text.len().div_ceil(step) + 1;
+            for calls_left in 0..reads + 2 {
+                let fails = calls_left < reads;
+                assert_input_for_reads(&rt, rt.alloc(), case, (step, workers), calls_left, fails);
+            }
         }
     }
-    Ok(())
+}
+
+/// Whether the run fails on a long input that fails after so many reads of any length.
+fn fails_on<R: Abort + Threads + Sync>(
+    rt: &R,
+    alloc: Global,
+    text: &[u8],
+    calls_left: usize,
+) -> bool {
+    let input = Failing {
+        inner: text,
+        step: usize::MAX,
+        calls_left,
+    };
+    let mut written = Vec::new(alloc);
+    let options = options(rt, Format::Opb, 2, 0);
+    let ended = run_on(rt, alloc, input, None::<Empty>, options, &mut written);
+    if ended == Ended::failed(RunFault::ReadInput) {
+        assert_eq!(rt; written.len(), 0);
+        return true;
+    }
+    assert_eq!(rt; ended, Ended::reported(Status::Satisfiable));
+    assert_eq!(rt; written.as_slice(), b"s SATISFIABLE\nv\n".as_slice());
+    false
 }
 
 #[test]
@@ -65,21 +124,8 @@ fn a_long_input_that_fails_at_any_read(rt: HostRuntime) -> Result<(), Fail> {
     let text = b"* a comment\n".repeat(rt.alloc(), 20_000)?;
     let mut last_failing = 0;
     for calls_left in 0..20usize {
-        let input = Failing {
-            inner: text.as_slice(),
-            step: usize::MAX,
-            calls_left,
-        };
-        let mut written = Vec::new(rt.alloc());
-        let options = options(&rt, Format::Opb, 2, 0);
-        let ended = run_on(&rt, rt.alloc(), input, None::<Empty>, options, &mut written);
-        if ended.input_failed {
+        if fails_on(&rt, rt.alloc(), &text, calls_left) {
             last_failing = calls_left;
-            assert_eq!(rt; ended, Ended::failed(RunFault::ReadInput));
-            assert_eq!(rt; written.len(), 0);
-        } else {
-            assert_eq!(rt; ended, Ended::reported(Status::Satisfiable));
-            assert_eq!(rt; written.as_slice(), b"s SATISFIABLE\nv\n".as_slice());
         }
     }
     assert!(rt;
@@ -89,143 +135,116 @@ fn a_long_input_that_fails_at_any_read(rt: HostRuntime) -> Result<(), Fail> {
     Ok(())
 }
 
+const CUBE_FILE: &[u8] = b"c a note\na 1 0\na -1 2 0\n";
+
+/// Runs the case with a cube file that gives so many bytes a read and fails after so many reads.
+fn assert_cubes_for_reads<R: Abort + Threads + Sync>(
+    rt: &R,
+    alloc: Global,
+    case: &Case,
+    (step, workers, split): (usize, u32, u32),
+    calls_left: usize,
+    fails: bool,
+) {
+    let cubes = Failing {
+        inner: CUBE_FILE,
+        step,
+        calls_left,
+    };
+    let expected = if fails {
+        Expected::failed(RunFault::ReadCubes)
+    } else {
+        Expected::reported(case)
+    };
+    let options = options(rt, case.format, workers, split);
+    assert_run(
+        rt,
+        alloc,
+        case.text,
+        Some(cubes),
+        options,
+        expected,
+        calls_left,
+    );
+}
+
 #[test]
-fn cube_files_that_fail_at_any_read(rt: HostRuntime) -> Result<(), Fail> {
-    let file = b"c a note\na 1 0\na -1 2 0\n".as_slice();
-    for case in [&COVER, &CLAUSE_AND_CUBE] {
-        for calls_left in 0..file.len() + 3 {
-            let cubes = Failing {
-                inner: file,
-                step: 1,
-                calls_left,
-            };
-            let mut written = Vec::new(rt.alloc());
-            let options = options(&rt, case.format, 2, 1);
-            let ended = run_on(
-                &rt,
-                rt.alloc(),
-                case.text,
-                Some(cubes),
-                options,
-                &mut written,
-            );
-            if calls_left <= file.len() {
-                assert_eq!(rt;
-                    ended,
-                    Ended::failed(RunFault::ReadCubes),
-                    "at read {calls_left}"
+fn cube_files_that_fail_at_any_read(rt: HostRuntime) {
+    for case in &[COVER, CLAUSE_AND_CUBE] {
+        for (step, workers, split) in [(1usize, 2, 1), (4, 1, 0)] {
+            // The last read finds the end.
+            let reads = CUBE_FILE.len().div_ceil(step) + 1;
+            for calls_left in 0..reads + 2 {
+                let fails = calls_left < reads;
+                assert_cubes_for_reads(
+                    &rt,
+                    rt.alloc(),
+                    case,
+                    (step, workers, split),
+                    calls_left,
+                    fails,
                 );
-                assert_eq!(rt; written.len(), 0, "at read {calls_left}");
-            } else {
-                assert_eq!(rt; ended, Ended::reported(case.status), "at read {calls_left}");
-                assert_eq!(rt; written.as_slice(), case.report, "at read {calls_left}");
             }
         }
     }
-    Ok(())
 }
 
-#[test]
-fn a_cube_file_that_fails_at_any_read(rt: HostRuntime) -> Result<(), Fail> {
-    let file = b"a 1 0\na -1 2 0\n".as_slice();
-    for calls_left in 0..100usize {
-        let cubes = Failing {
-            inner: file,
-            step: 4,
-            calls_left,
-        };
-        let mut written = Vec::new(rt.alloc());
-        let options = options(&rt, Format::Opb, 1, 0);
-        let ended = run_on(
-            &rt,
-            rt.alloc(),
-            COVER.text,
-            Some(cubes),
-            options,
-            &mut written,
-        );
-        if !ended.cubes_failed {
-            assert_eq!(rt; ended, Ended::reported(COVER.status));
-            assert_eq!(rt; calls_left, file.len().div_ceil(4) + 1);
-            return Ok(());
-        }
-        assert_eq!(rt;
-            ended,
-            Ended::failed(RunFault::ReadCubes),
-            "at read {calls_left}"
-        );
-        assert_eq!(rt; written.len(), 0, "at read {calls_left}");
-    }
-    assert!(rt; false, "each read failed");
-    Ok(())
+/// Runs over these readers, of which one fails, and expects that fault.
+fn assert_fault<R: Abort + Threads + Sync, I: Read + Drop, C: Read + Drop>(
+    rt: &R,
+    alloc: Global,
+    input: I,
+    cubes: Option<C>,
+    fault: RunFault,
+) {
+    let options = options(rt, COVER.format, 2, 0);
+    assert_run(rt, alloc, input, cubes, options, Expected::failed(fault), 0);
 }
 
+/// With a fault of each kind in the input alone, in both, of which the input's is the first, and in the cube file alone.
 #[test]
-fn inputs_with_a_fault_of_any_kind(rt: HostRuntime) -> Result<(), Fail> {
+fn faults_of_any_kind(rt: HostRuntime) {
     for kind in &KINDS {
-        let input = Broken(*kind);
-        let mut written = Vec::new(rt.alloc());
-        let options = options(&rt, Format::Opb, 2, 0);
-        let ended = run_on(&rt, rt.alloc(), input, None::<Empty>, options, &mut written);
-        assert_eq!(rt; ended, Ended::failed(RunFault::ReadInput));
-        assert_eq!(rt; written.len(), 0);
+        let (alloc, kind) = (rt.alloc(), *kind);
+        assert_fault(&rt, alloc, Broken(kind), None::<Empty>, RunFault::ReadInput);
+        assert_fault(
+            &rt,
+            alloc,
+            Broken(kind),
+            Some(Broken(kind)),
+            RunFault::ReadInput,
+        );
+        assert_fault(
+            &rt,
+            alloc,
+            COVER.text,
+            Some(Broken(kind)),
+            RunFault::ReadCubes,
+        );
     }
-    Ok(())
-}
-
-/// The input alone fails, though the cube file would too.
-#[test]
-fn a_failing_input_leaves_the_cube_file(rt: HostRuntime) -> Result<(), Fail> {
-    let input = Broken(ErrorKind::Other);
-    let cubes = Some(Broken(ErrorKind::Other));
-    let mut written = Vec::new(rt.alloc());
-    let options = options(&rt, Format::Opb, 2, 0);
-    let ended = run_on(&rt, rt.alloc(), input, cubes, options, &mut written);
-    assert_eq!(rt; ended, Ended::failed(RunFault::ReadInput));
-    assert_eq!(rt; written.len(), 0);
-    Ok(())
 }
 
 /// Nothing fails, though the cube file would: it is not read.
 #[test]
-fn a_refused_input_leaves_the_cube_file(rt: HostRuntime) -> Result<(), Fail> {
-    for case in [&PRODUCT, &NO_HEADER] {
+fn a_refused_input_leaves_the_cube_file(rt: HostRuntime) {
+    for (i, case) in [PRODUCT, NO_HEADER].iter().enumerate() {
         let cubes = Some(Broken(ErrorKind::Other));
-        let mut written = Vec::new(rt.alloc());
         let options = options(&rt, case.format, 2, 1);
-        let ended = run_on(&rt, rt.alloc(), case.text, cubes, options, &mut written);
-        assert_eq!(rt; ended, Ended::reported(case.status));
-        assert_eq!(rt; written.as_slice(), case.report);
+        let expected = Expected::reported(case);
+        assert_run(&rt, rt.alloc(), case.text, cubes, options, expected, i);
     }
-    Ok(())
 }
 
 #[test]
-fn cube_files_with_a_fault_of_any_kind(rt: HostRuntime) -> Result<(), Fail> {
-    for kind in &KINDS {
-        let cubes = Some(Broken(*kind));
-        let mut written = Vec::new(rt.alloc());
-        let options = options(&rt, Format::Opb, 2, 0);
-        let ended = run_on(&rt, rt.alloc(), COVER.text, cubes, options, &mut written);
-        assert_eq!(rt; ended, Ended::failed(RunFault::ReadCubes));
-        assert_eq!(rt; written.len(), 0);
-    }
-    Ok(())
-}
-
-#[test]
-fn a_text_ends_at_its_first_end(rt: HostRuntime) -> Result<(), Fail> {
-    for case in &CASES {
+fn a_text_ends_at_its_first_end(rt: HostRuntime) {
+    for (i, case) in CASES.iter().enumerate() {
         let input = Resumed {
             text: case.text,
             more: b"1 x1 x2",
             has_ended: false,
         };
-        let mut written = Vec::new(rt.alloc());
         let options = options(&rt, case.format, 2, 0);
-        let ended = run_on(&rt, rt.alloc(), input, None::<Empty>, options, &mut written);
-        assert_eq!(rt; ended, Ended::reported(case.status));
-        assert_eq!(rt; written.as_slice(), case.report);
+        let expected = Expected::reported(case);
+        assert_run(&rt, rt.alloc(), input, None::<Empty>, options, expected, i);
     }
-    Ok(())
 }

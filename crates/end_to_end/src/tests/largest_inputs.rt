@@ -2,18 +2,16 @@
 
 use super::cases::COVER;
 use super::oracle::value_line;
-use super::{Ended, options, run_on};
+use super::{Asked, assert_report};
 use pb_inst::Assignment;
 use pb_solve::{Format, Status};
 use std::alloc::{AllocError, Global};
-use std::io::Empty;
 use std::process::Abort;
 use std::test::Fail;
 use std::thread::Threads;
 
 /// A text of a part that is repeated and an end, with its report.
 struct Long {
-    name: &'static str,
     part: &'static [u8],
     times: usize,
     end: &'static [u8],
@@ -22,16 +20,16 @@ struct Long {
 }
 
 const MANY_CONSTRAINTS: [Long; 2] = [
+    // as many constraints as there may be, in one line
     Long {
-        name: "as many constraints as there may be, in one line",
         part: b">=0;",
         times: 4_194_304,
         end: b"",
         report: b"s SATISFIABLE\nv\n",
         status: Status::Satisfiable,
     },
+    // one constraint more
     Long {
-        name: "one constraint more",
         part: b">=0;",
         times: 4_194_305,
         end: b"",
@@ -41,16 +39,16 @@ const MANY_CONSTRAINTS: [Long; 2] = [
 ];
 
 const LONG_NUMBERS: [Long; 2] = [
+    // a coefficient of a million digits
     Long {
-        name: "a coefficient of a million digits",
         part: b"9",
         times: 1_000_000,
         end: b" x1 >= 1 ;",
         report: b"c refused: TooLarge at line 1\ns UNSUPPORTED\n",
         status: Status::Unsupported,
     },
+    // a million zeros before a coefficient
     Long {
-        name: "a million zeros before a coefficient",
         part: b"0",
         times: 1_000_000,
         end: b"1 x1 >= 1 ;",
@@ -66,25 +64,26 @@ fn repeated(alloc: Global, part: &[u8], times: usize, end: &[u8]) -> Result<Vec<
     Ok(text)
 }
 
+/// The report on a text of one part, so many times, and an end.
 fn assert_long<R: Abort + Threads + Sync>(
     rt: &R,
     alloc: Global,
     long: &Long,
 ) -> Result<(), AllocError> {
     let text = repeated(alloc, long.part, long.times, long.end)?;
-    let mut written = Vec::new(alloc);
-    let options = options(rt, Format::Opb, 2, 0);
-    let ended = run_on(
-        rt,
-        alloc,
-        text.as_slice(),
-        None::<Empty>,
-        options,
-        &mut written,
-    );
-    assert_eq!(rt; ended, Ended::reported(long.status), "{}", long.name);
-    assert_eq!(rt; written.as_slice(), long.report, "{}", long.name);
+    let asked = asked(text.as_slice(), None, 0);
+    assert_report(rt, alloc, asked, long.report, long.status);
     Ok(())
+}
+
+fn asked<'a>(text: &'a [u8], cubes: Option<&'a [u8]>, split: u32) -> Asked<'a> {
+    Asked {
+        format: Format::Opb,
+        text,
+        cubes,
+        workers: 2,
+        split,
+    }
 }
 
 #[test]
@@ -105,16 +104,18 @@ fn numbers_of_a_million_digits(rt: HostRuntime) -> Result<(), Fail> {
 
 #[test]
 fn ten_thousand_variables_of_the_header_alone(rt: HostRuntime) -> Result<(), Fail> {
-    let text = b"* #variable= 10000 #constraint= 0\n".as_slice();
-    let mut written = Vec::new(rt.alloc());
-    let options = options(&rt, Format::Opb, 2, 0);
-    let ended = run_on(&rt, rt.alloc(), text, None::<Empty>, options, &mut written);
-    assert_eq!(rt; ended, Ended::reported(Status::Satisfiable));
     let all_false = Assignment::new(rt.alloc(), 10_000)?;
     let values = value_line(rt.alloc(), Format::Opb, &all_false)?;
     assert_eq!(rt; values.len(), 68_896);
     let report = format!(in rt.alloc(); "s SATISFIABLE\n{values}")?;
-    assert_eq!(rt; written.as_slice(), report.as_bytes());
+    let asked = asked(b"* #variable= 10000 #constraint= 0\n", None, 0);
+    assert_report(
+        &rt,
+        rt.alloc(),
+        asked,
+        report.as_bytes(),
+        Status::Satisfiable,
+    );
     Ok(())
 }
 
@@ -147,33 +148,21 @@ const DIVIDED: [Divided; 3] = [
     },
 ];
 
+fn assert_divided<R: Abort + Threads + Sync>(
+    rt: &R,
+    alloc: Global,
+    case: &Divided,
+) -> Result<(), AllocError> {
+    let file = b"a 0\n".repeat(alloc, case.cubes)?;
+    let asked = asked(COVER.text, Some(file.as_slice()), case.split);
+    assert_report(rt, alloc, asked, case.report, case.status);
+    Ok(())
+}
+
 #[test]
 fn as_many_cubes_as_there_may_be(rt: HostRuntime) -> Result<(), Fail> {
     for case in &DIVIDED {
-        let file = repeated(rt.alloc(), b"a 0\n", case.cubes, b"")?;
-        let mut written = Vec::new(rt.alloc());
-        let ended = run_on(
-            &rt,
-            rt.alloc(),
-            COVER.text,
-            Some(file.as_slice()),
-            options(&rt, Format::Opb, 2, case.split),
-            &mut written,
-        );
-        assert_eq!(rt;
-            ended,
-            Ended::reported(case.status),
-            "{} cubes, split {}",
-            case.cubes,
-            case.split
-        );
-        assert_eq!(rt;
-            written.as_slice(),
-            case.report,
-            "{} cubes, split {}",
-            case.cubes,
-            case.split
-        );
+        assert_divided(&rt, rt.alloc(), case)?;
     }
     Ok(())
 }

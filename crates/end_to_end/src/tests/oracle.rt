@@ -3,6 +3,7 @@
 
 ghost use Rattle.std.specs.Prelude.{◌≡◌, length, IfOk};
 
+use super::Asked;
 use pb_inst::{Assignment, Instance, Memory, Number, precedes};
 use pb_read::{ReadFault, read_cnf, read_cubes, read_icnf, read_opb};
 use pb_solve::{Format, Status};
@@ -12,15 +13,6 @@ use std::test::Fail;
 
 /// The most variables of an instance whose assignments are listed.
 const MOST_VARS: u32 = 3;
-
-/// What a run is asked for.
-#[derive(Clone, Copy, Debug)]
-pub struct Asked<'a> {
-    pub format: Format,
-    pub text: &'a [u8],
-    pub cubes: Option<&'a [u8]>,
-    pub split: u32,
-}
 
 /// The least cost, and the first assignment of this cost as the bits of its variables, the first variable in the lowest bit.
 #[derive(Clone, Copy)]

@@ -1,9 +1,11 @@
 //! Outside values of the reports on texts, with and without cube files and splits.
 
-use super::{Ended, options, run_on};
+use super::{Asked, WORKERS, assert_report};
 use pb_solve::{Device, Format, Status, report_memory};
-use std::io::Empty;
+use std::alloc::Global;
+use std::process::Abort;
 use std::test::Fail;
+use std::thread::Threads;
 
 /// A text in a format, the report on it, and how the run ends.
 struct NamedCase {
@@ -14,7 +16,7 @@ struct NamedCase {
     status: Status,
 }
 
-const CASES: [NamedCase; 44] = [
+const CASES: [NamedCase; 46] = [
     NamedCase {
         name: "the tie goes to the lexicographically first",
         format: Format::Opb,
@@ -139,6 +141,20 @@ const CASES: [NamedCase; 44] = [
         format: Format::Opb,
         text: b"min: -9223372036854775807 x1 ;\n",
         report: b"o -9223372036854775807\ns OPTIMUM FOUND\nv x1\n",
+        status: Status::Optimum,
+    },
+    NamedCase {
+        name: "a variable twice in the objective",
+        format: Format::Opb,
+        text: b"min: 1 x1 1 x1 ;\n1 x1 >= 1 ;\n",
+        report: b"o 2\ns OPTIMUM FOUND\nv x1\n",
+        status: Status::Optimum,
+    },
+    NamedCase {
+        name: "the least coefficient, which x1 = 0 alone meets",
+        format: Format::Opb,
+        text: b"min: -1 x1 ;\n-9223372036854775807 x1 >= 0 ;\n",
+        report: b"o 0\ns OPTIMUM FOUND\nv -x1\n",
         status: Status::Optimum,
     },
     NamedCase {
@@ -325,22 +341,33 @@ const CASES: [NamedCase; 44] = [
     },
 ];
 
-#[test]
-fn ample_memory(rt: HostRuntime) -> Result<(), Fail> {
-    for case in &CASES {
-        let mut written = Vec::new(rt.alloc());
-        let ended = run_on(
-            &rt,
-            rt.alloc(),
-            case.text,
-            None::<Empty>,
-            options(&rt, case.format, 1, 0),
-            &mut written,
-        );
-        assert_eq!(rt; ended, Ended::reported(case.status), "{}", case.name);
-        assert_eq!(rt; written.as_slice(), case.report, "{}", case.name);
+/// Runs the case with each number of workers and so many splits.
+fn assert_case<R: Abort + Threads + Sync>(rt: &R, alloc: Global, case: &NamedCase, splits: u32) {
+    for split in 0..splits {
+        for workers in WORKERS {
+            let asked = Asked {
+                format: case.format,
+                text: case.text,
+                cubes: None,
+                workers,
+                split,
+            };
+            assert_report(rt, alloc, asked, case.report, case.status);
+        }
     }
-    Ok(())
+}
+
+#[test]
+fn ample_memory(rt: HostRuntime) {
+    for case in &CASES {
+        // Where there is no variable there is none to split.
+        let splits = if case.report.ends_with(b"\nv\n") {
+            1
+        } else {
+            2
+        };
+        assert_case(&rt, rt.alloc(), case, splits);
+    }
 }
 
 /// A text with a cube file and a split, the report on it, and how the run ends.
@@ -413,21 +440,19 @@ const DIVIDED_CASES: [DividedCase; 7] = [
 ];
 
 #[test]
-fn reports_on_texts_with_cube_files_and_splits(rt: HostRuntime) -> Result<(), Fail> {
-    for (i, case) in DIVIDED_CASES.iter().enumerate() {
-        let mut written = Vec::new(rt.alloc());
-        let ended = run_on(
-            &rt,
-            rt.alloc(),
-            case.text,
-            Some(case.cubes),
-            options(&rt, case.format, 1, case.split),
-            &mut written,
-        );
-        assert_eq!(rt; ended, Ended::reported(case.status), "case {i}");
-        assert_eq!(rt; written.as_slice(), case.report, "case {i}");
+fn reports_on_texts_with_cube_files_and_splits(rt: HostRuntime) {
+    for case in &DIVIDED_CASES {
+        for workers in WORKERS {
+            let asked = Asked {
+                format: case.format,
+                text: case.text,
+                cubes: Some(case.cubes),
+                workers,
+                split: case.split,
+            };
+            assert_report(&rt, rt.alloc(), asked, case.report, case.status);
+        }
     }
-    Ok(())
 }
 
 #[test]

@@ -2,8 +2,8 @@
 //! or that no rule names: the report is that of the oracle.
 
 use super::cases::COVER;
-use super::oracle::{Asked, expected_report};
-use super::{Ended, WORKERS, options, run_on};
+use super::oracle::expected_report;
+use super::{Asked, WORKERS, assert_report};
 use pb_solve::Format;
 use std::alloc::{AllocError, Global};
 use std::process::Abort;
@@ -26,53 +26,26 @@ fn assert_as_listed<R: Abort + Threads + Sync>(
 ) -> Result<(), Fail> {
     let (report, status) = expected_report(rt, alloc, asked)?;
     for workers in WORKERS {
-        let mut written = Vec::new(alloc);
-        let options = options(rt, asked.format, workers, asked.split);
-        let ended = run_on(rt, alloc, asked.text, asked.cubes, options, &mut written);
-        assert_eq!(rt;
-            ended,
-            Ended::reported(status),
-            "{asked:?}, {workers} workers"
-        );
-        assert_eq!(rt;
-            written.as_slice(),
-            report.as_bytes(),
-            "{asked:?}, {workers} workers"
-        );
+        let asked = Asked { workers, ..asked };
+        assert_report(rt, alloc, asked, report.as_bytes(), status);
     }
     Ok(())
 }
 
-/// The same for this text, without a cube file and with and without a split.
+/// The same for this text and cube file, with and without a split.
 fn assert_text<R: Abort + Threads + Sync>(
     rt: &R,
     alloc: Global,
     format: Format,
     text: &[u8],
+    cubes: Option<&[u8]>,
 ) -> Result<(), Fail> {
     for split in [0, 1] {
         let asked = Asked {
             format,
             text,
-            cubes: None,
-            split,
-        };
-        assert_as_listed(rt, alloc, asked)?;
-    }
-    Ok(())
-}
-
-/// The same for the cover with this cube file.
-fn assert_cube_file<R: Abort + Threads + Sync>(
-    rt: &R,
-    alloc: Global,
-    file: &[u8],
-) -> Result<(), Fail> {
-    for split in [0, 1] {
-        let asked = Asked {
-            format: COVER.format,
-            text: COVER.text,
-            cubes: Some(file),
+            cubes,
+            workers: 1,
             split,
         };
         assert_as_listed(rt, alloc, asked)?;
@@ -102,13 +75,13 @@ fn assert_spoiled_texts<R: Abort + Threads + Sync>(
     text: &[u8],
 ) -> Result<(), Fail> {
     for place in 0..text.len() {
-        assert_text(rt, alloc, format, &text[..place])?;
+        assert_text(rt, alloc, format, &text[..place], None)?;
         for replacement in REPLACEMENTS {
             let spoiled = spoiled(alloc, text, place, replacement)?;
-            assert_text(rt, alloc, format, &spoiled)?;
+            assert_text(rt, alloc, format, &spoiled, None)?;
         }
     }
-    assert_text(rt, alloc, format, text)
+    assert_text(rt, alloc, format, text, None)
 }
 
 #[test]
@@ -124,6 +97,15 @@ fn clauses(rt: HostRuntime) -> Result<(), Fail> {
 #[test]
 fn a_clause_and_cubes(rt: HostRuntime) -> Result<(), Fail> {
     assert_spoiled_texts(&rt, rt.alloc(), Format::Icnf, CLAUSE_AND_CUBES)
+}
+
+/// The same for the cover with this cube file.
+fn assert_cube_file<R: Abort + Threads + Sync>(
+    rt: &R,
+    alloc: Global,
+    file: &[u8],
+) -> Result<(), Fail> {
+    assert_text(rt, alloc, COVER.format, COVER.text, Some(file))
 }
 
 #[test]

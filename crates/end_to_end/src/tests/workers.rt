@@ -1,12 +1,10 @@
-//! Workers on one board: what they claim, that they run at the same time, and that their number and the cubes change no
-//! answer.
+//! Workers on one board: what they claim, and that they run at the same time.
 
-use super::WORKERS;
 use pb_board::Board;
-use pb_cubes::{Pieces, split};
-use pb_inst::{Assignment, Best, Cube, Instance, Lit, Number, Workers};
+use pb_cubes::Pieces;
+use pb_inst::{Assignment, Best, Cube, Lit, Number, Workers};
 use pb_normal::normalise;
-use pb_read::{read_cnf, read_icnf, read_opb};
+use pb_read::read_cnf;
 use pb_solve::{Gate, OpenGate, solve, work};
 use std::alloc::Global;
 use std::sync::atomic::{AtomicBool, AtomicU64, Ordering};
@@ -204,15 +202,17 @@ fn work_alone(rt: HostRuntime) -> Result<(), Fail> {
     Ok(())
 }
 
-/// The answer of two workers on the two clauses and the two cubes.
-fn meet<R: Threads + Sync>(
+/// The answer of two workers on the two clauses and these cubes.
+fn answer<R: Threads + Sync, G: Gate + Sync>(
     rt: &R,
     alloc: Global,
-    gate: &Meeting,
+    cubes: Vec<Cube>,
+    gate: &G,
 ) -> Result<Option<(Number, u64)>, Fail> {
+    let workers = Workers::new(2)?;
     let instance = read_cnf(alloc, TWO_CLAUSES)?;
-    let pieces = Pieces::new(instance.vars(), two_cubes(alloc)?)?;
-    let best = solve(rt, alloc, &instance, &pieces, Workers::new(2)?, gate)?;
+    let pieces = Pieces::new(instance.vars(), cubes)?;
+    let best = solve(rt, alloc, &instance, &pieces, workers, gate)?;
     Ok(held(&best))
 }
 
@@ -220,7 +220,7 @@ fn meet<R: Threads + Sync>(
 fn two_workers_meet(rt: HostRuntime) -> Result<(), Fail> {
     for first in [None, Some(0), Some(1)] {
         let gate = Meeting::new(first);
-        let answer = meet(&rt, rt.alloc(), &gate)?;
+        let answer = answer(&rt, rt.alloc(), two_cubes(rt.alloc())?, &gate)?;
         assert!(rt; !gate.passes.late.load(Ordering::SeqCst), "they met");
         assert!(rt; gate.passes.are_each_once(3), "each piece passed once");
         assert_eq!(rt; answer, Some((0, 2)));
@@ -231,13 +231,10 @@ fn two_workers_meet(rt: HostRuntime) -> Result<(), Fail> {
 // While one worker is held at its first piece the other one gets all others.
 #[test]
 fn pieces_are_claimed(rt: HostRuntime) -> Result<(), Fail> {
-    let alloc = rt.alloc();
-    let instance = read_cnf(alloc, TWO_CLAUSES)?;
-    let pieces = Pieces::new(instance.vars(), empty_cubes(alloc, 4)?)?;
     let gate = Crowd {
         passes: Passes::new(),
     };
-    let best = solve(&rt, alloc, &instance, &pieces, Workers::new(2)?, &gate)?;
+    let answer = answer(&rt, rt.alloc(), empty_cubes(rt.alloc(), 4)?, &gate)?;
     assert!(rt;
         !gate.passes.late.load(Ordering::SeqCst),
         "five passes began"
@@ -245,76 +242,6 @@ fn pieces_are_claimed(rt: HostRuntime) -> Result<(), Fail> {
     assert!(rt; gate.passes.are_each_once(5), "each piece passed once");
     let shares = (gate.passes.count_of(0), gate.passes.count_of(1));
     assert!(rt; shares == (1, 4) || shares == (4, 1), "{shares:?}");
-    assert_eq!(rt; held(&best), Some((0, 2)));
-    Ok(())
-}
-
-/// The answer of so many workers on the pieces of the cubes and of a split.
-fn answer<R: Threads + Sync>(
-    rt: &R,
-    alloc: Global,
-    instance: &Instance,
-    mut cubes: Vec<Cube>,
-    workers: u32,
-    k: u32,
-) -> Result<Option<(Number, u64)>, Fail> {
-    if k > 0 {
-        cubes.append(&mut split(alloc, instance, k)?)?;
-    }
-    let pieces = Pieces::new(instance.vars(), cubes)?;
-    let best = solve(
-        rt,
-        alloc,
-        instance,
-        &pieces,
-        Workers::new(workers)?,
-        &OpenGate,
-    )?;
-    Ok(held(&best))
-}
-
-/// The answers of so many workers on three instances, in each of which x2 alone is true in the end: a tie, a negative
-/// cost, and a clause with a cube of its own.
-fn answers<R: Threads + Sync>(
-    rt: &R,
-    alloc: Global,
-    workers: u32,
-    k: u32,
-) -> Result<[Option<(Number, u64)>; 3], Fail> {
-    let tie = read_opb(
-        alloc,
-        b"min: 2 x1 3 x2 1 x3 ;\n1 x1 1 x2 >= 1 ;\n1 x2 1 x3 >= 1 ;\n",
-    )?;
-    let negative = read_opb(alloc, b"min: -2 x1 -2 x2 ;\n1 x1 1 x2 <= 1 ;\n")?;
-    let (clause, cubes) = read_icnf(alloc, b"p inccnf\n1 2 0\na 1 0\n")?;
-    Ok([
-        answer(rt, alloc, &tie, Vec::new(alloc), workers, k)?,
-        answer(rt, alloc, &negative, Vec::new(alloc), workers, k)?,
-        answer(rt, alloc, &clause, cubes, workers, k)?,
-    ])
-}
-
-#[test]
-fn workers_and_splits_change_no_answer(rt: HostRuntime) -> Result<(), Fail> {
-    let wants = [Some((3, 2)), Some((-2, 2)), Some((0, 2))];
-    for round in 0..100u32 {
-        for workers in WORKERS {
-            for k in 0..2u32 {
-                let found = answers(&rt, rt.alloc(), workers, k)?;
-                assert_eq!(rt; found, wants, "round {round}, {workers} workers, split {k}");
-            }
-        }
-    }
-    Ok(())
-}
-
-// As many workers as there may be, with a piece for each.
-#[test]
-fn as_many_workers_as_there_may_be(rt: HostRuntime) -> Result<(), Fail> {
-    let alloc = rt.alloc();
-    let instance = read_cnf(alloc, TWO_CLAUSES)?;
-    let cubes = empty_cubes(alloc, 63)?;
-    let found = answer(&rt, alloc, &instance, cubes, 64, 0)?;
-    assert_eq!(rt; found, Some((0, 2)));
+    assert_eq!(rt; answer, Some((0, 2)));
     Ok(())
 }
