@@ -8,6 +8,7 @@ use std::alloc::Global;
 const ROW_TERMS: u32 = 5;
 
 /// An instance on the way, and the terms of its next statement.
+#[derive(Drop)]
 struct Draft {
     builder: InstanceBuilder,
     terms: Vec<Term>,
