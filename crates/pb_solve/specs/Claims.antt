@@ -1,5 +1,5 @@
 -- What workers claim of the pieces, and which of it their parts name.
-use Rattle.std.specs.Prelude.{◌≡◌, ℕ, ◌+◌, ◌<◌, ◌≤◌, ◌⊎◌, List, [], ◌∷◌, ◌++◌, length, filter, nat_lt, All, Any, Contains}
+use Rattle.std.specs.Prelude.{◌≡◌, ℕ, ◌+◌, ◌<◌, ◌≤◌, ◌⊎◌, List, [], ◌∷◌, ◌++◌, length, filter, nat_lt, All, Any, Contains, Option, IfNone}
 use Rattle.pb_inst.specs.Problem.{Problem}
 use Rattle.pb_cubes.specs.Pieces.{CubeList}
 use Rattle.pb_solve.specs.Parts.{PartView}
@@ -19,12 +19,19 @@ pub record EndsPast (count : ℕ) (claimed : List ℕ) : Type 0 where
   pub ends : claimed ≡ front ++ last ∷ []
   pub no_piece : count ≤ last
 
--- One worker's whole work: its part names those of its claims that are pieces, in order. It has at most one claim more
--- than there are pieces, and its last claim is no piece, or it has that many.
-pub record IsWholeWork (p : Problem) (pieces : CubeList) (part : PartView) (claimed : List ℕ) : Type 0 where
+-- the list is these two lists, dealt into one another, each of them in order
+abbrev pub AreDealt : List ℕ → List ℕ → List ℕ → Type 0
+AreDealt [] some others = (some ≡ []) × (others ≡ [])
+AreDealt (n ∷ all) some others =
+    ((rest : List ℕ) × (some ≡ n ∷ rest) × AreDealt all rest others) ⊎ ((rest : List ℕ) × (others ≡ n ∷ rest) × AreDealt all some rest)
+
+-- One worker's whole work: its part names those of its claims that are pieces, in order, some as done and, where there is a
+-- budget, others as cut. It has at most one claim more than there are pieces, and its last claim is no piece, or it has that many.
+pub record IsWholeWork (p : Problem) (pieces : CubeList) (nodes : Option ℕ) (part : PartView) (claimed : List ℕ) : Type 0 where
   pub of_instance : part.best.problem ≡ p
   pub of_pieces : part.pieces ≡ pieces
-  pub named : part.named ≡ pieces_among (piece_count pieces) claimed
+  pub named : AreDealt (pieces_among (piece_count pieces) claimed) part.named part.cut
+  pub uncut : IfNone nodes (part.cut ≡ [])
   pub most : length claimed ≤ piece_count pieces + 1
   pub ends : EndsPast (piece_count pieces) claimed ⊎ (length claimed ≡ piece_count pieces + 1)
 
@@ -32,9 +39,11 @@ pub record IsWholeWork (p : Problem) (pieces : CubeList) (part : PartView) (clai
 abbrev pub GoesPast : ℕ → List ℕ → Type 0
 GoesPast count claimed = Any (λ n. count ≤ n) claimed ⊎ (count < length claimed)
 
--- The work of several workers: each claim that is a piece is named by some part, and the claims go past the pieces.
-pub record AreWholeWork (p : Problem) (pieces : CubeList) (parts : List PartView) (claimed : List ℕ) : Type 0 where
+-- The work of several workers: each claim that is a piece is named by some part, as done or, where there is a budget, as cut,
+-- and the claims go past the pieces.
+pub record AreWholeWork (p : Problem) (pieces : CubeList) (nodes : Option ℕ) (parts : List PartView) (claimed : List ℕ) : Type 0 where
   pub of_instance : All (λ part. part.best.problem ≡ p) parts
   pub of_pieces : All (λ part. part.pieces ≡ pieces) parts
-  pub named : (i : ℕ) → i < piece_count pieces → Contains claimed i → Any (λ part. Contains part.named i) parts
+  pub named : (i : ℕ) → i < piece_count pieces → Contains claimed i → Any (λ part. Contains part.named i ⊎ Contains part.cut i) parts
+  pub uncut : IfNone nodes (All (λ part. part.cut ≡ []) parts)
   pub past : GoesPast (piece_count pieces) claimed

@@ -3,6 +3,7 @@ pub mod Reading
 pub mod Sending
 pub mod Texts
 pub mod Outcome
+pub mod Budgeted
 pub mod Division
 pub mod Report
 pub mod Solving

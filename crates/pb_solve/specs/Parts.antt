@@ -7,10 +7,11 @@ use Rattle.pb_inst.specs.Incumbent.{Incumbent, Solution, IsSolution}
 use Rattle.pb_cubes.specs.Pieces.{CubeList}
 use Rattle.pb_search.specs.Done.{Division, IsDone}
 
--- a list of pieces, the numbers of those that were searched, and what was found
+-- a list of pieces, the numbers of those that were searched whole and of those whose search was cut, and what was found
 pub record PartView : Type 0 where
   pub pieces : CubeList
   pub named : List ℕ
+  pub cut : List ℕ
   pub best : Incumbent
 
 -- the instance, and the cubes that divide it

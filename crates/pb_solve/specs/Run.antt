@@ -15,6 +15,7 @@ use Rattle.pb_solve.specs.declared.options.Refusal.TheVariants as refusal
 use Rattle.pb_read.specs.Format.{Spells, text_refusal}
 use Rattle.pb_solve.specs.Outcome as outcome
 use Rattle.pb_solve.specs.Outcome.{Outcome, IsOutcome, IsAnswer, IsDivisionRefused}
+use Rattle.pb_solve.specs.Budgeted.{Found, IsFoundIn, found_report, found_status}
 use Rattle.pb_solve.specs.Division.{IsDivided}
 use Rattle.pb_solve.specs.Report.{report, status_of}
 
@@ -53,6 +54,13 @@ pub record Reports (format : Format) (input : Option (List ℕ)) (cubes : Option
   pub ends : ended ≡ status_of outcome
   pub writes : Appends old new (report format outcome)
   pub right : WhereTold input cubes (λ text cube_text. IsOutcome format text cube_text split outcome)
+
+-- a run that was cut ended with this status, and all that it wrote is the report of what was found of what it was given
+pub record ReportsFound (format : Format) (input : Option (List ℕ)) (cubes : Option (Option (List ℕ))) (split : ℕ) (old new : Option (List ℕ)) (ended : Status) : Type 0 where
+  pub found : Found
+  pub ends : ended ≡ found_status found
+  pub writes : Appends old new (found_report format found)
+  pub right : WhereTold input cubes (λ text cube_text. IsFoundIn format text cube_text split found)
 
 -- a run ended with this status, and all that it wrote is the report of the answer on the instance
 pub record Answers (format : Format) (p : Problem) (old new : Option (List ℕ)) (ended : Status) : Type 0 where

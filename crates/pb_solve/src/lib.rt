@@ -11,12 +11,12 @@ mod workers;
 
 pub use device::Device;
 pub use laws::report_laws;
-pub use options::{Options, RunFault, Status};
+pub use options::{Options, Ran, RunFault, Status};
 pub use pb_read::Format;
 pub use report::report_memory;
 pub use running::run;
 pub use workers::gate::{Gate, OpenGate};
 pub use workers::gather::gather;
 pub use workers::part::Part;
-pub use workers::solve::{SolveFault, solve};
+pub use workers::solve::{Answer, SolveFault, solve};
 pub use workers::work::work;

@@ -4,7 +4,8 @@ use pb_inst::Workers;
 use pb_read::{Format, ReadFault};
 use thiserror::Error;
 
-/// How to read the input, and how to divide the work. Neither the workers nor an accepted split change the report.
+/// How to read the input, how to divide the work, and how much of it to do. Neither the workers nor an accepted split change
+/// the report of a run in which no piece was cut.
 #[derive(Clone, Copy, Debug)]
 pub struct Options {
     pub format: Format,
@@ -12,12 +13,24 @@ pub struct Options {
     pub workers: Workers,
     /// So many variables are split into cubes, at most 12; 0 makes none.
     pub split: u32,
+    /// So many decisions are made in each piece at most, of first and second values of variables alike; a piece that needs
+    /// more is cut. None sets no limit.
+    pub nodes: Option<u64>,
 }
 
-/// How a run that wrote its report ended.
+/// How a run that wrote its report ended, and whether it went through all of the work.
+#[derive(Clone, Copy, Debug, PartialEq, Eq)]
+pub struct Ran {
+    pub status: Status,
+    /// Whether the search of some piece was cut by its budget. Then the report does not tell the least assignment, but the
+    /// best that was found. Never without a budget, at a refusal, or for want of memory.
+    pub cut: bool,
+}
+
+/// What the report of a run says.
 #[derive(Clone, Copy, Debug, PartialEq, Eq)]
 pub enum Status {
-    /// No objective, and some assignment meets every constraint.
+    /// Some assignment meets every constraint. There is no objective, or a piece was cut, so that none is known to be least.
     Satisfiable,
     /// No assignment meets every constraint.
     Unsatisfiable,
@@ -25,7 +38,7 @@ pub enum Status {
     Optimum,
     /// The input, the cube file or the split was refused.
     Unsupported,
-    /// Memory ran out before the answer was known.
+    /// Memory ran out before the answer was known, or a piece was cut and no assignment was found.
     Unknown,
 }
 

@@ -26,6 +26,8 @@ use std::thread::Threads;
 ///
 /// The cube file is read after the input, and only where the input is not refused. Cubes, split and workers only divide
 /// the work: those that are accepted change no byte of the report.
+/// Where the options set a budget, each piece is searched with so many decisions at most. Where some piece was cut by it the
+/// report is of the best that was found, and the status is `Satisfiable`, or `Unknown` where nothing was found.
 /// A fault names the device that failed. After `ReadInput` and `ReadCubes` nothing was written;
 /// what was written before `Write` is not said.
 pub fn run<R: Threads + Sync, I: Read, C: Read, W: Write>(
@@ -35,16 +37,23 @@ pub fn run<R: Threads + Sync, I: Read, C: Read, W: Write>(
     cubes: Option<&mut Device<C>>,
     options: Options,
     out: &mut Device<W>,
-) -> Result<Status, RunFault>
+) -> Result<Ran, RunFault>
     requires input { input.old.failed ≡ false }
     requires cubes { IsUnfailed cubes }
     requires out { out.old.failed ≡ false }
 
-    ensures headline { IfOk result (λ status. status ≢ Status.Unknown
+    ensures headline { IfOk result (λ ran. ran.cut ≡ false → ran.status ≢ Status.Unknown
         → Reports options.format (I.remaining input.old.held) (text_left C.remaining cubes.entry) options.split
-        (W.contents out.old.held) (W.contents out.new.held) status) }
+        (W.contents out.old.held) (W.contents out.new.held) ran.status) }
 
-    ensures memory { result ≡ Ok Status.Unknown → Appends (W.contents out.old.held) (W.contents out.new.held) memory_report }
+    ensures budgeted { IfOk result (λ ran. ran.cut ≡ true
+        → ReportsFound options.format (I.remaining input.old.held) (text_left C.remaining cubes.entry) options.split
+        (W.contents out.old.held) (W.contents out.new.held) ran.status) }
+
+    ensures no_budget { IfNone options.nodes (IfOk result (λ ran. ran.cut ≡ false)) }
+
+    ensures memory { IfOk result (λ ran. ran.cut ≡ false → ran.status ≡ Status.Unknown
+        → Appends (W.contents out.old.held) (W.contents out.new.held) memory_report) }
 
     ensures read_input { IsTrue input.new.failed ↔ IsErrOf result RunFault.ReadInput }
     ensures read_cubes { IsTrue (failed_after cubes.exit) ↔ IsErrOf result RunFault.ReadCubes }

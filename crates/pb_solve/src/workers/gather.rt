@@ -10,12 +10,13 @@ use crate::workers::part::Part;
 use pb_inst::Best;
 
 /// Afterwards `into` holds the first, by cost and then by the variables, of what it held and what the parts found. Where
-/// the parts are of one list and name all its pieces that is the least assignment, or nothing where nothing is feasible.
-/// Asks that all are of one instance. Takes no memory.
-pub fn gather(into: &mut Best<'_>, parts: &[Part<'_>])
+/// the parts are of one list and name all its pieces as done that is the least assignment, or nothing where nothing is
+/// feasible. Answers whether some part names a piece that was cut. Asks that all are of one instance. Takes no memory.
+pub fn gather(into: &mut Best<'_>, parts: &[Part<'_>]) -> bool
     requires one_instance { All (λ part. part.best.problem ≡ into.old.problem) parts.now }
     ensures same_instance { into.new.problem ≡ into.old.problem }
     ensures first { IsFirst (into.old.held ∷ map (λ part. part.best.held) parts.now) into.new.held }
+    ensures cut { IsTrue result ↔ Any (λ part. part.cut ≢ []) parts.now }
     ensures least { (list : CubeList) → AreWhole list parts.now → HoldsLeast into.old.problem into.new.held }
 {
     // A call tells that what is held is a solution.

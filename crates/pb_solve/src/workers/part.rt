@@ -6,12 +6,14 @@ use pb_cubes::Pieces;
 use pb_inst::Best;
 use std::marker::Model;
 
-/// The numbers of the pieces of a list that a worker searched, and the best assignment that it found. No feasible
-/// assignment of a piece that is named is before it. It is none only where no piece that is named has a feasible one.
+/// The numbers of the pieces of a list that a worker got, and the best assignment that it found. A piece is named as done
+/// or as cut. No feasible assignment of a piece that is done is before the best one, which is none only where no piece that
+/// is done has a feasible one; nothing is said of a piece that was cut.
 #[derive(Drop)]
 pub struct Part<'i> {
     list: &'i Pieces,
     named: Vec<u32>,
+    cut: Vec<u32>,
     best: Best<'i>,
 }
 
@@ -20,18 +22,28 @@ impl<'i> Model for Part<'i> {
 
     ghost Value = { PartView };
 
-    ghost view = { λ p. record { pieces = p.list.now; named = p.named.items; best = p.best } };
+    ghost view = { λ p. record { pieces = p.list.now; named = p.named.items; cut = p.cut.items; best = p.best } };
 
-    ghost invariant = { λ p. AreDone (record { pieces = p.list.now; named = p.named.items; best = p.best }) };
+    ghost invariant = { λ p. AreDone (record { pieces = p.list.now; named = p.named.items; cut = p.cut.items; best = p.best }) };
 }
 
 impl<'i> Part<'i> {
-    /// The part that names these pieces of the list, each of which is done.
-    pub(crate) fn new(list: &'i Pieces, named: Vec<u32>, best: Best<'i>) -> Part<'i>
-        requires { AreDone (record { pieces = list.now; named = named.items; best = best }) }
-        ensures { result ≡ record { pieces = list.now; named = named.items; best = best.entry } }
+    /// The part that names these pieces of the list: those that are done, and those that were cut.
+    pub(crate) fn new(
+        list: &'i Pieces,
+        named: Vec<u32>,
+        cut: Vec<u32>,
+        best: Best<'i>,
+    ) -> Part<'i>
+        requires { AreDone (record { pieces = list.now; named = named.items; cut = cut.items; best = best }) }
+        ensures { result ≡ record { pieces = list.now; named = named.items; cut = cut.items; best = best.entry } }
     {
-        Part { list, named, best }
+        Part {
+            list,
+            named,
+            cut,
+            best,
+        }
     }
 
     /// The numbers of the pieces that are done.
@@ -40,6 +52,13 @@ impl<'i> Part<'i> {
         ensures done { AreDone self.now }
     {
         &self.named
+    }
+
+    /// The numbers of the pieces whose search was cut by its budget: none without one.
+    pub fn cut(&self) -> &[u32]
+        ensures { result.now ≡ self.now.cut }
+    {
+        &self.cut
     }
 
     /// The best assignment that was found.

@@ -30,7 +30,17 @@ impl From<Memory> for SolveFault {
     }
 }
 
-/// The least assignment, or none where nothing is feasible. The workers, numbered from 0, run on threads of their own
+/// What the workers found. Where no piece was cut, that is the least assignment, or none where nothing is feasible.
+#[derive(Drop)]
+pub struct Answer<'i> {
+    /// The best assignment that was found, which is feasible.
+    pub best: Best<'i>,
+    /// Whether the search of some piece was cut by its budget; then there may be a better assignment.
+    pub cut: bool,
+}
+
+/// The least assignment, or none where nothing is feasible. Each piece is searched with at most `nodes` decisions, where a
+/// budget is given: a piece that would need more is cut, and then the answer is the best that was found. The workers, numbered from 0, run on threads of their own
 /// where the system gives them; else some of them run one after the other, with the same answer. A worker beyond the number
 /// of pieces is not started: it would get none, and yet take memory for a search of its own, the want of which would end
 /// the run. Asks for pieces over the instance's variables.
@@ -41,22 +51,24 @@ pub fn solve<'i, R: Threads + Sync, G: Gate + Sync>(
     pieces: &'i Pieces,
     workers: Workers,
     gate: &G,
-) -> Result<Best<'i>, SolveFault>
+    nodes: Option<u64>,
+) -> Result<Answer<'i>, SolveFault>
     requires { pieces.now.vars ≡ inst.now.vars }
-    ensures same_instance { IfOk result (λ best. best.problem ≡ inst.now) }
-    ensures least { IfOk result (λ best. HoldsLeast inst.now best.held) }
+    ensures same_instance { IfOk result (λ answer. answer.best.problem ≡ inst.now) }
+    ensures least { IfOk result (λ answer. answer.cut ≡ false → HoldsLeast inst.now answer.best.held) }
+    ensures no_budget { IfNone nodes (IfOk result (λ answer. answer.cut ≡ false)) }
 {
     let mut best = Best::none(alloc, inst)?;
     let normal = normalise(alloc, inst)?;
     let tables = SearchTables::new(alloc, inst, &normal, pieces)?;
     let workers = workers_with_a_piece(workers, pieces.len());
     let (board, seat) = Board::new(alloc, workers, inst.vars())?;
-    let crew = SearchCrew::new(inst, pieces, &tables, &board, gate);
+    let crew = SearchCrew::new(inst, pieces, &tables, &board, gate, nodes);
     let (parts, seat) = fork(rt, alloc, &crew, seat, 0)?;
-    gather(&mut best, &parts);
+    let cut = gather(&mut best, &parts);
     drop(parts);
     board.close(seat);
-    Ok(best)
+    Ok(Answer { best, cut })
 }
 
 /// As many workers as are asked for, and no more than there are pieces.

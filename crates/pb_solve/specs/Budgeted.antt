@@ -1,0 +1,39 @@
+-- What a run has to report that was cut by its budget. It tells what was found, and never that this is all there is.
+use Rattle.std.specs.Prelude.{◌≡◌, ℕ, ℤ, List, ◌++◌, length, codes, Option, None, Some, IsSome}
+use Rattle.pb_inst.specs.Literal.{Literal}
+use Rattle.pb_inst.specs.Problem.{Problem}
+use Rattle.pb_inst.specs.Meaning.{IsFeasible, cost}
+use Rattle.pb_read.specs.declared.format.Format.{Format}
+use Rattle.pb_read.specs.Format.{Spells}
+use Rattle.pb_solve.specs.declared.options.Status.{Status}
+use Rattle.pb_solve.specs.declared.options.Status.TheVariants.{Satisfiable, Unknown}
+use Rattle.pb_solve.specs.Outcome.{IsDivisionAccepted}
+use Rattle.pb_solve.specs.Report.{line, cost_line, value_line}
+
+-- no assignment was found, or this one, with its cost where there is an objective
+pub data Found : Type 0 where
+  Nothing : Found
+  Feasible : List Bool → Found
+  Costing : ℤ → List Bool → Found
+
+-- what was found meets every constraint of the instance, and the cost is its own
+abbrev pub IsFound : Problem → Found → Type 0
+IsFound p Nothing = ⊤
+IsFound p (Feasible a) = (p.objective ≡ None) × (length a ≡ p.vars) × IsFeasible p a
+IsFound p (Costing z a) = IsSome p.objective × (length a ≡ p.vars) × IsFeasible p a × (z ≡ cost p a)
+
+-- The input spells an instance, nothing of the cubes and the split is refused, and this was found of the instance.
+abbrev pub IsFoundIn : Format → List ℕ → Option (List ℕ) → ℕ → Found → Type 0
+IsFoundIn format text cube_text split found =
+    (p : Problem) × (input_cubes : List (List Literal)) × Spells format text p input_cubes × IsDivisionAccepted p input_cubes cube_text split × IsFound p found
+
+-- the bytes that report what was found
+abbrev pub found_report : Format → Found → List ℕ
+found_report format Nothing = line (codes "s UNKNOWN")
+found_report format (Feasible values) = line (codes "s SATISFIABLE") ++ value_line format values
+found_report format (Costing cost values) = (cost_line cost ++ line (codes "s SATISFIABLE")) ++ value_line format values
+
+abbrev pub found_status : Found → Status
+found_status Nothing = Unknown
+found_status (Feasible values) = Satisfiable
+found_status (Costing cost values) = Satisfiable
