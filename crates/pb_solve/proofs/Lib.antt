@@ -1,6 +1,7 @@
 mod DividingLaws
 mod DivisionLaws
 pub mod ClaimLaws
+pub mod CutLaws
 pub mod FirstLaws
 pub mod LeastLaws
 mod OutcomeLaws

@@ -1,6 +1,7 @@
 -- How the pieces that a worker claims are done one by one.
-use Rattle.std.proofs.Common.{◌≡◌, ℕ, ◌+◌, ◌<◌, ◌≤◌, List, [], ◌∷◌, ◌++◌, ◌⊎◌, true, cond, length, Option, None, Some, refl, sym, ◌∙◌, ap, subst, rules, tests}
-use Rattle.std.specs.Prelude.{All, nat_lt}
+use Rattle.std.proofs.Common.{◌≡◌, ℕ, ◌+◌, ◌<◌, ◌≤◌, List, [], ◌∷◌, ◌++◌, ◌⊎◌, inl, inr, true, cond, length, Option, None, Some, refl, sym, ◌∙◌, ap, subst, rules, tests}
+use Rattle.std.specs.Prelude.{All, nat_lt, IfNone}
+use Rattle.std.specs.Option.{IfSome}
 use Rattle.std.proofs.lemmas.List.Elements.{All-push, All-weaker, filter-append}
 use Rattle.pb_inst.specs.Problem.{Problem}
 use Rattle.pb_inst.specs.Incumbent.{Incumbent, Solution, IsSolution}
@@ -9,17 +10,15 @@ use Rattle.pb_search.specs.Done.{Division, IsDone}
 use Rattle.pb_search.specs.Held.{IsNotAfter}
 use Rattle.pb_search.proofs.HeldLemmas.{improvement_on_earlier}
 use Rattle.pb_solve.specs.Parts.{PartView, AreDone}
-use Rattle.pb_solve.specs.Claims.{piece_count, pieces_among, EndsPast, IsWholeWork}
+use Rattle.pb_search.specs.declared.outcome.Outcome.{Outcome}
+use Rattle.pb_search.specs.declared.outcome.Outcome.TheVariants.{Whole, Cut}
+use Rattle.pb_solve.specs.Claims.{piece_count, pieces_among, AreDealt, EndsPast, IsWholeWork, NamesOneMore}
 use Rattle.pb_share.specs.Sharing.{BoardShareView, KeepsClaims, SameSeat}
 
 -- what is held is a solution, where anything is
 abbrev IsFound : Division → Option Solution → Type 0
 IsFound d None = Unit {0}
 IsFound d (Some s) = IsSolution d.problem s
-
-found_where_done : (d : Division) (i : ℕ) (held : Option Solution) → IsDone d i held → IsFound d held
-found_where_done d i None done = tt
-found_where_done d i (Some s) done = done.0
 
 -- a piece that is done stays done where what is held moves on
 stays_done : (d : Division) (i : ℕ) (old new : Option Solution) → IsNotAfter d.problem old new → IsFound d new → IsDone d i old → IsDone d i new
@@ -28,19 +27,63 @@ stays_done d i None (Some s) later found done = (found, λ a candidate before. d
 stays_done d i (Some o) None later found done = absurd later
 stays_done d i (Some o) (Some s) later found done = (found, λ a candidate before. done.1 a candidate (improvement_on_earlier d.problem a (Some o) (Some s) later before))
 
--- one more piece is done
-pub done_more : (d : Division) (named more : List ℕ) (i : ℕ) (old new : Option Solution) → more ≡ named ++ i ∷ [] → IsNotAfter d.problem old new → IsDone d i new → All (λ n. IsDone d n old) named → All (λ n. IsDone d n new) more
-done_more d named more i old new is later done all =
-    subst (λ (ns : List ℕ). All (λ n. IsDone d n new) ns) (sym is)
-    (All-push (λ n. IsDone d n new) named i
-    (All-weaker (λ n. IsDone d n old) (λ n. IsDone d n new) (λ n. stays_done d n old new later (found_where_done d i new done)) named all)
-    done)
+-- what is held is a solution, where anything is: by what an incumbent tells
+found_where_sound : (d : Division) (best : Incumbent) → best.problem ≡ d.problem → IfSome best.held (IsSolution best.problem) → IsFound d best.held
+found_where_sound d best same sound = of best.held (subst (λ (p : Problem). IfSome best.held (IsSolution p)) same sound)
+  where
+    of : (held : Option Solution) → IfSome held (IsSolution d.problem) → IsFound d held
+    of None is = tt
+    of (Some s) is = is
 
--- one more claim is a piece
-pub named_more : (count : ℕ) (named more claimed after : List ℕ) (i : ℕ) → named ≡ pieces_among count claimed → more ≡ named ++ i ∷ [] → after ≡ claimed ++ i ∷ [] → nat_lt i count ≡ true → more ≡ pieces_among count after
-named_more count named more claimed after i is pushed claim piece =
-    pushed ∙ ap (λ l. l ++ i ∷ []) is
-    ∙ sym (ap (pieces_among count) claim ∙ filter-append (λ n. nat_lt n count) claimed (i ∷ []) ∙ ap (λ b. pieces_among count claimed ++ cond b (i ∷ []) []) piece)
+-- the pieces that were done are done
+stay_done : (d : Division) (done : List ℕ) (old : Option Solution) (best : Incumbent) → IsNotAfter d.problem old best.held → best.problem ≡ d.problem → IfSome best.held (IsSolution best.problem) → All (λ n. IsDone d n old) done → All (λ n. IsDone d n best.held) done
+stay_done d done old best later same sound all =
+    All-weaker (λ n. IsDone d n old) (λ n. IsDone d n best.held) (λ n. stays_done d n old best.held later (found_where_sound d best same sound)) done all
+
+-- the pieces that are done, where one more is named by how its search ended
+pub done_more : (d : Division) (outcome : Outcome) (done cut done' cut' : List ℕ) (i : ℕ) (old : Option Solution) (best : Incumbent) → NamesOneMore outcome i done cut done' cut' → IsNotAfter d.problem old best.held → best.problem ≡ d.problem → IfSome best.held (IsSolution best.problem)
+    → (outcome ≡ Whole → IsDone d i best.held) → All (λ n. IsDone d n old) done → All (λ n. IsDone d n best.held) done'
+done_more d Whole done cut done' cut' i old best names later same sound whole all =
+    subst (λ (ns : List ℕ). All (λ n. IsDone d n best.held) ns) (sym names.0)
+    (All-push (λ n. IsDone d n best.held) done i (stay_done d done old best later same sound all) (whole refl))
+done_more d Cut done cut done' cut' i old best names later same sound whole all =
+    subst (λ (ns : List ℕ). All (λ n. IsDone d n best.held) ns) (sym names.0) (stay_done d done old best later same sound all)
+
+-- a list with one number more behind it, dealt into two lists of which the first or the second has it
+dealt_to_some : (all some others : List ℕ) (n : ℕ) → AreDealt all some others → AreDealt (all ++ n ∷ []) (some ++ n ∷ []) others
+dealt_to_some [] some others n dealt = inl ([], ap (λ (l : List ℕ). l ++ n ∷ []) dealt.0, (refl, dealt.1))
+dealt_to_some (m ∷ all) some others n (inl h) = inl (h.0 ++ n ∷ [], ap (λ (l : List ℕ). l ++ n ∷ []) h.1, dealt_to_some all h.0 others n h.2)
+dealt_to_some (m ∷ all) some others n (inr h) = inr (h.0, h.1, dealt_to_some all some h.0 n h.2)
+
+dealt_to_others : (all some others : List ℕ) (n : ℕ) → AreDealt all some others → AreDealt (all ++ n ∷ []) some (others ++ n ∷ [])
+dealt_to_others [] some others n dealt = inr ([], ap (λ (l : List ℕ). l ++ n ∷ []) dealt.1, (dealt.0, refl))
+dealt_to_others (m ∷ all) some others n (inl h) = inl (h.0, h.1, dealt_to_others all h.0 others n h.2)
+dealt_to_others (m ∷ all) some others n (inr h) = inr (h.0 ++ n ∷ [], ap (λ (l : List ℕ). l ++ n ∷ []) h.1, dealt_to_others all some h.0 n h.2)
+
+-- one more is named by how its search ended
+dealt_by_outcome : (outcome : Outcome) (all done cut done' cut' : List ℕ) (i : ℕ) → AreDealt all done cut → NamesOneMore outcome i done cut done' cut' → AreDealt (all ++ i ∷ []) done' cut'
+dealt_by_outcome Whole all done cut done' cut' i dealt names =
+    subst (λ (l : List ℕ). AreDealt (all ++ i ∷ []) done' l) (sym names.1) (subst (λ (l : List ℕ). AreDealt (all ++ i ∷ []) l cut) (sym names.0) (dealt_to_some all done cut i dealt))
+dealt_by_outcome Cut all done cut done' cut' i dealt names =
+    subst (λ (l : List ℕ). AreDealt (all ++ i ∷ []) done' l) (sym names.1) (subst (λ (l : List ℕ). AreDealt (all ++ i ∷ []) l (cut ++ i ∷ [])) (sym names.0) (dealt_to_others all done cut i dealt))
+
+-- one more claim is a piece, and is named
+pub dealt_more : (count : ℕ) (outcome : Outcome) (done cut done' cut' claimed after : List ℕ) (i : ℕ) → AreDealt (pieces_among count claimed) done cut → NamesOneMore outcome i done cut done' cut' → after ≡ claimed ++ i ∷ [] → nat_lt i count ≡ true → AreDealt (pieces_among count after) done' cut'
+dealt_more count outcome done cut done' cut' claimed after i dealt names claim piece =
+    let one_more : pieces_among count after ≡ pieces_among count claimed ++ i ∷ [] =
+    ap (pieces_among count) claim ∙ filter-append (λ n. nat_lt n count) claimed (i ∷ []) ∙ ap (λ b. pieces_among count claimed ++ cond b (i ∷ []) []) piece in
+    subst (λ (l : List ℕ). AreDealt l done' cut') (sym one_more) (dealt_by_outcome outcome (pieces_among count claimed) done cut done' cut' i dealt names)
+
+-- without a budget each search is whole, by what it tells
+pub whole_by : (X : Type 0) (nodes : Option ℕ) (outcome : Outcome) → IfNone nodes ((outcome ≡ Whole) × X) → nodes ≡ None → outcome ≡ Whole
+whole_by X None outcome told none = told.0
+whole_by X (Some budget) outcome told none = cc
+
+-- without a budget nothing is cut, also where one more is named
+pub uncut_more : (nodes : Option ℕ) (outcome : Outcome) (i : ℕ) (done cut done' cut' : List ℕ) → NamesOneMore outcome i done cut done' cut' → (nodes ≡ None → outcome ≡ Whole) → IfNone nodes (cut ≡ []) → IfNone nodes (cut' ≡ [])
+uncut_more None Whole i done cut done' cut' names whole none = names.1 ∙ none
+uncut_more None Cut i done cut done' cut' names whole none = let other : Cut ≡ Whole = whole refl in cc
+uncut_more (Some budget) outcome i done cut done' cut' names whole none = tt
 
 -- the seat is as before in its board and parts, from step to step
 pub same_seat_itself : (s : BoardShareView) → SameSeat s s
@@ -53,26 +96,31 @@ pub same_seat_kept : (s t : BoardShareView) → KeepsClaims s t → SameSeat s t
 same_seat_kept s t h = record { board = h.board; worker = h.worker; seat_of = h.seat_of; parts = h.parts }
 
 -- no claim is named yet
-pub none_named : (count : ℕ) (named claimed : List ℕ) → named ≡ [] → claimed ≡ [] → named ≡ pieces_among count claimed
-none_named count named claimed is unclaimed = is ∙ sym (ap (pieces_among count) unclaimed)
+pub none_named : (count : ℕ) (done cut claimed : List ℕ) → done ≡ [] → cut ≡ [] → claimed ≡ [] → AreDealt (pieces_among count claimed) done cut
+none_named count done cut claimed none_done none_cut unclaimed = subst (λ (l : List ℕ). AreDealt (pieces_among count l) done cut) (sym unclaimed) (none_done, none_cut)
+
+pub none_cut : (nodes : Option ℕ) (cut : List ℕ) → cut ≡ [] → IfNone nodes (cut ≡ [])
+none_cut None cut is = is
+none_cut (Some budget) cut is = tt
 
 pub is_piece : (n count : ℕ) → n < count → nat_lt n count ≡ true
 is_piece n count h = search (rules, tests)
 
 -- what a worker did, from what it claimed and named
-pub whole_work : (p : Problem) (pieces : CubeList) (part : PartView) (claimed after named : List ℕ) (count : ℕ) (best : Incumbent)
-    → part ≡ record { pieces = pieces; named = named; best = best } → claimed ≡ after → count ≡ piece_count pieces → best.problem ≡ p
-    → named ≡ pieces_among count after → length after ≤ count + 1 → EndsPast count after ⊎ (length after ≡ count + 1) → IsWholeWork p pieces part claimed
-whole_work p pieces part claimed after named count best is same number of_instance names most ends =
-    subst (λ (x : PartView). IsWholeWork p pieces x claimed) (sym is)
-    (subst (λ (l : List ℕ). IsWholeWork p pieces (record { pieces = pieces; named = named; best = best }) l) (sym same) (record {
+pub whole_work : (p : Problem) (pieces : CubeList) (nodes : Option ℕ) (part : PartView) (claimed after named cut : List ℕ) (count : ℕ) (best : Incumbent)
+    → part ≡ record { pieces = pieces; named = named; cut = cut; best = best } → claimed ≡ after → count ≡ piece_count pieces → best.problem ≡ p
+    → AreDealt (pieces_among count after) named cut → IfNone nodes (cut ≡ []) → length after ≤ count + 1 → EndsPast count after ⊎ (length after ≡ count + 1) → IsWholeWork p pieces nodes part claimed
+whole_work p pieces nodes part claimed after named cut count best is same number of_instance names uncut most ends =
+    subst (λ (x : PartView). IsWholeWork p pieces nodes x claimed) (sym is)
+    (subst (λ (l : List ℕ). IsWholeWork p pieces nodes (record { pieces = pieces; named = named; cut = cut; best = best }) l) (sym same) (record {
       of_instance = of_instance;
       of_pieces = refl;
-      named = subst (λ (n : ℕ). named ≡ pieces_among n after) number names;
+      named = subst (λ (n : ℕ). AreDealt (pieces_among n after) named cut) number names;
+      uncut = uncut;
       most = subst (λ (n : ℕ). length after ≤ n + 1) number most;
       ends = subst (λ (n : ℕ). EndsPast n after ⊎ (length after ≡ n + 1)) number ends;
     }))
 
 -- the named pieces are done in the part's own words
-pub part_done : (d : Division) (pieces : CubeList) (named : List ℕ) (best : Incumbent) → d ≡ record { problem = best.problem; cubes = pieces.cubes } → All (λ i. IsDone d i best.held) named → AreDone (record { pieces = pieces; named = named; best = best })
-part_done d pieces named best is done = subst (λ (x : Division). All (λ i. IsDone x i best.held) named) is done
+pub part_done : (d : Division) (pieces : CubeList) (named cut : List ℕ) (best : Incumbent) → d ≡ record { problem = best.problem; cubes = pieces.cubes } → All (λ i. IsDone d i best.held) named → AreDone (record { pieces = pieces; named = named; cut = cut; best = best })
+part_done d pieces named cut best is done = subst (λ (x : Division). All (λ i. IsDone x i best.held) named) is done

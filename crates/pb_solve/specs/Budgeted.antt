@@ -1,5 +1,5 @@
 -- What a run has to report that was cut by its budget. It tells what was found, and never that this is all there is.
-use Rattle.std.specs.Prelude.{◌≡◌, ℕ, ℤ, List, ◌++◌, length, codes, Option, None, Some, IsSome}
+use Rattle.std.specs.Prelude.{◌≡◌, ℕ, ℤ, Bool, List, length, Option, None, IsSome, ⊤}
 use Rattle.pb_inst.specs.Literal.{Literal}
 use Rattle.pb_inst.specs.Problem.{Problem}
 use Rattle.pb_inst.specs.Meaning.{IsFeasible, cost}
@@ -8,7 +8,7 @@ use Rattle.pb_read.specs.Format.{Spells}
 use Rattle.pb_solve.specs.declared.options.Status.{Status}
 use Rattle.pb_solve.specs.declared.options.Status.TheVariants.{Satisfiable, Unknown}
 use Rattle.pb_solve.specs.Outcome.{IsDivisionAccepted}
-use Rattle.pb_solve.specs.Report.{line, cost_line, value_line}
+use Rattle.pb_solve.specs.Report.{unknown_report, satisfiable_report, attained_report}
 
 -- no assignment was found, or this one, with its cost where there is an objective
 pub data Found : Type 0 where
@@ -29,9 +29,9 @@ IsFoundIn format text cube_text split found =
 
 -- the bytes that report what was found
 abbrev pub found_report : Format → Found → List ℕ
-found_report format Nothing = line (codes "s UNKNOWN")
-found_report format (Feasible values) = line (codes "s SATISFIABLE") ++ value_line format values
-found_report format (Costing cost values) = (cost_line cost ++ line (codes "s SATISFIABLE")) ++ value_line format values
+found_report format Nothing = unknown_report
+found_report format (Feasible values) = satisfiable_report format values
+found_report format (Costing cost values) = attained_report format cost values
 
 abbrev pub found_status : Found → Status
 found_status Nothing = Unknown

@@ -2,6 +2,8 @@
 use Rattle.std.specs.Prelude.{◌≡◌, ℕ, ◌+◌, ◌<◌, ◌≤◌, ◌⊎◌, List, [], ◌∷◌, ◌++◌, length, filter, nat_lt, All, Any, Contains, Option, IfNone}
 use Rattle.pb_inst.specs.Problem.{Problem}
 use Rattle.pb_cubes.specs.Pieces.{CubeList}
+use Rattle.pb_search.specs.declared.outcome.Outcome.{Outcome}
+use Rattle.pb_search.specs.declared.outcome.Outcome.TheVariants.{Whole, Cut}
 use Rattle.pb_solve.specs.Parts.{PartView}
 
 -- how many pieces the cubes make
@@ -24,6 +26,11 @@ abbrev pub AreDealt : List ℕ → List ℕ → List ℕ → Type 0
 AreDealt [] some others = (some ≡ []) × (others ≡ [])
 AreDealt (n ∷ all) some others =
     ((rest : List ℕ) × (some ≡ n ∷ rest) × AreDealt all rest others) ⊎ ((rest : List ℕ) × (others ≡ n ∷ rest) × AreDealt all some rest)
+
+-- one more piece is named by how its search ended: as done or as cut
+abbrev pub NamesOneMore : Outcome → ℕ → (done cut done' cut' : List ℕ) → Type 0
+NamesOneMore Whole piece done cut done' cut' = (done' ≡ done ++ piece ∷ []) × (cut' ≡ cut)
+NamesOneMore Cut piece done cut done' cut' = (done' ≡ done) × (cut' ≡ cut ++ piece ∷ [])
 
 -- One worker's whole work: its part names those of its claims that are pieces, in order, some as done and, where there is a
 -- budget, others as cut. It has at most one claim more than there are pieces, and its last claim is no piece, or it has that many.

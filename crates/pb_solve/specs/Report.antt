@@ -81,9 +81,17 @@ cost_line cost = line (codes "o " ++ signed_decimal cost)
 abbrev pub infeasible_report : List ℕ
 infeasible_report = line (codes "s UNSATISFIABLE")
 
--- the report of the least assignment of an instance without an objective
+-- the report of an assignment of an instance without an objective
 abbrev pub satisfiable_report : Format → List Bool → List ℕ
 satisfiable_report format values = line (codes "s SATISFIABLE") ++ value_line format values
+
+-- the report of an assignment that was found, and its cost
+abbrev pub attained_report : Format → ℤ → List Bool → List ℕ
+attained_report format cost values = (cost_line cost ++ line (codes "s SATISFIABLE")) ++ value_line format values
+
+-- the report where nothing was found before a piece was cut
+abbrev pub unknown_report : List ℕ
+unknown_report = line (codes "s UNKNOWN")
 
 -- the report of the least assignment and its cost
 abbrev pub optimum_report : Format → ℤ → List Bool → List ℕ

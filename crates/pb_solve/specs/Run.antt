@@ -15,7 +15,7 @@ use Rattle.pb_solve.specs.declared.options.Refusal.TheVariants as refusal
 use Rattle.pb_read.specs.Format.{Spells, text_refusal}
 use Rattle.pb_solve.specs.Outcome as outcome
 use Rattle.pb_solve.specs.Outcome.{Outcome, IsOutcome, IsAnswer, IsDivisionRefused}
-use Rattle.pb_solve.specs.Budgeted.{Found, IsFoundIn, found_report, found_status}
+use Rattle.pb_solve.specs.Budgeted.{Found, IsFound, IsFoundIn, found_report, found_status}
 use Rattle.pb_solve.specs.Division.{IsDivided}
 use Rattle.pb_solve.specs.Report.{report, status_of}
 
@@ -68,6 +68,13 @@ pub record Answers (format : Format) (p : Problem) (old new : Option (List ℕ))
   pub ends : ended ≡ status_of outcome
   pub writes : Appends old new (report format outcome)
   pub right : IsAnswer p outcome
+
+-- a run that was cut ended with this status, and all that it wrote is the report of what was found of the instance
+pub record AnswersFound (format : Format) (p : Problem) (old new : Option (List ℕ)) (ended : Status) : Type 0 where
+  pub found : Found
+  pub ends : ended ≡ found_status found
+  pub writes : Appends old new (found_report format found)
+  pub right : IsFound p found
 
 -- the input spells the instance, with cubes of its own, and the cubes and the split are accepted and make the pieces
 abbrev pub IsAccepted : Format → List ℕ → Option (List ℕ) → ℕ → Prepared → Type 0

@@ -1,4 +1,5 @@
 //! What a run is asked for, and how it ends.
+ghost use Rattle.std.specs.Prelude.{◌≡◌, false};
 
 use pb_inst::Workers;
 use pb_read::{Format, ReadFault};
@@ -25,6 +26,15 @@ pub struct Ran {
     /// Whether the search of some piece was cut by its budget. Then the report does not tell the least assignment, but the
     /// best that was found. Never without a budget, at a refusal, or for want of memory.
     pub cut: bool,
+}
+
+impl Ran {
+    /// The end of a run in which no piece was cut.
+    pub(crate) fn uncut(status: Status) -> Ran
+        ensures { result ≡ record { status = status; cut = false } }
+    {
+        Ran { status, cut: false }
+    }
 }
 
 /// What the report of a run says.

@@ -1,7 +1,7 @@
 //! The reports of a run. Writing one takes no memory.
-ghost use Rattle.std.specs.Prelude.{◌≡◌, false, is_err, IfOk, IfErr, OnOk};
+ghost use Rattle.std.specs.Prelude.{◌≡◌, ◌++◌, false, is_err, IfOk, IfErr, OnOk};
 ghost use Rattle.std.specs.Io.KnownBytes.{Appends};
-ghost use Rattle.pb_solve.specs.Report.{refusal_report, memory_report, infeasible_report, satisfiable_report, optimum_report};
+ghost use Rattle.pb_solve.specs.Report.{line, cost_line, value_line, refusal_report, memory_report, infeasible_report, unknown_report, satisfiable_report, attained_report, optimum_report};
 
 mod chunk;
 mod lines;
@@ -58,7 +58,7 @@ pub(crate) fn report_infeasible<W: Write>(out: &mut Device<W>) -> Result<Status,
     report.finish(Status::Unsatisfiable)
 }
 
-/// Reports the least assignment of an instance without an objective.
+/// Reports an assignment of an instance without an objective: the least one, or the best that was found.
 pub(crate) fn report_satisfiable<W: Write>(
     out: &mut Device<W>,
     format: Format,
@@ -87,9 +87,53 @@ pub(crate) fn report_optimum<W: Write>(
     ensures fault { IfErr result (λ fault. fault ≡ RunFault.Write) }
     ensures failed { out.new.failed ≡ is_err result }
 {
+    report_with_cost(out, format, cost, b"s OPTIMUM FOUND", values, Status::Optimum)
+}
+
+/// Reports an assignment that was found, and its cost. That it is least is not said.
+pub(crate) fn report_attained<W: Write>(
+    out: &mut Device<W>,
+    format: Format,
+    cost: Number,
+    values: &Assignment,
+) -> Result<Status, RunFault>
+    ensures status { IfOk result (λ status. status ≡ Status.Satisfiable) }
+    ensures written { OnOk result (Appends (W.contents out.old.held) (W.contents out.new.held) (attained_report format cost values.now)) }
+    ensures fault { IfErr result (λ fault. fault ≡ RunFault.Write) }
+    ensures failed { out.new.failed ≡ is_err result }
+{
+    report_with_cost(out, format, cost, b"s SATISFIABLE", values, Status::Satisfiable)
+}
+
+/// Reports an assignment and its cost, and between the two a line that says what they are.
+fn report_with_cost<W: Write>(
+    out: &mut Device<W>,
+    format: Format,
+    cost: Number,
+    said: &[u8],
+    values: &Assignment,
+    status: Status,
+) -> Result<Status, RunFault>
+    ensures status { IfOk result (λ ended. ended ≡ status) }
+    ensures written { OnOk result (Appends (W.contents out.old.held) (W.contents out.new.held) ((cost_line cost ++ line said.now) ++ value_line format values.now)) }
+    ensures fault { IfErr result (λ fault. fault ≡ RunFault.Write) }
+    ensures failed { out.new.failed ≡ is_err result }
+{
     let mut report = Report::new(out);
     report.put_cost(cost);
-    report.put_line(b"s OPTIMUM FOUND");
+    report.put_line(said);
     report.put_values(format, values);
-    report.finish(Status::Optimum)
+    report.finish(status)
+}
+
+/// Reports that nothing is known of the instance.
+pub(crate) fn report_unknown<W: Write>(out: &mut Device<W>) -> Result<Status, RunFault>
+    ensures status { IfOk result (λ status. status ≡ Status.Unknown) }
+    ensures written { OnOk result (Appends (W.contents out.old.held) (W.contents out.new.held) unknown_report) }
+    ensures fault { IfErr result (λ fault. fault ≡ RunFault.Write) }
+    ensures failed { out.new.failed ≡ is_err result }
+{
+    let mut report = Report::new(out);
+    report.put_line(b"s UNKNOWN");
+    report.finish(Status::Unknown)
 }

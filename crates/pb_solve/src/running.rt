@@ -1,21 +1,22 @@
 //! The whole run.
-ghost use Rattle.std.specs.Prelude.{◌≡◌, ◌≢◌, ◌↔◌, ℕ, List, Option, false, is_err, Ok, Some, IfOk, IfErr, IfSome, IsErrOf, IsTrue};
+ghost use Rattle.std.specs.Prelude.{◌≡◌, ◌≢◌, ◌↔◌, ℕ, List, Option, false, true, is_err, Ok, Some, IfOk, IfErr, IfSome, IfNone, IsErrOf, IsTrue};
 ghost use Rattle.std.specs.Io.KnownBytes.{Appends};
 ghost use Rattle.pb_read.specs.declared.fault.ReadFault.{ReadFault};
 ghost use Rattle.pb_solve.specs.Solving.{HoldsLeast};
 ghost use Rattle.pb_solve.specs.Report.{memory_report};
 ghost use Rattle.pb_read.specs.Format.{text_refusal};
-ghost use Rattle.pb_solve.specs.Run.{Reports, Answers, IsPrepared, IsUnfailed, IsUnread, failed_after, stops_at_cubes, stops_at_input, text_left};
+ghost use Rattle.pb_solve.specs.Run.{Reports, ReportsFound, Answers, AnswersFound, IsPrepared, IsUnfailed, IsUnread, failed_after, stops_at_cubes, stops_at_input, text_left};
 
 use crate::device::Device;
-use crate::options::{Options, RunFault, Status};
+use crate::options::{Options, Ran, RunFault, Status};
 use crate::prepare::reading::NoCubeFile;
 use crate::prepare::{Halt, Prepared, prepare};
 use crate::report::{
-    report_infeasible, report_memory, report_optimum, report_refusal, report_satisfiable,
+    report_attained, report_infeasible, report_memory, report_optimum, report_refusal,
+    report_satisfiable, report_unknown,
 };
 use crate::workers::gate::OpenGate;
-use crate::workers::solve::{SolveFault, solve};
+use crate::workers::solve::solve;
 use pb_inst::{Best, Instance};
 use pb_read::Format;
 use std::alloc::Global;
@@ -78,13 +79,17 @@ fn conclude<R: Threads + Sync, W: Write>(
     found: Result<Prepared, Halt>,
     options: Options,
     out: &mut Device<W>,
-) -> Result<Status, RunFault>
+) -> Result<Ran, RunFault>
     requires out { out.old.failed ≡ false }
     requires same_variables { IfOk found (λ found. found.pieces.vars ≡ found.instance.vars) }
     ensures reports { (input : Option (List ℕ)) (cubes : Option (Option (List ℕ))) → IsPrepared options.format input cubes options.split found
-        → IfOk result (λ status. status ≢ Status.Unknown
-        → Reports options.format input cubes options.split (W.contents out.old.held) (W.contents out.new.held) status) }
-    ensures memory { result ≡ Ok Status.Unknown → Appends (W.contents out.old.held) (W.contents out.new.held) memory_report }
+        → IfOk result (λ ran. ran.cut ≡ false → ran.status ≢ Status.Unknown
+        → Reports options.format input cubes options.split (W.contents out.old.held) (W.contents out.new.held) ran.status) }
+    ensures budgeted { (input : Option (List ℕ)) (cubes : Option (Option (List ℕ))) → IsPrepared options.format input cubes options.split found
+        → IfOk result (λ ran. ran.cut ≡ true
+        → ReportsFound options.format input cubes options.split (W.contents out.old.held) (W.contents out.new.held) ran.status) }
+    ensures no_budget { IfNone options.nodes (IfOk result (λ ran. ran.cut ≡ false)) }
+    ensures memory { IfOk result (λ ran. ran.cut ≡ false → ran.status ≡ Status.Unknown → Appends (W.contents out.old.held) (W.contents out.new.held) memory_report) }
     ensures read_input { IsTrue (stops_at_input found) ↔ IsErrOf result RunFault.ReadInput }
     ensures read_cubes { IsTrue (stops_at_cubes found) ↔ IsErrOf result RunFault.ReadCubes }
     ensures write { IsTrue out.new.failed ↔ IsErrOf result RunFault.Write }
@@ -93,39 +98,51 @@ fn conclude<R: Threads + Sync, W: Write>(
     match found {
         Ok(found) => answer(rt, alloc, &found, options, out),
         Err(halt) => match halt {
-            Halt::Refused(refusal) => report_refusal(out, refusal),
-            Halt::Memory => report_memory(out),
+            Halt::Refused(refusal) => Ok(Ran::uncut(report_refusal(out, refusal)?)),
+            Halt::Memory => Ok(Ran::uncut(report_memory(out)?)),
             Halt::ReadInput => Err(RunFault::ReadInput),
             Halt::ReadCubes => Err(RunFault::ReadCubes),
         },
     }
 }
 
-/// Solves the instance by its pieces, and reports the answer.
+/// Solves the instance by its pieces, and reports the answer, or where a piece was cut the best that was found.
 fn answer<R: Threads + Sync, W: Write>(
     rt: &R,
     alloc: Global,
     found: &Prepared,
     options: Options,
     out: &mut Device<W>,
-) -> Result<Status, RunFault>
+) -> Result<Ran, RunFault>
     requires out { out.old.failed ≡ false }
     requires same_variables { found.now.pieces.vars ≡ found.now.instance.vars }
-    ensures answers { IfOk result (λ status. status ≢ Status.Unknown
-        → Answers options.format found.now.instance (W.contents out.old.held) (W.contents out.new.held) status) }
-    ensures memory { result ≡ Ok Status.Unknown → Appends (W.contents out.old.held) (W.contents out.new.held) memory_report }
+    ensures answers { IfOk result (λ ran. ran.cut ≡ false → ran.status ≢ Status.Unknown
+        → Answers options.format found.now.instance (W.contents out.old.held) (W.contents out.new.held) ran.status) }
+    ensures budgeted { IfOk result (λ ran. ran.cut ≡ true
+        → AnswersFound options.format found.now.instance (W.contents out.old.held) (W.contents out.new.held) ran.status) }
+    ensures no_budget { IfNone options.nodes (IfOk result (λ ran. ran.cut ≡ false)) }
+    ensures memory { IfOk result (λ ran. ran.cut ≡ false → ran.status ≡ Status.Unknown → Appends (W.contents out.old.held) (W.contents out.new.held) memory_report) }
     ensures fault { IfErr result (λ fault. fault ≡ RunFault.Write) }
     ensures failed { out.new.failed ≡ is_err result }
 {
     let (instance, pieces) = (&found.instance, &found.pieces);
-    match solve(rt, alloc, instance, pieces, options.workers, &OpenGate) {
-        Ok(best) => report_best(out, options.format, instance, &best),
-        Err(SolveFault::Memory) => report_memory(out),
-    }
+    let (workers, nodes) = (options.workers, options.nodes);
+    let Ok(answer) = solve(rt, alloc, instance, pieces, workers, &OpenGate, nodes) else {
+        return Ok(Ran::uncut(report_memory(out)?));
+    };
+    let status = if answer.cut {
+        report_found(out, options.format, instance, &answer.best)?
+    } else {
+        report_least(out, options.format, instance, &answer.best)?
+    };
+    Ok(Ran {
+        status,
+        cut: answer.cut,
+    })
 }
 
 /// Reports what is held as the answer on the instance.
-fn report_best<W: Write>(
+fn report_least<W: Write>(
     out: &mut Device<W>,
     format: Format,
     instance: &Instance,
@@ -133,6 +150,7 @@ fn report_best<W: Write>(
 ) -> Result<Status, RunFault>
     requires least { HoldsLeast instance.now best.now.held }
     ensures answers { IfOk result (Answers format instance.now (W.contents out.old.held) (W.contents out.new.held)) }
+    ensures known { IfOk result (λ status. status ≢ Status.Unknown) }
     ensures fault { IfErr result (λ fault. fault ≡ RunFault.Write) }
     ensures failed { out.new.failed ≡ is_err result }
 {
@@ -141,6 +159,28 @@ fn report_best<W: Write>(
     };
     if instance.has_objective() {
         report_optimum(out, format, cost, values)
+    } else {
+        report_satisfiable(out, format, values)
+    }
+}
+
+/// Reports what is held as what was found of the instance before a piece was cut.
+fn report_found<W: Write>(
+    out: &mut Device<W>,
+    format: Format,
+    instance: &Instance,
+    best: &Best<'_>,
+) -> Result<Status, RunFault>
+    requires same_instance { best.now.problem ≡ instance.now }
+    ensures answers { IfOk result (AnswersFound format instance.now (W.contents out.old.held) (W.contents out.new.held)) }
+    ensures fault { IfErr result (λ fault. fault ≡ RunFault.Write) }
+    ensures failed { out.new.failed ≡ is_err result }
+{
+    let (Some(cost), Some(values)) = (best.cost(), best.assignment()) else {
+        return report_unknown(out);
+    };
+    if instance.has_objective() {
+        report_attained(out, format, cost, values)
     } else {
         report_satisfiable(out, format, values)
     }

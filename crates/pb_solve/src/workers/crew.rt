@@ -1,5 +1,5 @@
 //! What the workers of a crew do, each for itself, over what all of them are lent.
-ghost use Rattle.std.specs.Prelude.{◌≡◌, ◌<◌, ◌≤◌, ◌^◌, [], length, IfOk};
+ghost use Rattle.std.specs.Prelude.{◌≡◌, ◌<◌, ◌≤◌, ◌^◌, ℕ, [], length, Option, IfOk};
 ghost use Rattle.pb_inst.specs.Problem.{Problem};
 ghost use Rattle.pb_cubes.specs.Pieces.{CubeList};
 ghost use Rattle.pb_board.specs.Seats.{BoardView};
@@ -14,13 +14,15 @@ use pb_inst::{Instance, Memory};
 use pb_search::SearchTables;
 use std::alloc::Global;
 
-/// Workers on the pieces of one instance, who share a board.
+/// Workers on the pieces of one instance, who share a board, and have the same budget of decisions for each piece or none.
 pub(crate) trait Crew {
     ghost problem: { Self → Problem };
 
     ghost pieces: { Self → CubeList };
 
     ghost meets_on: { Self → BoardView };
+
+    ghost nodes: { Self → Option ℕ };
 
     /// The board that the workers share.
     fn board(&self) -> &Board
@@ -31,7 +33,7 @@ pub(crate) trait Crew {
     fn work(&self, alloc: Global, seat: Seat, worker: u32) -> Result<(Part<'_>, Seat), Memory>
         requires seat { (seat.board ≡ (meets_on self.now).id) × (seat.claimed ≡ []) }
         requires worker { worker < (meets_on self.now).workers }
-        ensures whole { IfOk result (λ done. IsWholeWork (problem self.now) (pieces self.now) done.0 done.1.claimed) }
+        ensures whole { IfOk result (λ done. IsWholeWork (problem self.now) (pieces self.now) (nodes self.now) done.0 done.1.claimed) }
         ensures seat { IfOk result (λ done. (done.1.board ≡ (meets_on self.now).id) × (done.1.parts ≡ seat.parts)) }
         ensures claims { IfOk result (λ done. length done.1.claimed ≤ 2 ^ 32) };
 }
@@ -44,6 +46,7 @@ pub(crate) struct SearchCrew<'a, G> {
     tables: &'a SearchTables<'a>,
     board: &'a Board,
     gate: &'a G,
+    nodes: Option<u64>,
     ghost tables_of_all: { tables.now ≡ record { problem = inst.now; cubes = pieces.now.cubes } },
     ghost board_vars: { board.now.vars ≡ inst.now.vars },
 }
@@ -56,10 +59,11 @@ impl<'a, G> SearchCrew<'a, G> {
         tables: &'a SearchTables<'a>,
         board: &'a Board,
         gate: &'a G,
+        nodes: Option<u64>,
     ) -> SearchCrew<'a, G>
         requires tables { tables.now ≡ record { problem = inst.now; cubes = pieces.now.cubes } }
         requires board { board.now.vars ≡ inst.now.vars }
-        ensures lent { (result.inst.now ≡ inst.now) × (result.pieces.now ≡ pieces.now) × (result.board.now ≡ board.now) }
+        ensures lent { (result.inst.now ≡ inst.now) × (result.pieces.now ≡ pieces.now) × (result.board.now ≡ board.now) × (result.nodes ≡ nodes) }
     {
         SearchCrew {
             inst,
@@ -67,6 +71,7 @@ impl<'a, G> SearchCrew<'a, G> {
             tables,
             board,
             gate,
+            nodes,
         }
     }
 }
@@ -77,6 +82,8 @@ impl<'a, G: Gate> Crew for SearchCrew<'a, G> {
     ghost pieces = { λ c. c.pieces.now };
 
     ghost meets_on = { λ c. c.board.now };
+
+    ghost nodes = { λ c. c.nodes };
 
     fn board(&self) -> &Board {
         self.board
@@ -92,6 +99,7 @@ impl<'a, G: Gate> Crew for SearchCrew<'a, G> {
             seat,
             worker,
             self.gate,
+            self.nodes,
         )
     }
 }

@@ -1,5 +1,5 @@
 //! The answer of all workers.
-ghost use Rattle.std.specs.Prelude.{◌≡◌, ◌∷◌, ◌++◌, [], List, Option, map, All};
+ghost use Rattle.std.specs.Prelude.{◌≡◌, ◌≢◌, ◌↔◌, ◌∷◌, ◌++◌, [], List, Option, IsTrue, map, All, Any};
 ghost use Rattle.std.specs.Option.{IfSome};
 ghost use Rattle.pb_inst.specs.Incumbent.{Solution, IsSolution};
 ghost use Rattle.pb_cubes.specs.Pieces.{CubeList};
@@ -21,9 +21,12 @@ pub fn gather(into: &mut Best<'_>, parts: &[Part<'_>]) -> bool
 {
     // A call tells that what is held is a solution.
     let _ = into.cost();
+    let mut cut = false;
     for part in parts {
         take_from(into, part.best());
+        cut |= !part.cut().is_empty();
     }
+    cut
 }
 
 /// Holds the first of what is held and what the other holds.

@@ -1,5 +1,5 @@
 //! Solving with many workers, which claim pieces and lend each other what they found.
-ghost use Rattle.std.specs.Prelude.{◌≡◌, ◌≤◌, min, IfOk};
+ghost use Rattle.std.specs.Prelude.{◌≡◌, ◌≤◌, false, min, IfOk, IfNone};
 ghost use Rattle.pb_inst.specs.declared.TheConstants.{MAX_WORKERS};
 ghost use Rattle.pb_solve.specs.Solving.{HoldsLeast};
 

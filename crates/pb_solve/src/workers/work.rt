@@ -1,8 +1,8 @@
 //! The whole work of one worker.
-ghost use Rattle.std.specs.Prelude.{◌≡◌, ◌<◌, ◌≤◌, ◌⊎◌, ◌+◌, ◌^◌, ◌++◌, ◌∷◌, [], length, All, IfOk, IfSome, IfNone};
+ghost use Rattle.std.specs.Prelude.{◌≡◌, ◌<◌, ◌≤◌, ◌⊎◌, ◌+◌, ◌^◌, ◌++◌, ◌∷◌, [], length, All, IfOk, IfSome, IfNone, vec_capacity};
 ghost use Rattle.pb_normal.specs.NormalForm.{KeepsCost, KeepsFeasible};
 ghost use Rattle.pb_search.specs.Done.{IsDone};
-ghost use Rattle.pb_solve.specs.Claims.{EndsPast, IsWholeWork, pieces_among};
+ghost use Rattle.pb_solve.specs.Claims.{AreDealt, EndsPast, IsWholeWork, NamesOneMore, pieces_among};
 ghost use Rattle.pb_share.specs.Sharing.{SameSeat};
 
 use crate::workers::gate::Gate;
@@ -11,13 +11,14 @@ use pb_board::{Board, Seat};
 use pb_cubes::Pieces;
 use pb_inst::{Best, Instance, Memory};
 use pb_normal::Normal;
-use pb_search::{Search, SearchTables};
+use pb_search::{Outcome, Search, SearchTables};
 use pb_share::BoardShare;
 use std::alloc::Global;
 
 /// The whole work of one worker: it claims numbers from the board until it gets one that is no piece, and searches each
-/// piece that it got, of which it tells the gate before. The part names exactly the claims of the answered seat that are
-/// pieces, in order. The worker builds the tables of its searches for itself; where many share them, `solve` lends them.
+/// piece that it got with at most `nodes` decisions, where there is such a budget, of which it tells the gate before. The part
+/// names exactly the claims of the answered seat that are pieces, as done or as cut by the budget, either in order. The worker
+/// builds the tables of its searches for itself; where many share them, `solve` lends them.
 ///
 /// Asks for a normal form of the instance, pieces over its variables, a seat of this board without claims, a board for the
 /// instance's variables, and a worker below the board's number of workers. At `Memory` the seat is dropped.
@@ -30,6 +31,7 @@ pub fn work<'i, G: Gate + Sync>(
     seat: Seat,
     worker: u32,
     gate: &G,
+    nodes: Option<u64>,
 ) -> Result<(Part<'i>, Seat), Memory>
     requires vars { normal.now.vars ≡ inst.now.vars }
     requires feasible { KeepsFeasible inst.now normal.now }
@@ -39,12 +41,14 @@ pub fn work<'i, G: Gate + Sync>(
     requires unclaimed { seat.claimed ≡ [] }
     requires board { board.now.vars ≡ inst.now.vars }
     requires worker { worker < board.now.workers }
-    ensures whole { IfOk result (λ done. IsWholeWork inst.now pieces.now done.0 done.1.claimed) }
+    ensures whole { IfOk result (λ done. IsWholeWork inst.now pieces.now nodes done.0 done.1.claimed) }
     ensures seat { IfOk result (λ done. (done.1.board ≡ board.now.id) × (done.1.parts ≡ seat.parts)) }
     ensures claims { IfOk result (λ done. length done.1.claimed ≤ 2 ^ 32) }
 {
     let tables = SearchTables::new(alloc, inst, normal, pieces)?;
-    work_over(alloc, inst, pieces, &tables, board, seat, worker, gate)
+    work_over(
+        alloc, inst, pieces, &tables, board, seat, worker, gate, nodes,
+    )
 }
 
 /// The same over tables of the instance and the pieces that are lent, to any number of workers at a time; what the worker
@@ -58,31 +62,65 @@ pub(crate) fn work_over<'i, G: Gate>(
     seat: Seat,
     worker: u32,
     gate: &G,
+    nodes: Option<u64>,
 ) -> Result<(Part<'i>, Seat), Memory>
     requires tables { tables.now ≡ record { problem = inst.now; cubes = pieces.now.cubes } }
     requires seat { seat.board ≡ board.now.id }
     requires unclaimed { seat.claimed ≡ [] }
     requires board { board.now.vars ≡ inst.now.vars }
     requires worker { worker < board.now.workers }
-    ensures whole { IfOk result (λ done. IsWholeWork inst.now pieces.now done.0 done.1.claimed) }
+    ensures whole { IfOk result (λ done. IsWholeWork inst.now pieces.now nodes done.0 done.1.claimed) }
     ensures seat { IfOk result (λ done. (done.1.board ≡ board.now.id) × (done.1.parts ≡ seat.parts)) }
     ensures claims { IfOk result (λ done. length done.1.claimed ≤ 2 ^ 32) }
 {
     let mut best = Best::none(alloc, inst)?;
     let mut search = Search::over(alloc, tables)?;
     let mut share = BoardShare::new(board, seat, worker);
-    let named = search_claimed(
+    let Named { done, cut } = search_claimed(
         alloc,
         &mut search,
         pieces.len(),
         &mut best,
         &mut share,
         gate,
+        nodes,
     )?;
-    Ok((Part::new(pieces, named, best), share.into_seat()))
+    Ok((Part::new(pieces, done, cut, best), share.into_seat()))
 }
 
-/// Searches the pieces that the share claims, and answers their numbers.
+/// The numbers of the pieces that a worker got: those that are done, and those whose search was cut.
+#[derive(Drop)]
+struct Named {
+    done: Vec<u32>,
+    cut: Vec<u32>,
+}
+
+impl Named {
+    /// Makes room for one number more, however the search of its piece ends.
+    fn reserve(&mut self) -> Result<(), Memory>
+        ensures same_done { self.new.done.items ≡ self.old.done.items }
+        ensures same_cut { self.new.cut.items ≡ self.old.cut.items }
+        ensures room { IfOk result (λ _. (length self.new.done.items < vec_capacity self.new.done) × (length self.new.cut.items < vec_capacity self.new.cut)) }
+    {
+        self.done.reserve(1)?;
+        self.cut.reserve(1)?;
+        Ok(())
+    }
+
+    /// Names the piece by how its search ended.
+    fn push_reserved(&mut self, piece: u32, outcome: Outcome)
+        requires done { length self.old.done.items < vec_capacity self.old.done }
+        requires cut { length self.old.cut.items < vec_capacity self.old.cut }
+        ensures { NamesOneMore outcome piece self.old.done.items self.old.cut.items self.new.done.items self.new.cut.items }
+    {
+        match outcome {
+            Outcome::Whole => self.done.push_reserved(piece),
+            Outcome::Cut => self.cut.push_reserved(piece),
+        }
+    }
+}
+
+/// Searches the pieces that the share claims, each within the budget, and answers their numbers.
 fn search_claimed<G: Gate>(
     alloc: Global,
     search: &mut Search<'_>,
@@ -90,27 +128,34 @@ fn search_claimed<G: Gate>(
     best: &mut Best<'_>,
     share: &mut BoardShare<'_>,
     gate: &G,
-) -> Result<Vec<u32>, Memory>
+    nodes: Option<u64>,
+) -> Result<Named, Memory>
     requires count { count ≡ length search.old.division.cubes + 1 }
     requires same_instance { best.old.problem ≡ search.old.division.problem }
     requires unclaimed { share.old.seat.claimed ≡ [] }
     ensures same_instance { best.new.problem ≡ best.old.problem }
-    ensures done { IfOk result (λ named. All (λ i. IsDone search.old.division i best.new.held) named.items) }
-    ensures named { IfOk result (λ named. named.items ≡ pieces_among count share.new.seat.claimed) }
+    ensures done { IfOk result (λ named. All (λ i. IsDone search.old.division i best.new.held) named.done.items) }
+    ensures named { IfOk result (λ named. AreDealt (pieces_among count share.new.seat.claimed) named.done.items named.cut.items) }
+    ensures uncut { IfOk result (λ named. IfNone nodes (named.cut.items ≡ [])) }
     ensures most { IfOk result (λ named. length share.new.seat.claimed ≤ count + 1) }
     ensures ends { IfOk result (λ named. EndsPast count share.new.seat.claimed ⊎ (length share.new.seat.claimed ≡ count + 1)) }
     ensures seat { SameSeat share.old share.new }
 {
-    let mut named = Vec::new(alloc);
+    let mut named = Named {
+        done: Vec::new(alloc),
+        cut: Vec::new(alloc),
+    };
     for _turn in 0..u64::from(count) + 1 {
         let Some(piece) = claim_piece(share, count) else {
             return Ok(named);
         };
         // What is refused here is refused before the piece is searched, so that no finished work is lost for it.
-        named.reserve(1)?;
+        named.reserve()?;
         gate.pass(share.worker(), piece);
-        search.run(piece, best, share, None);
-        named.push_reserved(piece);
+        let outcome = search.run(piece, best, share, nodes);
+        // A call tells that what is held is a solution, by which what is done stays done.
+        let _ = best.cost();
+        named.push_reserved(piece, outcome);
     }
     Ok(named)
 }

@@ -1,5 +1,5 @@
-use Rattle.std.proofs.Common.{◌≡◌, ◌∷◌, ◌∙◌, ◌++◌, [], List, Option, map, take, ap, subst, sym}
-use Rattle.std.specs.Prelude.{All}
+use Rattle.std.proofs.Common.{◌≡◌, ◌↔◌, IsTrue, ◌∷◌, ◌∙◌, ◌++◌, [], List, Option, map, take, ap, subst, sym}
+use Rattle.std.specs.Prelude.{All, Any}
 use Rattle.std.specs.Option.{IfSome}
 use Rattle.std.proofs.lemmas.List.{take_all, take_more}
 use Rattle.std.proofs.lemmas.List.Elements.{All-push}
@@ -8,6 +8,7 @@ use Rattle.pb_inst.specs.Incumbent.{Incumbent, Solution, IsSolution}
 use Rattle.pb_solve.specs.Parts.{PartView, AreDone, AreSolutions, IsFirst}
 use Rattle.pb_solve.proofs.FirstLaws.{found_more}
 use Rattle.pb_solve.proofs.LeastLaws.{holds_least}
+use Rattle.pb_solve.proofs.CutLaws.{HasCut, cut_more}
 use Rattle.pb_solve.proofs.workers.gather.gather.Goals as goal
 
 pub loop-part-preserved : goal.loop-part-preserved
@@ -28,7 +29,7 @@ loop-part-preserved c =
       same_instance = c.take_from.ensures.same_instance ∙ c.loop-part.invariant.same_instance;
       solutions = subst (AreSolutions p) one_more (All-push (λ s. IfSome s (IsSolution p)) found part.best.held c.loop-part.invariant.solutions other);
       first = subst (λ (all : List (Option Solution)). IsFirst all c.take_from.new.into.held) one_more adds;
-      done = subst (λ (parts : List PartView). All AreDone parts) (sym parts_more) (All-push AreDone (take c.loop-part.part-index c.args.parts.now) part c.loop-part.invariant.done c.best.ensures.done);
+      done = subst (λ (parts : List PartView). All AreDone parts) (sym parts_more) (All-push AreDone (take c.loop-part.part-index c.args.parts.now) part c.loop-part.invariant.done c.best.ensures.done);      cut = cut_more c.args.parts.now c.loop-part.part-index part c.cut.result.now c.loop-part.cut c.is_empty.result c.loop-part-test.true c.part-item.is c.cut.ensures c.is_empty.ensures c.loop-part.invariant.cut;
     }
 
 pub returns-clause-least : goal.returns-clause-least
@@ -40,3 +41,7 @@ returns-clause-least c = λ list whole.
       solutions = subst (λ (parts : List PartView). AreSolutions c.args.into.now.problem (c.args.into.now.held ∷ map (λ part. part.best.held) parts)) all c.loop-part.invariant.solutions;
       is_first = subst (λ (parts : List PartView). IsFirst (c.args.into.now.held ∷ map (λ part. part.best.held) parts) c.loop-part.into.held) all c.loop-part.invariant.first;
     }) whole
+
+pub returns-clause-cut : goal.returns-clause-cut
+returns-clause-cut c =
+    subst (λ (parts : List PartView). IsTrue c.loop-part.cut ↔ Any HasCut parts) (take_all c.loop-part.part-index c.args.parts.now c.loop-part-test.false) c.loop-part.invariant.cut

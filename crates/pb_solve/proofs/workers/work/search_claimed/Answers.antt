@@ -3,7 +3,8 @@ use Rattle.std.specs.Prelude.{All}
 use Rattle.std.proofs.lemmas.List.Elements.{All-nil}
 use Rattle.pb_search.specs.Held.{IsNotAfter}
 use Rattle.pb_search.specs.Done.{Division, IsDone}
-use Rattle.pb_solve.proofs.WorkLaws.{done_more, named_more, none_named, is_piece, same_seat_itself, same_seat_onward, same_seat_kept}
+use Rattle.pb_solve.proofs.WorkLaws.{dealt_more, done_more, none_cut, none_named, uncut_more, whole_by, is_piece, same_seat_itself, same_seat_onward, same_seat_kept}
+use Rattle.pb_solve.specs.Claims.{AreDealt, NamesOneMore}
 use Rattle.pb_solve.proofs.workers.work.search_claimed.Goals as goal
 
 pub loop-turn-init : goal.loop-turn-init
@@ -11,43 +12,53 @@ loop-turn-init g c = record {
   same_instance = refl;
   same_search = refl;
   count = ap length c.requires.unclaimed;
-  named = none_named c.args.count c.new-named.result.items c.args.share.now.seat.claimed c.new-named.ensures.items c.requires.unclaimed;
-  done = subst (λ (ns : List ℕ). All (λ i. IsDone c.args.search.now.division i c.args.best.now.held) ns) (sym c.new-named.ensures.items) (All-nil (λ i. IsDone c.args.search.now.division i c.args.best.now.held));
+  named = none_named c.args.count c.new.result.items c.new-2.result.items c.args.share.now.seat.claimed c.new.ensures.items c.new-2.ensures.items c.requires.unclaimed;
+  uncut = none_cut c.args.nodes c.new-2.result.items c.new-2.ensures.items;
+  done = subst (λ (ns : List ℕ). All (λ i. IsDone c.args.search.now.division i c.args.best.now.held) ns) (sym c.new.ensures.items) (All-nil (λ i. IsDone c.args.search.now.division i c.args.best.now.held));
   seat = same_seat_itself c.args.share.now;
 }
 
 pub claim_piece-requires : goal.claim_piece-requires
 claim_piece-requires g c = omega arith
 
-pub run-requires-clause-piece : goal.run-requires-clause-piece
-run-requires-clause-piece g c =
+pub run-outcome-requires-clause-piece : goal.run-outcome-requires-clause-piece
+run-outcome-requires-clause-piece g c =
     let below = c.in-Some.ensures.piece.0 in
     let number : length c.loop-turn.search.division.cubes ≡ length c.args.search.now.division.cubes = ap (λ (d : Division). length d.cubes) c.loop-turn.invariant.same_search in
     omega arith
 
-pub run-requires-clause-same_instance : goal.run-requires-clause-same_instance
-run-requires-clause-same_instance g c =
+pub run-outcome-requires-clause-same_instance : goal.run-outcome-requires-clause-same_instance
+run-outcome-requires-clause-same_instance g c =
     c.loop-turn.invariant.same_instance ∙ c.requires.same_instance ∙ sym (ap (λ (d : Division). d.problem) c.loop-turn.invariant.same_search)
 
 pub loop-turn-preserved : goal.loop-turn-preserved
 loop-turn-preserved g c =
-    let search : c.run.new.self.division ≡ c.args.search.now.division = c.run.ensures.unchanged ∙ c.loop-turn.invariant.same_search in
-    let claim : c.run.new.share.seat.claimed ≡ c.loop-turn.share.seat.claimed ++ c.in-Some.piece ∷ [] = c.run.ensures.kept.claimed ∙ c.in-Some.ensures.piece.1 in
+    let ran = c.run-outcome in
+    let d : Division = c.args.search.now.division in
+    let same_search : c.loop-turn.search.division ≡ d = c.loop-turn.invariant.same_search in
+    let search : ran.new.self.division ≡ d = ran.ensures.unchanged ∙ same_search in
+    let claim : ran.new.share.seat.claimed ≡ c.loop-turn.share.seat.claimed ++ c.in-Some.piece ∷ [] = ran.ensures.kept.claimed ∙ c.in-Some.ensures.piece.1 in
     let one = c.claim_piece.ensures.one in
-    let same : length c.run.new.share.seat.claimed ≡ length c.claim_piece.new.share.seat.claimed = ap length c.run.ensures.kept.claimed in
+    let same : length ran.new.share.seat.claimed ≡ length c.claim_piece.new.share.seat.claimed = ap length ran.ensures.kept.claimed in
     let before = c.loop-turn.invariant.count in
-    let pushed : c.push_reserved.new.self.items ≡ c.loop-turn.named.items ++ c.in-Some.piece ∷ [] = c.push_reserved.ensures.items ∙ ap (λ (l : List ℕ). l ++ c.in-Some.piece ∷ []) c.reserve.ensures.items in
+    let names : NamesOneMore ran.result c.in-Some.piece c.loop-turn.named.done.items c.loop-turn.named.cut.items c.push_reserved.new.self.done.items c.push_reserved.new.self.cut.items =
+    subst (λ (cut : List ℕ). NamesOneMore ran.result c.in-Some.piece c.loop-turn.named.done.items cut c.push_reserved.new.self.done.items c.push_reserved.new.self.cut.items) c.reserve.ensures.same_cut
+    (subst (λ (done : List ℕ). NamesOneMore ran.result c.in-Some.piece done c.reserve.new.self.cut.items c.push_reserved.new.self.done.items c.push_reserved.new.self.cut.items) c.reserve.ensures.same_done c.push_reserved.ensures) in
+    let of_problem : ran.new.best.problem ≡ d.problem = ran.ensures.same_instance ∙ c.loop-turn.invariant.same_instance ∙ c.requires.same_instance in
     record {
-      same_instance = c.run.ensures.same_instance ∙ c.loop-turn.invariant.same_instance;
+      same_instance = ran.ensures.same_instance ∙ c.loop-turn.invariant.same_instance;
       same_search = search;
       count = omega arith;
-      named = named_more c.args.count c.loop-turn.named.items c.push_reserved.new.self.items c.loop-turn.share.seat.claimed c.run.new.share.seat.claimed c.in-Some.piece c.loop-turn.invariant.named pushed claim (is_piece c.in-Some.piece c.args.count c.in-Some.ensures.piece.0);
-      done = done_more c.args.search.now.division c.loop-turn.named.items c.push_reserved.new.self.items c.in-Some.piece c.loop-turn.best.held c.run.new.best.held pushed
-          (subst (λ (d : Division). IsNotAfter d.problem c.loop-turn.best.held c.run.new.best.held) c.loop-turn.invariant.same_search c.run.ensures.not_after)
-          (subst (λ (d : Division). IsDone d c.in-Some.piece c.run.new.best.held) c.loop-turn.invariant.same_search (c.run.ensures.done c.run.ensures.no_budget.0))
+      named = dealt_more c.args.count ran.result c.loop-turn.named.done.items c.loop-turn.named.cut.items c.push_reserved.new.self.done.items c.push_reserved.new.self.cut.items c.loop-turn.share.seat.claimed ran.new.share.seat.claimed c.in-Some.piece
+          c.loop-turn.invariant.named names claim (is_piece c.in-Some.piece c.args.count c.in-Some.ensures.piece.0);
+      uncut = uncut_more c.args.nodes ran.result c.in-Some.piece c.loop-turn.named.done.items c.loop-turn.named.cut.items c.push_reserved.new.self.done.items c.push_reserved.new.self.cut.items names (whole_by _ c.args.nodes ran.result ran.ensures.no_budget) c.loop-turn.invariant.uncut;
+      done = done_more d ran.result c.loop-turn.named.done.items c.loop-turn.named.cut.items c.push_reserved.new.self.done.items c.push_reserved.new.self.cut.items c.in-Some.piece c.loop-turn.best.held ran.new.best names
+          (subst (λ (e : Division). IsNotAfter e.problem c.loop-turn.best.held ran.new.best.held) same_search ran.ensures.not_after)
+          of_problem c.cost.ensures.sound
+          (λ whole. subst (λ (e : Division). IsDone e c.in-Some.piece ran.new.best.held) same_search (ran.ensures.done whole))
           c.loop-turn.invariant.done;
-      seat = same_seat_onward c.args.share.now c.loop-turn.share c.run.new.share c.loop-turn.invariant.seat
-          (same_seat_onward c.loop-turn.share c.claim_piece.new.share c.run.new.share c.claim_piece.ensures.seat (same_seat_kept c.claim_piece.new.share c.run.new.share c.run.ensures.kept));
+      seat = same_seat_onward c.args.share.now c.loop-turn.share ran.new.share c.loop-turn.invariant.seat
+          (same_seat_onward c.loop-turn.share c.claim_piece.new.share ran.new.share c.claim_piece.ensures.seat (same_seat_kept c.claim_piece.new.share ran.new.share ran.ensures.kept));
     }
 
 pub returns-in_default-clause-same_instance : goal.returns-in_default-clause-same_instance
@@ -57,7 +68,10 @@ pub returns-in_default-clause-done : goal.returns-in_default-clause-done
 returns-in_default-clause-done g c = c.loop-turn.invariant.done
 
 pub returns-in_default-clause-named : goal.returns-in_default-clause-named
-returns-in_default-clause-named g c = c.loop-turn.invariant.named ∙ sym c.in_default.ensures.none.1
+returns-in_default-clause-named g c = subst (λ (l : List ℕ). AreDealt l c.loop-turn.named.done.items c.loop-turn.named.cut.items) (sym c.in_default.ensures.none.1) c.loop-turn.invariant.named
+
+pub returns-in_default-clause-uncut : goal.returns-in_default-clause-uncut
+returns-in_default-clause-uncut g c = c.loop-turn.invariant.uncut
 
 pub returns-in_default-clause-most : goal.returns-in_default-clause-most
 returns-in_default-clause-most g c = omega arith
@@ -79,6 +93,9 @@ returns-clause-done g c = c.loop-turn.invariant.done
 
 pub returns-clause-named : goal.returns-clause-named
 returns-clause-named g c = c.loop-turn.invariant.named
+
+pub returns-clause-uncut : goal.returns-clause-uncut
+returns-clause-uncut g c = c.loop-turn.invariant.uncut
 
 pub returns-clause-most : goal.returns-clause-most
 returns-clause-most g c = omega arith

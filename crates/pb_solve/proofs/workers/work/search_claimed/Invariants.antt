@@ -1,7 +1,7 @@
-use Rattle.std.proofs.Common.{◌≡◌, length}
-use Rattle.std.specs.Prelude.{All}
+use Rattle.std.proofs.Common.{◌≡◌, [], length}
+use Rattle.std.specs.Prelude.{All, IfNone}
 use Rattle.pb_search.specs.Done.{IsDone}
-use Rattle.pb_solve.specs.Claims.{pieces_among}
+use Rattle.pb_solve.specs.Claims.{AreDealt, pieces_among}
 use Rattle.pb_share.specs.Sharing.{SameSeat}
 use Rattle.pb_solve.proofs.workers.work.search_claimed.Given as goal
 
@@ -11,7 +11,8 @@ invariant-loop-turn g l = record {
   same_instance : l.best.problem ≡ l.initial.best.problem;
   same_search : l.search.division ≡ l.initial.search.division;
   count : length l.share.seat.claimed ≡ l._turn;
-  named : l.named.items ≡ pieces_among l.count l.share.seat.claimed;
-  done : All (λ i. IsDone l.initial.search.division i l.best.held) l.named.items;
+  named : AreDealt (pieces_among l.count l.share.seat.claimed) l.named.done.items l.named.cut.items;
+  uncut : IfNone l.nodes (l.named.cut.items ≡ []);
+  done : All (λ i. IsDone l.initial.search.division i l.best.held) l.named.done.items;
   seat : SameSeat l.initial.share l.share;
 }
