@@ -1,10 +1,10 @@
 -- What several workers claimed and named together.
-use Rattle.std.proofs.Common.{◌≡◌, ◌≢◌, Option, None, Some, IsTrue, refl, ℕ, zero, suc, ◌+◌, ◌<◌, ◌≤◌, List, [], ◌∷◌, ◌++◌, ◌⊎◌, Bool, true, false, cond, length, sym, ◌∙◌, ap, subst, inl, inr, arith, length-append}
+use Rattle.std.proofs.Common.{◌≡◌, ◌≢◌, Option, None, Some, ℕ, zero, suc, ◌+◌, ◌<◌, ◌≤◌, List, [], ◌∷◌, ◌++◌, ◌⊎◌, Bool, true, false, cond, length, sym, ◌∙◌, ap, subst, inl, inr, arith, length-append}
 use Rattle.std.specs.Prelude.{All, Any, Contains, IfNone, filter, min, nat_lt, if◌then◌else◌}
 use Rattle.std.proofs.lemmas.Bool.{false≢true}
 use Rattle.std.proofs.lemmas.Bool.Decides.{nat_tests}
 use Rattle.std.proofs.lemmas.List.{get_or_append_left}
-use Rattle.std.proofs.lemmas.List.Elements.{All-append, All-contains, All-push, All-nil, Contains-append_cases, Contains-append_right}
+use Rattle.std.proofs.lemmas.List.Elements.{All-append, All-push, All-nil, Contains-append_cases, Contains-append_right}
 use Rattle.std.proofs.lemmas.List.Quantifiers.{Any-push}
 use Rattle.pb_inst.specs.Problem.{Problem}
 use Rattle.pb_cubes.specs.Pieces.{CubeList}

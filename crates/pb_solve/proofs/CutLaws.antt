@@ -42,7 +42,7 @@ is_some (n ∷ cut) seen empty is told =
 -- what is known of some parts and of one more
 known_more : (P Q : Type 0) (known more : Bool) → (IsTrue known ↔ P) → (IsTrue more ↔ Q) → IsTrue (known || more) ↔ (P ⊎ Q)
 known_more P Q true more h k = ((λ yes. inl (h.0 refl)), (λ some. refl))
-known_more P Q false more h k = ((λ yes. inr (k.0 yes)), (λ some. elim some [ | inl p ↦ absurd (false≢true (h.1 p)) | inr q ↦ k.1 q ]))
+known_more P Q false more h k = ((λ yes. inr (k.0 yes)), (λ some. elim some [ inl p ↦ absurd (false≢true (h.1 p)) | inr q ↦ k.1 q ]))
 
 -- whether some part has a cut piece, of one part more
 pub cut_more : (parts : List PartView) (i : ℕ) (part : PartView) (seen : List ℕ) (known empty : Bool) → i < length parts → part ≡ get_or parts i part → seen ≡ part.cut → empty ≡ (length seen == 0)

@@ -1,21 +1,24 @@
 -- How the steps of a run make its outcome.
-use Rattle.std.proofs.Common.{◌≡◌, ◌≢◌, ℕ, ℤ, Bool, true, false, List, Option, Some, None, is_some, Result, Ok, Err, OnOk, refl, ◌∙◌, ap, subst, inr}
+use Rattle.std.proofs.Common.{◌≡◌, ◌≢◌, ℕ, ℤ, Bool, true, false, List, Option, Some, None, is_some, length, Result, Ok, Err, OnOk, refl, ◌∙◌, ap, subst, inr}
 use Rattle.std.specs.Prelude.{IfOk}
-use Rattle.std.specs.Option.{option_map}
+use Rattle.std.specs.Option.{IfSome, option_map}
 use Rattle.std.specs.Io.KnownBytes.{Appends}
 use Rattle.pb_inst.specs.Problem.{Problem}
-use Rattle.pb_inst.specs.Meaning.{cost}
+use Rattle.pb_inst.specs.Meaning.{IsFeasible, cost}
 use Rattle.pb_inst.specs.Order.{IsLeast}
-use Rattle.pb_inst.specs.Incumbent.{Solution}
+use Rattle.pb_inst.specs.Incumbent.{Solution, IsSolution}
 use Rattle.pb_solve.specs.declared.prepare.Prepared.{Prepared}
 use Rattle.pb_read.specs.declared.format.Format.{Format}
+use Rattle.pb_solve.specs.declared.options.Ran.{Ran}
 use Rattle.pb_solve.specs.declared.options.Status.{Status}
 use Rattle.pb_solve.specs.declared.options.Status.TheVariants.{Satisfiable, Optimum, Unsupported, Unknown}
 use Rattle.pb_solve.specs.declared.options.Refusal.{Refusal}
 use Rattle.pb_solve.specs.Solving.{HoldsLeast}
 use Rattle.pb_solve.specs.Outcome.{Refused, Feasible, Optimal, IsOutcome}
-use Rattle.pb_solve.specs.Report.{satisfiable_report, optimum_report, refusal_report}
-use Rattle.pb_solve.specs.Run.{WhereTold, Reports, Answers, IsAccepted}
+use Rattle.pb_solve.specs.Report.{attained_report, satisfiable_report, optimum_report, refusal_report, unknown_report}
+use Rattle.pb_solve.specs.Budgeted as budgeted
+use Rattle.pb_solve.specs.Budgeted.{Nothing, Costing, IsFoundIn}
+use Rattle.pb_solve.specs.Run.{WhereTold, Reports, ReportsFound, Answers, AnswersFound, IsAccepted}
 
 -- ---- facts about what readers tell
 
@@ -62,6 +65,50 @@ answer_optimum format p held old new status a z least is_a is_z some is written 
   right = (some, least_of p held a least is_a, cost_of p held a z least is_a is_z);
 }
 
+-- ---- what was found before a piece was cut
+
+-- what is held is a solution, by its assignment and its cost
+found_of : (p : Problem) (held : Option Solution) (a : List Bool) → IfSome held (IsSolution p) → Some a ≡ option_map (λ s. s.assignment) held → (length a ≡ p.vars) × IsFeasible p a
+found_of p None a sound e = cc
+found_of p (Some s) a sound e =
+    let same : s.assignment ≡ a = cc in subst (λ (x : List Bool). (length x ≡ p.vars) × IsFeasible p x) same (sound.for_all_variables, sound.feasible)
+
+found_cost_of : (p : Problem) (held : Option Solution) (a : List Bool) (z : ℤ) → IfSome held (IsSolution p) → Some a ≡ option_map (λ s. s.assignment) held → Some z ≡ option_map (λ s. s.cost) held → z ≡ cost p a
+found_cost_of p None a z sound e f = cc
+found_cost_of p (Some s) a z sound e f =
+    let same : s.assignment ≡ a = cc in
+    let price : z ≡ s.cost = cc in
+    price ∙ sound.cost_is ∙ ap (λ (x : List Bool). cost p x) same
+
+pub nothing_found : {E : Type 0} (r : Result Status E) (format : Format) (p : Problem) (old new : Option (List ℕ)) → IfOk r (λ status. status ≡ Unknown) → OnOk r (Appends old new unknown_report) → IfOk r (AnswersFound format p old new)
+nothing_found (Ok status) format p old new is written = record { found = Nothing; ends = is; writes = written; right = tt }
+nothing_found (Err e) format p old new is written = tt
+
+pub satisfiable_found : {E : Type 0} (r : Result Status E) (format : Format) (p : Problem) (held : Option Solution) (old new : Option (List ℕ)) (a : List Bool) → IfSome held (IsSolution p) → Some a ≡ option_map (λ s. s.assignment) held → is_some p.objective ≡ false → IfOk r (λ status. status ≡ Satisfiable) → OnOk r (Appends old new (satisfiable_report format a)) → IfOk r (AnswersFound format p old new)
+satisfiable_found (Ok status) format p held old new a sound is_a none is written =
+    let found = found_of p held a sound is_a in
+    record { found = budgeted.Feasible a; ends = is; writes = written; right = (no_objective p.objective none, found.0, found.1) }
+satisfiable_found (Err e) format p held old new a sound is_a none is written = tt
+
+pub attained_found : {E : Type 0} (r : Result Status E) (format : Format) (p : Problem) (held : Option Solution) (old new : Option (List ℕ)) (a : List Bool) (z : ℤ) → IfSome held (IsSolution p) → Some a ≡ option_map (λ s. s.assignment) held → Some z ≡ option_map (λ s. s.cost) held → is_some p.objective ≡ true → IfOk r (λ status. status ≡ Satisfiable) → OnOk r (Appends old new (attained_report format z a)) → IfOk r (AnswersFound format p old new)
+attained_found (Ok status) format p held old new a z sound is_a is_z some is written =
+    let found = found_of p held a sound is_a in
+    record { found = Costing z a; ends = is; writes = written; right = (some, found.0, found.1, found_cost_of p held a z sound is_a is_z) }
+attained_found (Err e) format p held old new a z sound is_a is_z some is written = tt
+
+pub found_reported : (format : Format) (prepared : Prepared) (input : Option (List ℕ)) (cubes : Option (Option (List ℕ))) (split : ℕ) (old new : Option (List ℕ)) (status : Status) → WhereTold input cubes (λ text cube_text. IsAccepted format text cube_text split prepared) → AnswersFound format prepared.instance old new status → ReportsFound format input cubes split old new status
+found_reported format prepared input cubes split old new status told h = record {
+  found = h.found;
+  ends = h.ends;
+  writes = h.writes;
+  right = told_weaker input cubes (λ text cube_text. IsAccepted format text cube_text split prepared) (λ text cube_text. IsFoundIn format text cube_text split h.found)
+      (λ text cube_text accepted. (prepared.instance, accepted.0, accepted.1, accepted.2.0, h.right)) told;
+}
+
+pub found_report_of : {E : Type 0} (r : Result Ran E) (format : Format) (prepared : Prepared) (input : Option (List ℕ)) (cubes : Option (Option (List ℕ))) (split : ℕ) (old new : Option (List ℕ)) → WhereTold input cubes (λ text cube_text. IsAccepted format text cube_text split prepared) → IfOk r (λ ran. ran.cut ≡ true → AnswersFound format prepared.instance old new ran.status) → IfOk r (λ ran. ran.cut ≡ true → ReportsFound format input cubes split old new ran.status)
+found_report_of (Ok ran) format prepared input cubes split old new told h = λ cut. found_reported format prepared input cubes split old new ran.status told (h cut)
+found_report_of (Err e) format prepared input cubes split old new told h = tt
+
 -- ---- the report
 
 pub answer_reported : (format : Format) (found : Prepared) (input : Option (List ℕ)) (cubes : Option (Option (List ℕ))) (split : ℕ) (old new : Option (List ℕ)) (status : Status) → WhereTold input cubes (λ text cube_text. IsAccepted format text cube_text split found) → Answers format found.instance old new status → Reports format input cubes split old new status
@@ -91,10 +138,6 @@ pub optimum_answers : {E : Type 0} (r : Result Status E) (format : Format) (p : 
 optimum_answers (Ok status) format p held old new a z least is_a is_z some is written = answer_optimum format p held old new status a z least is_a is_z some is written
 optimum_answers (Err e) format p held old new a z least is_a is_z some is written = tt
 
-pub answers_report : {E : Type 0} (r : Result Status E) (format : Format) (found : Prepared) (input : Option (List ℕ)) (cubes : Option (Option (List ℕ))) (split : ℕ) (old new : Option (List ℕ)) → WhereTold input cubes (λ text cube_text. IsAccepted format text cube_text split found) → IfOk r (λ status. status ≢ Unknown → Answers format found.instance old new status) → IfOk r (λ status. status ≢ Unknown → Reports format input cubes split old new status)
-answers_report (Ok status) format found input cubes split old new told h = λ known. answer_reported format found input cubes split old new status told (h known)
+pub answers_report : {E : Type 0} (r : Result Ran E) (format : Format) (found : Prepared) (input : Option (List ℕ)) (cubes : Option (Option (List ℕ))) (split : ℕ) (old new : Option (List ℕ)) → WhereTold input cubes (λ text cube_text. IsAccepted format text cube_text split found) → IfOk r (λ ran. ran.cut ≡ false → ran.status ≢ Unknown → Answers format found.instance old new ran.status) → IfOk r (λ ran. ran.cut ≡ false → ran.status ≢ Unknown → Reports format input cubes split old new ran.status)
+answers_report (Ok ran) format found input cubes split old new told h = λ whole known. answer_reported format found input cubes split old new ran.status told (h whole known)
 answers_report (Err e) format found input cubes split old new told h = tt
-
-pub refusal_reports : {E : Type 0} (r : Result Status E) (format : Format) (input : Option (List ℕ)) (cubes : Option (Option (List ℕ))) (split : ℕ) (old new : Option (List ℕ)) (refusal : Refusal) → WhereTold input cubes (λ text cube_text. IsOutcome format text cube_text split (Refused refusal)) → IfOk r (λ status. status ≡ Unsupported) → OnOk r (Appends old new (refusal_report refusal)) → IfOk r (λ status. status ≢ Unknown → Reports format input cubes split old new status)
-refusal_reports (Ok status) format input cubes split old new refusal told is written = λ known. refusal_reported format input cubes split old new status refusal told is written
-refusal_reports (Err e) format input cubes split old new refusal told is written = tt

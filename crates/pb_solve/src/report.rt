@@ -87,7 +87,14 @@ pub(crate) fn report_optimum<W: Write>(
     ensures fault { IfErr result (λ fault. fault ≡ RunFault.Write) }
     ensures failed { out.new.failed ≡ is_err result }
 {
-    report_with_cost(out, format, cost, b"s OPTIMUM FOUND", values, Status::Optimum)
+    report_with_cost(
+        out,
+        format,
+        cost,
+        b"s OPTIMUM FOUND",
+        values,
+        Status::Optimum,
+    )
 }
 
 /// Reports an assignment that was found, and its cost. That it is least is not said.
@@ -102,7 +109,14 @@ pub(crate) fn report_attained<W: Write>(
     ensures fault { IfErr result (λ fault. fault ≡ RunFault.Write) }
     ensures failed { out.new.failed ≡ is_err result }
 {
-    report_with_cost(out, format, cost, b"s SATISFIABLE", values, Status::Satisfiable)
+    report_with_cost(
+        out,
+        format,
+        cost,
+        b"s SATISFIABLE",
+        values,
+        Status::Satisfiable,
+    )
 }
 
 /// Reports an assignment and its cost, and between the two a line that says what they are.

@@ -29,12 +29,7 @@ impl<'i> Model for Part<'i> {
 
 impl<'i> Part<'i> {
     /// The part that names these pieces of the list: those that are done, and those that were cut.
-    pub(crate) fn new(
-        list: &'i Pieces,
-        named: Vec<u32>,
-        cut: Vec<u32>,
-        best: Best<'i>,
-    ) -> Part<'i>
+    pub(crate) fn new(list: &'i Pieces, named: Vec<u32>, cut: Vec<u32>, best: Best<'i>) -> Part<'i>
         requires { AreDone (record { pieces = list.now; named = named.items; cut = cut.items; best = best }) }
         ensures { result ≡ record { pieces = list.now; named = named.items; cut = cut.items; best = best.entry } }
     {

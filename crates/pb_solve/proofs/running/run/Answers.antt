@@ -11,6 +11,12 @@ returns-clause-headline g c = elim c.match-cubes.branch [
   | in-Some w ↦ rw w.in-Some.is (c.conclude.ensures.reports _ _ (rw w.found-is w.prepare-found-in-Some.ensures.prepared))
 ]
 
+pub returns-clause-budgeted : goal.returns-clause-budgeted
+returns-clause-budgeted g c = elim c.match-cubes.branch [
+  | in-None w ↦ rw w.in-None.is (c.conclude.ensures.budgeted _ _ (rw w.found-is w.prepare-found.ensures.prepared))
+  | in-Some w ↦ rw w.in-Some.is (c.conclude.ensures.budgeted _ _ (rw w.found-is w.prepare-found-in-Some.ensures.prepared))
+]
+
 pub returns-clause-read_cubes : goal.returns-clause-read_cubes
 returns-clause-read_cubes g c = elim c.match-cubes.branch [
   | in-None w ↦ rw w.in-None.is (subst (λ (b : Bool). IsTrue b ↔ IsErrOf c.conclude.result fault.ReadCubes) (ap stops_at_cubes w.found-is ∙ sym w.prepare-found.ensures.cubes) c.conclude.ensures.read_cubes)

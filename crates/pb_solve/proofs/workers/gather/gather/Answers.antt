@@ -29,7 +29,8 @@ loop-part-preserved c =
       same_instance = c.take_from.ensures.same_instance ∙ c.loop-part.invariant.same_instance;
       solutions = subst (AreSolutions p) one_more (All-push (λ s. IfSome s (IsSolution p)) found part.best.held c.loop-part.invariant.solutions other);
       first = subst (λ (all : List (Option Solution)). IsFirst all c.take_from.new.into.held) one_more adds;
-      done = subst (λ (parts : List PartView). All AreDone parts) (sym parts_more) (All-push AreDone (take c.loop-part.part-index c.args.parts.now) part c.loop-part.invariant.done c.best.ensures.done);      cut = cut_more c.args.parts.now c.loop-part.part-index part c.cut.result.now c.loop-part.cut c.is_empty.result c.loop-part-test.true c.part-item.is c.cut.ensures c.is_empty.ensures c.loop-part.invariant.cut;
+      done = subst (λ (parts : List PartView). All AreDone parts) (sym parts_more) (All-push AreDone (take c.loop-part.part-index c.args.parts.now) part c.loop-part.invariant.done c.best.ensures.done);
+      cut = cut_more c.args.parts.now c.loop-part.part-index part c.cut.result.now c.loop-part.cut c.is_empty.result c.loop-part-test.true c.part-item.is c.cut.ensures c.is_empty.ensures c.loop-part.invariant.cut;
     }
 
 pub returns-clause-least : goal.returns-clause-least
