@@ -23,6 +23,8 @@ pub enum Step {
 }
 
 /// Puts the literals that the row forces on the trail, or finds that the row can't be met any more.
+// Most rows that are looked at force nothing. So the question stands in the loops themselves, and only what adds literals is called.
+#[inline(always)]
 fn look_at<C: Count>(tables: &Tables<'_, '_, C>, trail: &mut Trail<C>, row: usize) -> Step
     requires row { row < length tables.now.rows }
     requires up_to_date { IsUpToDate tables.now trail.old }
@@ -39,6 +41,7 @@ fn look_at<C: Count>(tables: &Tables<'_, '_, C>, trail: &mut Trail<C>, row: usiz
 }
 
 /// Looks at a row of the form.
+#[inline(always)]
 fn look_at_row<C: Count>(tables: &Tables<'_, '_, C>, trail: &mut Trail<C>, row: usize) -> Step
     requires row { row < length tables.now.form.rows }
     requires up_to_date { IsUpToDate tables.now trail.old }
@@ -61,6 +64,7 @@ fn look_at_row<C: Count>(tables: &Tables<'_, '_, C>, trail: &mut Trail<C>, row: 
 }
 
 /// Looks at a clause.
+#[inline(always)]
 fn look_at_clause<C: Count>(tables: &Tables<'_, '_, C>, trail: &mut Trail<C>, row: usize) -> Step
     requires form { length tables.now.form.rows ≤ row }
     requires exists { row < length tables.now.rows }
@@ -109,6 +113,8 @@ pub fn propagate_all<C: Count>(
 }
 
 /// Looks at every row.
+// A search calls it once, at its start. In the place of that call it would keep the compiler from taking `propagate` into the search.
+#[inline(never)]
 fn look_at_all<C: Count>(tables: &Tables<'_, '_, C>, trail: &mut Trail<C>) -> Step
     requires up_to_date { IsUpToDate tables.now trail.old }
     ensures up_to_date { IsUpToDate tables.now trail.new }
@@ -182,6 +188,7 @@ fn propagate_from<C: Count>(tables: &Tables<'_, '_, C>, trail: &mut Trail<C>, st
 }
 
 /// Puts the literals of a row of the form that have no value and a coefficient greater than the slack on the trail.
+#[inline(never)]
 fn add_forced<C: Count>(
     tables: &Tables<'_, '_, C>,
     trail: &mut Trail<C>,
@@ -204,6 +211,7 @@ fn add_forced<C: Count>(
 }
 
 /// Puts the literal of a clause that is not false yet on the trail, if it has no value.
+#[inline(never)]
 fn add_last<C: Count>(tables: &Tables<'_, '_, C>, trail: &mut Trail<C>, row: usize)
     requires form { length tables.now.form.rows ≤ row }
     requires exists { row < length tables.now.rows }
