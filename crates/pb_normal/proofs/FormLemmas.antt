@@ -1,12 +1,12 @@
 -- What the calls that add rows promise, from what they were told.
-use Rattle.std.proofs.Common.{◌≡◌, ℕ, ℤ, ◌≤◌, List, [], ◌∷◌, ◌++◌, map, refl, sym, ◌∙◌, subst, arith, Bool, Option, Some, None, Result}
+use Rattle.std.proofs.Common.{◌≡◌, ℕ, ℤ, ◌≤◌, List, [], ◌∷◌, ◌++◌, length, map, refl, sym, ◌∙◌, subst, arith, Bool, Option, Some, None, Result}
 use Rattle.std.specs.Prelude.{OnOk, pos, ◌+ℤ◌, ◌-ℤ◌, ◌≤ℤ◌, neg_ℤ}
 use Rattle.std.specs.List.{flat_map}
 use Rattle.std.specs.Option.{option_map_or}
 use Rattle.std.proofs.lemmas.Int.{ints}
 use Rattle.std.proofs.lemmas.List.{append-nil}
 use Rattle.std.proofs.lemmas.Result.{on_ok_weaker}
-use Rattle.pb_inst.specs.declared.TheConstants.{SUM_BOUND}
+use Rattle.pb_inst.specs.declared.TheConstants.{MAX_CONSTRAINTS, SUM_BOUND}
 use Rattle.pb_inst.specs.declared.constraints.Term.{Term}
 use Rattle.pb_inst.specs.declared.constraints.Relation.{Relation}
 use Rattle.pb_inst.specs.declared.constraints.Relation.TheVariants.{AtLeast, AtMost, Equal}
@@ -18,7 +18,7 @@ use Rattle.pb_normal.specs.Exact.{Inequality, negated, inequalities_of, inequali
 use Rattle.pb_normal.specs.Merging.{opposite, HasValueOf, IsSumOf, AreNormalRows, AddsRows}
 use Rattle.pb_normal.specs.NormalForm.{PositiveRow, total_coefficient, ArePositiveTerms, IsNormal, KeepsCost}
 use Rattle.pb_normal.proofs.ExactLemmas.{least_is, surplus_is}
-use Rattle.pb_normal.proofs.RowLemmas.{clipped_row, one_normal_row, no_normal_row, IsSumOf-negated, AddsRows-append}
+use Rattle.pb_normal.proofs.RowLemmas.{clipped_row, one_normal_row, no_normal_row, IsSumOf-negated, AddsRows-append, row_count_is}
 
 -- the sum is at least the bound
 abbrev pub at_least : List Term → ℤ → Inequality
@@ -77,10 +77,11 @@ form_is p vars rows base stored merged objective seen same normal sum base_is se
   objective = record { coefficients = sum.shape.coefficients; rising = sum.shape.rising; weights = surplus_is p.vars (objective_terms p) base merged sum };
 })
 
-pub form_is_normal : (p : Problem) (vars : ℕ) (rows : List PositiveRow) (base stored : ℤ) (merged objective seen : List PositiveTerm) → vars ≡ p.vars → AreNormalRows p.vars (flat_map inequalities p.constraints) rows → IsSumOf p.vars (objective_terms p) base merged → HasValueOf (objective_terms p) base merged → total_magnitude (objective_terms p) ≤ SUM_BOUND → stored ≡ base → seen ≡ merged → objective ≡ [] ++ seen → IsNormal (record { vars = vars; rows = rows; base = stored; objective = objective })
-form_is_normal p vars rows base stored merged objective seen same normal sum value bounded base_is see copy = rw (same, base_is, copy, see) (record {
+pub form_is_normal : (p : Problem) (vars : ℕ) (rows : List PositiveRow) (base stored : ℤ) (merged objective seen : List PositiveTerm) → vars ≡ p.vars → length p.constraints ≤ MAX_CONSTRAINTS → AreNormalRows p.vars (flat_map inequalities p.constraints) rows → IsSumOf p.vars (objective_terms p) base merged → HasValueOf (objective_terms p) base merged → total_magnitude (objective_terms p) ≤ SUM_BOUND → stored ≡ base → seen ≡ merged → objective ≡ [] ++ seen → IsNormal (record { vars = vars; rows = rows; base = stored; objective = objective })
+form_is_normal p vars rows base stored merged objective seen same few normal sum value bounded base_is see copy = rw (same, base_is, copy, see) (record {
   shape = record { rows = normal.positive; objective = sum.shape };
   limits = record {
+    row_count = (let count = row_count_is p.constraints rows normal.exact in omega arith);
     rows = normal.small;
     lowest = (let low = value.lowest in omega arith);
     coefficients = (let total = value.total in omega arith);

@@ -1,5 +1,5 @@
 -- Rows that are added: what they mean, and that they keep their shape.
-use Rattle.std.proofs.Common.{◌≡◌, ℕ, ℤ, zero, suc, ◌+◌, ◌*◌, ◌≤◌, List, [], ◌∷◌, ◌++◌, length, map, get_or, take, refl, sym, ◌∙◌, ap, subst, arith, Bool, All, slice_get}
+use Rattle.std.proofs.Common.{◌≡◌, ℕ, ℤ, zero, suc, ◌+◌, ◌*◌, ◌≤◌, List, [], ◌∷◌, ◌++◌, length, map, get_or, take, refl, sym, ◌∙◌, ap, subst, arith, Bool, All, slice_get, length-append}
 use Rattle.std.specs.Prelude.{Some, pos, negsuc, ◌+ℤ◌, ◌-ℤ◌, ◌*ℤ◌, ◌≤ℤ◌, neg_ℤ}
 use Rattle.std.specs.List.{flat_map}
 use Rattle.std.proofs.lemmas.Int.{ints, clamps}
@@ -276,3 +276,29 @@ room_for n p i c rows proper read before =
 
 pub all_rows : (n : ℕ) (constraints : List LinearConstraint) (i : ℕ) (rows : List PositiveRow) → length constraints ≤ i → RowsSoFar n constraints i rows → AreNormalRows n (flat_map inequalities constraints) rows
 all_rows n constraints i rows more h = subst (λ (cs : List LinearConstraint). AreNormalRows n (flat_map inequalities cs) rows) (take_all i constraints more) h.normal
+
+-- a constraint gives two rows at most
+two_at_most : (relation : Relation) (terms : List Term) (bound : ℤ) → length (inequalities_of relation terms bound) ≤ 2
+two_at_most AtLeast terms bound = omega arith
+two_at_most AtMost terms bound = omega arith
+two_at_most Equal terms bound = omega arith
+
+inequality_count : (constraints : List LinearConstraint) → length (flat_map inequalities constraints) ≤ 2 * length constraints
+inequality_count [] = omega arith
+inequality_count (c ∷ constraints) =
+    let rest = inequality_count constraints in
+    let here = two_at_most c.relation c.terms c.bound in
+    let whole = ap (λ (is : List Inequality). length is) (flat_map-cons inequalities c constraints) in
+    let parts = length-append (inequalities c) (flat_map inequalities constraints) in
+    omega arith
+
+one_at_most : (is : List Inequality) (rows : List PositiveRow) → AreRowsOf is rows → length rows ≤ length is
+one_at_most _ _ none = omega arith
+one_at_most _ _ (no_row i is rows always are) = let rest = one_at_most is rows are in omega arith
+one_at_most _ _ (one_row i row is rows here are) = let rest = one_at_most is rows are in omega arith
+
+pub row_count_is : (constraints : List LinearConstraint) (rows : List PositiveRow) → AreRowsOf (flat_map inequalities constraints) rows → length rows ≤ 2 * length constraints
+row_count_is constraints rows are =
+    let each = one_at_most (flat_map inequalities constraints) rows are in
+    let all = inequality_count constraints in
+    omega arith

@@ -1,6 +1,6 @@
 -- Rows of positive terms, and when they say the same as an instance.
-use Rattle.std.specs.Prelude.{◌≡◌, ℕ, ◌*◌, ◌<◌, ◌≤◌, Bool, List, All, AllPairs, sum_by, ℤ, pos, ◌+ℤ◌, ◌≤ℤ◌, ◌↔◌, unsigned_abs}
-use Rattle.pb_inst.specs.declared.TheConstants.{SUM_BOUND}
+use Rattle.std.specs.Prelude.{◌≡◌, ℕ, ◌*◌, ◌<◌, ◌≤◌, Bool, List, length, All, AllPairs, sum_by, ℤ, pos, ◌+ℤ◌, ◌≤ℤ◌, ◌↔◌, unsigned_abs}
+use Rattle.pb_inst.specs.declared.TheConstants.{MAX_CONSTRAINTS, SUM_BOUND}
 use Rattle.pb_inst.specs.Problem.{Problem}
 use Rattle.pb_inst.specs.Meaning.{literal_value, IsFeasible, cost}
 use Rattle.pb_normal.specs.declared.terms.PositiveTerm.{PositiveTerm}
@@ -66,8 +66,9 @@ pub record HasNormalShape (f : NormalForm) : Type 0 where
 abbrev pub HasSmallSums : PositiveRow → Type 0
 HasSmallSums row = (row.degree ≤ SUM_BOUND) × (total_coefficient row.terms ≤ SUM_BOUND)
 
--- the sums of all rows, the base, and the least and the greatest cost are within the bound on sums
+-- there are two rows for each constraint at most, and the sums of all rows, the base, and the least and the greatest cost are within the bound on sums
 pub record HasNormalLimits (f : NormalForm) : Type 0 where
+  pub row_count : length f.rows ≤ 2 * MAX_CONSTRAINTS
   pub rows : All HasSmallSums f.rows
   pub lowest : unsigned_abs f.base ≤ SUM_BOUND
   pub coefficients : total_coefficient f.objective ≤ SUM_BOUND

@@ -47,7 +47,7 @@ impl Normal {
         self.vars
     }
 
-    /// The number of rows, at most two for each constraint.
+    /// The number of rows, at most two for each constraint, so at most `2 * MAX_CONSTRAINTS`.
     pub fn len(&self) -> usize
         ensures value { result ≡ length self.now.rows }
         ensures normal { IsNormal self.now }

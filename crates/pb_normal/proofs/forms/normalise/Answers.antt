@@ -48,7 +48,7 @@ invariant_of-result c =
     let rows = all_rows vars c.args.instance.now.constraints c.loop-i.i c.loop-i.rows (omega arith) c.loop-i.invariant in
     let fits : FitsSigned number_width c.merge_objective.new.sum.base = search rules in
     let told = c.in_ok-merge_objective.ensures in
-    form_is_normal c.args.instance.now c.vars.result c.loop-i.rows c.merge_objective.new.sum.base _ c.merge_objective.new.sum.terms.items _ c.deref.result.now c.vars.ensures.value rows told.sum told.value told.bounded (to_z-of_z number_width _ fits) c.deref.ensures.value (c.in_ok-extend_from_slice.ensures.items ∙ ap (λ (ts : List PositiveTerm). ts ++ c.deref.result.now) c.new-objective.ensures.items)
+    form_is_normal c.args.instance.now c.vars.result c.loop-i.rows c.merge_objective.new.sum.base _ c.merge_objective.new.sum.terms.items _ c.deref.result.now c.vars.ensures.value c.vars.ensures.proper.limits.constraint_count rows told.sum told.value told.bounded (to_z-of_z number_width _ fits) c.deref.ensures.value (c.in_ok-extend_from_slice.ensures.items ∙ ap (λ (ts : List PositiveTerm). ts ++ c.deref.result.now) c.new-objective.ensures.items)
 
 pub returns-clause-normal : goal.returns-clause-normal
 returns-clause-normal c =
@@ -56,4 +56,4 @@ returns-clause-normal c =
     let rows = all_rows vars c.args.instance.now.constraints c.loop-i.i c.loop-i.rows (omega arith) c.loop-i.invariant in
     let fits : FitsSigned number_width c.merge_objective.new.sum.base = search rules in
     let told = c.in_ok-merge_objective.ensures in
-    form_is_normal c.args.instance.now c.vars.result c.loop-i.rows c.merge_objective.new.sum.base _ c.merge_objective.new.sum.terms.items _ c.deref.result.now c.vars.ensures.value rows told.sum told.value told.bounded (to_z-of_z number_width _ fits) c.deref.ensures.value (c.in_ok-extend_from_slice.ensures.items ∙ ap (λ (ts : List PositiveTerm). ts ++ c.deref.result.now) c.new-objective.ensures.items)
+    form_is_normal c.args.instance.now c.vars.result c.loop-i.rows c.merge_objective.new.sum.base _ c.merge_objective.new.sum.terms.items _ c.deref.result.now c.vars.ensures.value c.vars.ensures.proper.limits.constraint_count rows told.sum told.value told.bounded (to_z-of_z number_width _ fits) c.deref.ensures.value (c.in_ok-extend_from_slice.ensures.items ∙ ap (λ (ts : List PositiveTerm). ts ++ c.deref.result.now) c.new-objective.ensures.items)
