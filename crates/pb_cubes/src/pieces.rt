@@ -74,10 +74,11 @@ impl Pieces {
         self.cubes.len() as u32 + 1
     }
 
-    /// The cubes as they were handed over, in order.
+    /// The cubes as they were handed over, in order: at most `MAX_CUBES`.
     pub fn cubes(&self) -> &[Cube]
         ensures value { result.now ≡ self.now.cubes }
         ensures within { AreWithin self.now.vars self.now.cubes }
+        ensures few { length result.now ≤ MAX_CUBES }
     {
         &self.cubes
     }
