@@ -189,3 +189,9 @@ clauses_over vars cubes clauses within are from_one k d h =
 -- the literals of a clause stand by rising variable
 pub clauses_rise : (cubes : List (List Literal)) (rows : List PositiveRow) → AreClausesOf cubes rows → HaveRisingVariables rows
 clauses_rise cubes rows are k d h = (clauses_only cubes rows are k d h).4.rising
+
+-- a cube gives one clause at most
+pub no_more_clauses : (cubes : List (List Literal)) (rows : List PositiveRow) → AreClausesOf cubes rows → length rows ≤ length cubes
+no_more_clauses _ _ no_cube = omega arith
+no_more_clauses _ _ (no_clause cube cubes rows both are) = let rest = no_more_clauses cubes rows are in omega arith
+no_more_clauses _ _ (one_clause cube row cubes rows clause are) = let rest = no_more_clauses cubes rows are in omega arith

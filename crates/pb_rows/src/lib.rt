@@ -14,6 +14,8 @@ mod tables_source;
 mod tally;
 mod weighs;
 
+use pb_inst::MAX_CONSTRAINTS;
+
 pub use clauses::Clauses;
 pub use count::Count;
 pub use occurrences::{Occurrence, Occurs, UnitOccurrence};
@@ -22,3 +24,9 @@ pub use tables::{RowTerms, Tables};
 pub use tables_source::TablesSource;
 pub use tally::Tally;
 pub use weighs::Weighs;
+
+/// How many clauses of cubes there may be at most beside the rows of a normal form.
+pub const MAX_CLAUSES: usize = 2_147_483_648;
+
+// Rows and clauses are numbered in 32 bits.
+const _: () = prove!(2 * MAX_CONSTRAINTS + MAX_CLAUSES <= 1 << 32);

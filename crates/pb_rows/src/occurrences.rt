@@ -1,13 +1,12 @@
 //! Where literals occur.
 
-ghost use Rattle.std.specs.Prelude.{◌≡◌, ◌+◌, ◌*◌, ◌^◌, ◌<◌, ◌≤◌, ◌++◌, All, IfOk, OnOk, map};
+ghost use Rattle.std.specs.Prelude.{◌≡◌, ◌+◌, ◌*◌, ◌^◌, ◌<◌, ◌≤◌, ◌++◌, All, OnOk, map};
 ghost use Rattle.pb_rows.specs.Index.{literal_place, entries_of_row};
 
 use crate::count::Count;
 use crate::tally::Tally;
 use crate::weighs::Weighs;
 use pb_inst::{Lit, Memory};
-use std::alloc::AllocError;
 use std::marker::Model;
 
 /// What says in which row a literal occurs, and with which coefficient.
@@ -123,14 +122,6 @@ pub fn place_of(lit: Lit) -> usize
     ensures small { result < 2 ^ 32 }
 {
     2 * (lit.var() as usize - 1) + usize::from(lit.positive())
-}
-
-/// The number of a row as occurrences keep it. More rows than 32 bits can number are refused as if memory had run out; no
-/// instance and its cubes have as many.
-pub fn row_number(row: usize) -> Result<u32, Memory>
-    ensures { IfOk result (λ number. number ≡ row) }
-{
-    u32::try_from(row).map_err(|_| AllocError)
 }
 
 /// Adds where the literals of a row occur.

@@ -10,7 +10,7 @@ ghost use Rattle.pb_normal.specs.Literals.{weight_of};
 use crate::costs::costs_of;
 use crate::count::Count;
 use crate::index::{Index, part};
-use crate::occurrences::{Entry, Occurrence, place_of, push_entries, row_number};
+use crate::occurrences::{Entry, Occurrence, place_of, push_entries};
 use crate::tally::Tally;
 use pb_inst::{Lit, Magnitude, Memory};
 use pb_normal::{Normal, PositiveTerm};
@@ -136,7 +136,7 @@ fn entries_of<C: Count>(alloc: Global, form: &Normal) -> Result<Vec<Entry<C>>, M
 {
     let mut entries = Vec::with_capacity(alloc, room(form))?;
     for row in 0..form.len() {
-        push_entries(&mut entries, row_number(row)?, form.terms(row))?;
+        push_entries(&mut entries, row as u32, form.terms(row))?;
     }
     Ok(entries)
 }

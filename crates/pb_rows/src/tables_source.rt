@@ -1,7 +1,8 @@
 //! Tables that are lent, or that an engine has for itself.
 
-ghost use Rattle.std.specs.Prelude.{◌≡◌, ◌≤◌, ◌++◌, List, All, IfOk};
+ghost use Rattle.std.specs.Prelude.{◌≡◌, ◌≤◌, ◌++◌, List, length, All, IfOk};
 ghost use Rattle.pb_normal.specs.NormalForm.{PositiveRow};
+ghost use Rattle.pb_rows.specs.declared.TheConstants.{MAX_CLAUSES};
 ghost use Rattle.pb_rows.specs.Clauses.{AreClausesOf};
 ghost use Rattle.pb_rows.specs.Tables.{rows_of, clauses_of, constraints_of, AreBeside};
 
@@ -70,12 +71,13 @@ impl<'a, C: Count> TablesSource<'a, C> {
         }
     }
 
-    /// The rows of the form, and the clauses of cubes that are to be false.
+    /// The rows of the form, and the clauses of at most `MAX_CLAUSES` cubes that are to be false.
     pub fn new(
         alloc: Global,
         form: &'a Normal,
         negated: &[Cube],
     ) -> Result<TablesSource<'a, C>, Memory>
+        requires few { length negated.now ≤ MAX_CLAUSES }
         requires variables { All (λ cube. All (λ l. l.var ≤ form.now.vars) cube) negated.now }
         ensures form { IfOk result (λ tables. tables.form ≡ form.now) }
         ensures vars { IfOk result (λ tables. tables.vars ≡ form.now.vars) }

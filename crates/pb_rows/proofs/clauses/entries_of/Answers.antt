@@ -1,8 +1,7 @@
-use Rattle.std.proofs.Common.{◌≡◌, ℕ, ◌≤◌, [], ◌++◌, List, length, map, get_or, All, ap, ◌∙◌, arith, subst, inl, inr}
+use Rattle.std.proofs.Common.{◌≡◌, ℕ, ◌≤◌, [], List, length, map, get_or, All, ap, ◌∙◌, arith, subst, inl, inr}
 use Rattle.std.proofs.lemmas.Bool.{cases_lt}
 use Rattle.pb_inst.specs.Literal.{Literal}
-use Rattle.pb_rows.specs.Occurrences.{Entry}
-use Rattle.pb_rows.specs.Index.{entries_from, entries_of_row}
+use Rattle.pb_rows.specs.Index.{entries_from}
 use Rattle.pb_rows.specs.Clauses.{clause_row}
 use Rattle.pb_rows.proofs.ClauseEntryLemmas.{clause_entries_from-next}
 use Rattle.pb_rows.proofs.clauses.entries_of.Goals as goal
@@ -12,8 +11,7 @@ IsFromOne m = 1 ≤ m.var
 
 pub loop-i-preserved : goal.loop-i-preserved
 loop-i-preserved g c = (
-  (let added : ℕ → List Entry = λ row. c.loop-i.entries.items ++ entries_of_row row (clause_row c.list.result.now).terms in
-      let pushed = c.in_ok-push_entries.ensures.entries ∙ ap added c.in_ok-row_number.ensures in
+  (let pushed = c.in_ok-push_entries.ensures.entries in
       clause_entries_from-next c.args.first c.args.clauses.now c.loop-i.i c.list.result.now c.loop-i.entries.items _ (omega arith) c.list.ensures c.loop-i.invariant.0 pushed),
   λ k h. elim (cases_lt k c.loop-i.i) [
     | inl early ↦ c.loop-i.invariant.1 k early

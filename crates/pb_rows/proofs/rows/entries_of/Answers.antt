@@ -1,4 +1,4 @@
-use Rattle.std.proofs.Common.{◌≡◌, ℕ, ◌+◌, ◌<◌, [], ◌++◌, List, length, map, sym, ap, subst, ◌∙◌, arith}
+use Rattle.std.proofs.Common.{◌≡◌, ℕ, ◌+◌, ◌<◌, [], ◌++◌, List, length, sym, ap, subst, ◌∙◌, arith}
 use Rattle.std.specs.Prelude.{IsSomeAnd}
 use Rattle.std.proofs.lemmas.List.{map-id}
 use Rattle.std.proofs.lemmas.Option.{slice_get-get_or}
@@ -17,10 +17,8 @@ loop-row-preserved g c =
     let terms = c.terms.result.now in
     let within : row < length rows = omega arith in
     let read : (row_at rows row).terms ≡ terms = subst (λ found. IsSomeAnd found (λ (r : PositiveRow). r.terms ≡ terms)) (slice_get-get_or rows row (record { terms = []; degree = 0 }) within) c.terms.ensures in
-    let added : ℕ → List Entry = λ number. c.loop-row.entries.items ++ entries_of_row number (map (λ (t : PositiveTerm). t) terms) in
     c.in_ok-push_entries.ensures.entries
-    ∙ (ap added c.in_ok-row_number.ensures
     ∙ (ap (λ (ts : List PositiveTerm). c.loop-row.entries.items ++ entries_of_row row ts) (map-id terms ∙ sym read)
     ∙ (ap (λ (es : List Entry). es ++ entries_of_row row (row_at rows row).terms) c.loop-row.invariant
     ∙ (ap (λ (number : ℕ). entries_from 0 rows row ++ entries_of_row number (row_at rows row).terms) (let same : row ≡ 0 + row = omega arith in same)
-    ∙ sym (entries_from-next 0 rows row)))))
+    ∙ sym (entries_from-next 0 rows row))))

@@ -1,4 +1,4 @@
-use Rattle.std.proofs.Common.{◌≡◌, ℕ, ◌-◌, length, ap, ◌∙◌, arith}
+use Rattle.std.proofs.Common.{◌≡◌, length, ap, ◌∙◌, arith}
 use Rattle.pb_rows.specs.Clauses.{clause_row}
 use Rattle.pb_rows.specs.Constraints.{Constraints, row_at}
 use Rattle.pb_rows.proofs.TablesLemmas.{clause_at, clause_variables}
