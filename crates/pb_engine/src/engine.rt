@@ -3,6 +3,7 @@
 ghost use Rattle.std.specs.Prelude.{◌≡◌, ◌+◌, ◌<◌, ◌≤◌, [], ◌∷◌, ◌++◌, false, true, length, take, None, All, IfOk, IfSome, slice_index_or, ◌≤ℤ◌, pos, neg_ℤ, List};
 ghost use Rattle.pb_inst.specs.declared.TheConstants.{SUM_BOUND};
 ghost use Rattle.pb_normal.specs.NormalForm.{PositiveRow};
+ghost use Rattle.pb_rows.specs.declared.TheConstants.{MAX_CLAUSES};
 ghost use Rattle.pb_rows.specs.Clauses.{AreClausesOf};
 ghost use Rattle.pb_rows.specs.Constraints.{row_at};
 ghost use Rattle.pb_rows.specs.Tables.{AreBeside, terms_in};
@@ -48,13 +49,14 @@ impl<'a, C: Count> Model for CountingEngine<'a, C> {
 
 impl<'a, C: Count> CountingEngine<'a, C> {
     /// The empty trail over the rows of the normal form and, for each cube in order, the clause that some literal of it is
-    /// false; a cube that contradicts itself has none. It builds tables of its own; `Rows`, `Clauses` and `over` share them
+    /// false; a cube that contradicts itself has none. There may be `MAX_CLAUSES` cubes. It builds tables of its own; `Rows`, `Clauses` and `over` share them
     /// among engines. Nothing after it takes memory.
     pub fn new(
         alloc: Global,
         form: &'a Normal,
         negated: &'a [Cube],
     ) -> Result<CountingEngine<'a, C>, Memory>
+        requires few { length negated.now ≤ MAX_CLAUSES }
         requires variables { All (λ cube. All (λ l. l.var ≤ form.now.vars) cube) negated.now }
         ensures form { IfOk result (λ e. (e.form ≡ form.now) × (e.vars ≡ form.now.vars)) }
         ensures rows { IfOk result (λ e. (clauses : List PositiveRow) × (e.rows ≡ form.now.rows ++ clauses) × AreClausesOf negated.now clauses) }
