@@ -2,6 +2,7 @@
 
 ghost use Rattle.std.specs.Prelude.{◌≡◌, ◌++◌, ◌≤◌, List, All, IfOk, length, vec_capacity};
 ghost use Rattle.pb_normal.specs.NormalForm.{PositiveRow};
+ghost use Rattle.pb_cubes.specs.declared.TheConstants.{MAX_CUBES};
 ghost use Rattle.pb_engine.specs.Clauses.{AreClausesOf};
 ghost use Rattle.pb_engine.specs.Tables.{AreBeside};
 
@@ -22,13 +23,14 @@ pub struct SearchState<'a> {
 }
 
 impl<'a> SearchState<'a> {
-    /// A state over the normal form, whose solutions make each of the cubes false.
+    /// A state over the normal form, whose solutions make each of the cubes false. There may be `MAX_CUBES` of them.
     pub fn new(
         alloc: Global,
         normal: &'a Normal,
         negated: &'a [Cube],
     ) -> Result<SearchState<'a>, Memory>
-        requires { All (λ cube. All (λ l. l.var ≤ normal.now.vars) cube) negated.now }
+        requires few { length negated.now ≤ MAX_CUBES }
+        requires variables { All (λ cube. All (λ l. l.var ≤ normal.now.vars) cube) negated.now }
         ensures form { IfOk result (λ t. t.engine.form ≡ normal.now) }
         ensures vars { IfOk result (λ t. t.engine.vars ≡ normal.now.vars) }
         ensures rows { IfOk result (λ t. (clauses : List PositiveRow) × (t.engine.rows ≡ normal.now.rows ++ clauses) × AreClausesOf negated.now clauses) }

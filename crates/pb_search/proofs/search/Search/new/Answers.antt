@@ -11,7 +11,7 @@ invariant_of-result c =
     laid_out c.args.instance.now c.args.normal.now c.args.pieces.now c.in_ok-cube.cube c.in_ok-rest.rest c.clause_laws.ensures.met c.requires.vars c.requires.feasible c.requires.costs c.vars-vars.ensures.proper.variable_count c.requires.pieces none
     (subst (λ (x : List (List Literal)). IsMade c.args.normal.now x c.in_ok-rest.rest) c.cubes.ensures.value all)
 
-pub new-requires-2 : goal.new-requires-2
-new-requires-2 c =
+pub new-requires-2-clause-variables : goal.new-requires-2-clause-variables
+new-requires-2-clause-variables c =
     subst (λ (x : List (List Literal)). AreWithin c.args.normal.now.vars x) (sym c.cubes.ensures.value)
     (λ k d within i e inside. omega (arith, c.requires.vars, c.requires.pieces, c.cubes.ensures.within k d within i e inside))
