@@ -1,14 +1,17 @@
 //! The one command.
 ghost use Rattle.std.specs.Prelude.{◌≡◌, codes, false, IfOk};
 ghost use Rattle.clap.specs.Words.{app_of, new_app, rule_of};
-ghost use Rattle.pbcube.specs.CommandLine.{pbcube, format, workers, split, cubes, file};
+ghost use Rattle.pbcube.specs.CommandLine.{pbcube, format, workers, split, cubes, nodes, file};
 
+use crate::asked::MAX_NODES;
 use crate::help::{ABOUT, EXAMPLES_AND_STATUSES, LONG_ABOUT};
 use clap::builder::ValueParser;
 use clap::{Arg, Command};
+use pb_cubes::MAX_SPLIT;
+use pb_inst::MAX_WORKERS;
 use std::alloc::{AllocError, Global};
 
-/// `pbcube [--format FORMAT] [--workers W] [--split K] [--cubes FILE] FILE`
+/// `pbcube [--format FORMAT] [--workers W] [--split K] [--cubes FILE] [--nodes B] FILE`
 pub fn command<'a>(alloc: Global) -> Result<Command<'a>, AllocError>
     ensures { IfOk result (λ command. app_of command ≡ pbcube) }
 {
@@ -17,6 +20,7 @@ pub fn command<'a>(alloc: Global) -> Result<Command<'a>, AllocError>
         .arg(workers_option(alloc))?
         .arg(split_option(alloc))?
         .arg(cubes_option(alloc))?
+        .arg(nodes_option(alloc))?
         .arg(file_operand(alloc))?;
     Ok(command)
 }
@@ -53,7 +57,7 @@ fn workers_option<'a>(alloc: Global) -> Arg<'a>
         .default_value("1")
         .value_name("W")
         .help("Workers, 1 to 64: the threads that share the work")
-        .value_parser(ValueParser::Unsigned(1, 64))
+        .value_parser(ValueParser::Unsigned(1, u64::from(MAX_WORKERS)))
 }
 
 // `--split K`
@@ -66,7 +70,7 @@ fn split_option<'a>(alloc: Global) -> Arg<'a>
         .default_value("0")
         .value_name("K")
         .help("Divide the work by the K most frequent variables, 0 to 12")
-        .value_parser(ValueParser::Unsigned(0, 12))
+        .value_parser(ValueParser::Unsigned(0, u64::from(MAX_SPLIT)))
 }
 
 // `--cubes FILE`
@@ -78,6 +82,18 @@ fn cubes_option<'a>(alloc: Global) -> Arg<'a>
         .long("cubes")
         .value_name("FILE")
         .help("A file of cubes that divide the work, lines `a LITERALS 0`; none by default")
+}
+
+// `--nodes B`
+fn nodes_option<'a>(alloc: Global) -> Arg<'a>
+    ensures rule { rule_of result ≡ nodes }
+    ensures local { result.global ≡ false }
+{
+    Arg::new(alloc, "nodes")
+        .long("nodes")
+        .value_name("B")
+        .help("Make at most B decisions in each piece, 0 to 1000000000; no limit by default")
+        .value_parser(ValueParser::Unsigned(0, MAX_NODES))
 }
 
 // `FILE`

@@ -14,19 +14,29 @@ assignment, or that nothing is feasible, or which fault the input has.";
 pub const EXAMPLES_AND_STATUSES: &str = "\
 Cubes and the split divide the work into pieces among the workers, which are
 threads; without them there is one piece, for one worker. Where they are
-accepted, neither they nor the number of workers change a byte of the answer.
+accepted and no piece is cut, neither they nor the number of workers change a
+byte of the answer.
+
+With --nodes B a piece that needs more than B decisions is cut. Then the answer
+is the best that was found: s SATISFIABLE with its cost and values, or s UNKNOWN
+alone where nothing was. K pieces make at most B times K decisions in all. With
+several workers the bytes of a run in which a piece was cut may differ from run
+to run; those of other runs never do.
 
 Examples:
   pbcube instance.opb                          an OPB instance, by one worker
   pbcube --format cnf formula.cnf              a DIMACS CNF formula
   pbcube --workers 4 --split 3 instance.opb    four workers on nine pieces
   pbcube --cubes cubes.txt instance.opb        pieces from a file of cubes
+  pbcube --nodes 1000 instance.opb             at most 1000 decisions
 
 Exit status:
   30  s OPTIMUM FOUND: the least cost, and the first assignment of that cost
   20  s UNSATISFIABLE: nothing is feasible
-  10  s SATISFIABLE: there is no objective; the first feasible assignment
+  10  s SATISFIABLE: there is no objective; the first feasible assignment;
+      or a piece was cut; the best assignment that was found
    0  s UNSUPPORTED: the input, the cubes or the split are refused;
-      s UNKNOWN: memory ran out; also after help
+      s UNKNOWN: memory ran out, or a piece was cut and nothing was found;
+      also after help
    1  a file cannot be opened or read, or the output cannot be written
    2  the command line is refused";

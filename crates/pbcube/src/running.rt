@@ -9,7 +9,7 @@ use crate::statuses::{ProgramFault, exit_status};
 use crate::words::line;
 use clap::Error;
 use clap::error::ErrorKind;
-use pb_solve::{Device, Options, RunFault, Status, report_memory, run};
+use pb_solve::{Device, Options, Ran, RunFault, report_memory, run};
 use std::alloc::Global;
 use std::io::{Empty, Read, Write};
 use std::thread::Threads;
@@ -33,7 +33,7 @@ pub fn program<'a, R: Threads + Sync, F: Files, W: Write, E: Write>(
         Err(fault) => return end_at_line(&fault, &mut out, err),
     };
     match run_on_files(rt, alloc, line, files, &mut out) {
-        Ok(status) => exit_status(status),
+        Ok(ran) => exit_status(ran.status),
         Err(fault) => end_at_fault(fault, err),
     }
 }
@@ -52,7 +52,7 @@ fn run_on_files<'a, R: Threads + Sync, F: Files, W: Write>(
     line: Line<'a>,
     files: &mut F,
     out: &mut Device<W>,
-) -> Result<Status, ProgramFault<'a>>
+) -> Result<Ran, ProgramFault<'a>>
     requires { out.old.failed ≡ false }
     ensures { FetchesFor F.fetches line.entry files.old files.new }
 {
@@ -66,7 +66,7 @@ fn run_on_files<'a, R: Threads + Sync, F: Files, W: Write>(
     };
     let Some(name) = cubes else {
         return match run_alone(rt, alloc, input, options, out) {
-            Ok(status) => Ok(status),
+            Ok(ran) => Ok(ran),
             Err(fault) => Err(fault_on(file, file, fault)),
         };
     };
@@ -74,7 +74,7 @@ fn run_on_files<'a, R: Threads + Sync, F: Files, W: Write>(
         return Err(ProgramFault::CannotRead(name));
     };
     match run_with_cubes(rt, alloc, input, cubes, options, out) {
-        Ok(status) => Ok(status),
+        Ok(ran) => Ok(ran),
         Err(fault) => Err(fault_on(file, name, fault)),
     }
 }
@@ -85,7 +85,7 @@ fn run_alone<R: Threads + Sync, I: Read + Drop, W: Write>(
     input: I,
     options: Options,
     out: &mut Device<W>,
-) -> Result<Status, RunFault>
+) -> Result<Ran, RunFault>
     requires { out.old.failed ≡ false }
 {
     let mut input = Device::new(input);
@@ -106,7 +106,7 @@ fn run_with_cubes<R: Threads + Sync, I: Read + Drop, W: Write>(
     cubes: I,
     options: Options,
     out: &mut Device<W>,
-) -> Result<Status, RunFault>
+) -> Result<Ran, RunFault>
     requires { out.old.failed ≡ false }
 {
     let mut input = Device::new(input);

@@ -1,5 +1,6 @@
 //! From the words to what they ask for.
 ghost use Rattle.std.specs.Prelude.{◌≡◌, ◌≢◌, ◌≤◌, map, IfErr, IfOk, IfSome, IsNone, Some, SomeIff, []};
+ghost use Rattle.pb_inst.specs.declared.TheConstants.{MAX_WORKERS};
 ghost use Rattle.clap.specs.Words.{fault_of, found_of, kind_of, matches_of, rows_of};
 ghost use Rattle.pbcube.specs.CommandLine.{HasNoLine, IsLineOf, MayFailBy, format_name, pbcube};
 
@@ -38,6 +39,7 @@ fn line_of<'a>(matches: &ArgMatches<'a>) -> Option<Line<'a>>
         format: format_of(matches.get_str("format")?)?,
         workers: workers_of(matches.get_one::<u32>("workers")?)?,
         split: matches.get_one::<u32>("split")?,
+        nodes: matches.try_get_one::<u64>("nodes").ok()?,
     };
     Some(Line {
         file: matches.get_str("file")?,
@@ -59,9 +61,9 @@ fn format_of(name: &str) -> Option<Format>
     }
 }
 
-// So many workers, from 1 to 64.
+// So many workers, from 1 to `MAX_WORKERS`.
 fn workers_of(count: u32) -> Option<Workers>
-    ensures { SomeIff result ((1 ≤ count) × (count ≤ 64)) count }
+    ensures { SomeIff result ((1 ≤ count) × (count ≤ MAX_WORKERS)) count }
 {
     Workers::new(count).ok()
 }
