@@ -2,7 +2,7 @@
 
 ghost use Rattle.std.specs.Prelude.{◌≡◌, ◌≤◌, true, All};
 
-use crate::{Count, CountingEngine, Engine, RowTerms, Step};
+use crate::{Count, CountingEngine, Engine, MAX_CLAUSES, RowTerms, Step};
 use pb_inst::{Cube, InstanceBuilder, Lit, Magnitude, Number, Relation, Term};
 use pb_normal::{Normal, normalise};
 use std::alloc::Global;
@@ -46,6 +46,7 @@ impl<'c> Course<'c> {
         let form = form(rt, alloc, self.vars, self.costs, self.rows);
         let cubes = cubes(rt, alloc, self.cubes);
         assert!(rt; are_within(&cubes, form.vars()));
+        assert!(rt; cubes.len() <= MAX_CLAUSES);
         let mut engine = Engine::new(alloc, &form, &cubes).expect(rt, "memory");
         self.first_failure(rt, &mut engine)
     }
