@@ -1,6 +1,7 @@
 //! The program over memory: its statuses, and what it writes to either output.
 ghost use Rattle.std.specs.Prelude.{⊤};
 
+use crate::asked::MAX_NODES;
 use crate::files::Files;
 use crate::running::{out_of_memory, program};
 use std::alloc::Global;
@@ -114,7 +115,7 @@ struct Case {
     status: u8,
 }
 
-const CASES: [Case; 17] = [
+const CASES: [Case; 22] = [
     Case {
         words: &["pbcube", "tie.opb"],
         out: b"o 3\ns OPTIMUM FOUND\nv -x1 x2 -x3\n",
@@ -235,6 +236,36 @@ const CASES: [Case; 17] = [
         err: b"",
         status: 0,
     },
+    Case {
+        words: &["pbcube", "--nodes", "0", "tie.opb"],
+        out: b"s UNKNOWN\n",
+        err: b"",
+        status: 0,
+    },
+    Case {
+        words: &["pbcube", "--nodes", "1", "tie.opb"],
+        out: b"o 3\ns SATISFIABLE\nv x1 -x2 x3\n",
+        err: b"",
+        status: 10,
+    },
+    Case {
+        words: &["pbcube", "--nodes", "1000", "tie.opb"],
+        out: b"o 3\ns OPTIMUM FOUND\nv -x1 x2 -x3\n",
+        err: b"",
+        status: 30,
+    },
+    Case {
+        words: &["pbcube", "--nodes", "1000000000", "tie.opb"],
+        out: b"o 3\ns OPTIMUM FOUND\nv -x1 x2 -x3\n",
+        err: b"",
+        status: 30,
+    },
+    Case {
+        words: &["pbcube", "--nodes", "0", "none_feasible.opb"],
+        out: b"s UNSATISFIABLE\n",
+        err: b"",
+        status: 20,
+    },
 ];
 
 #[test]
@@ -277,7 +308,7 @@ fn the_file_is_fetched_before_the_cube_file(rt: HostRuntime) -> Result<(), Fail>
 }
 
 // Words that are refused, and a part of what is written to standard error.
-const REFUSED: [(&[&str], &str); 11] = [
+const REFUSED: [(&[&str], &str); 14] = [
     (&["pbcube"], "<FILE>"),
     (&["pbcube", "tie.opb", "product.opb"], "'product.opb'"),
     (
@@ -295,6 +326,12 @@ const REFUSED: [(&[&str], &str); 11] = [
     ),
     (&["pbcube", "--split", "-1", "tie.opb"], "'-1'"),
     (
+        &["pbcube", "--nodes", "1000000001", "tie.opb"],
+        "1000000001 is not in 0..=1000000000",
+    ),
+    (&["pbcube", "--nodes", "-1", "tie.opb"], "'-1'"),
+    (&["pbcube", "--nodes", "x", "tie.opb"], "'x'"),
+    (
         &["pbcube", "--split", "1", "--split", "2", "tie.opb"],
         "multiple times",
     ),
@@ -305,6 +342,11 @@ const REFUSED: [(&[&str], &str); 11] = [
     (&["pbcube", "--nothing", "tie.opb"], "'--nothing'"),
     (&["pbcube", "tie.opb", "--cubes"], "--cubes"),
 ];
+
+#[test]
+fn the_most_nodes(rt: HostRuntime) {
+    assert_eq!(rt; MAX_NODES, 1000 * 1000 * 1000);
+}
 
 #[test]
 fn refused_words(rt: HostRuntime) -> Result<(), Fail> {
@@ -326,7 +368,7 @@ fn assert_refused(
     assert_has(rt, outcome.err.as_slice(), part);
 }
 
-const SHORT_HELP: [&str; 8] = [
+const SHORT_HELP: [&str; 10] = [
     "Usage: pbcube [OPTIONS] <FILE>",
     "--format <FORMAT>",
     "opb, cnf or icnf [default: opb]",
@@ -335,13 +377,16 @@ const SHORT_HELP: [&str; 8] = [
     "0 to 12 [default: 0]",
     "--cubes <FILE>",
     "`a LITERALS 0`",
+    "--nodes <B>",
+    "0 to 1000000000",
 ];
 
-const LONG_HELP: [&str; 6] = [
+const LONG_HELP: [&str; 7] = [
     "Usage: pbcube [OPTIONS] <FILE>",
     "--format <FORMAT>",
     "--workers <W>",
     "--split <K>",
+    "--nodes <B>",
     "pbcube --format cnf formula.cnf",
     "30  s OPTIMUM FOUND",
 ];

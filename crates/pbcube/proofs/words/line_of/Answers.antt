@@ -1,4 +1,5 @@
 use Rattle.std.proofs.Common.{◌≡◌, ap, sym, subst, refl, codes, Some, option_map, ◌∙◌, ◌≤◌}
+use Rattle.pb_inst.specs.declared.TheConstants.{MAX_WORKERS}
 use Rattle.clap.specs.Words.{found_of, one_of, rows_of}
 use Rattle.clap.proofs.WalkLemmas.{first_value-rows, one_text-rows}
 use Rattle.pbcube.specs.CommandLine.{format_name}
@@ -43,7 +44,7 @@ returns-in_err-workers_of-clause-none c =
     let found = found_of c.args.matches.now in
     λ none line low high h.
     let same : line.options.workers ≡ c.in_ok-get_one.field-0 = same_number 32 (one_of (codes "workers") (rows_of found)) line.options.workers c.in_ok-get_one.field-0 h.workers (λ t e. (c.in_ok-get_one.ensures.value t (one_text-rows found (codes "workers") ∙ e)).0) in
-    c.in_err-workers_of.ensures (subst (λ n. 1 ≤ n) same low, subst (λ n. n ≤ 64) same high)
+    c.in_err-workers_of.ensures (subst (λ n. 1 ≤ n) same low, subst (λ n. n ≤ MAX_WORKERS) same high)
 
 pub returns-in_err-get_one-2-clause-none : goal.returns-in_err-get_one-2-clause-none
 returns-in_err-get_one-2-clause-none c =
