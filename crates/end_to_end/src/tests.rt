@@ -1,6 +1,7 @@
 //! One run over readers and a writer, and what the tests expect of it.
 
 mod beginnings;
+mod budgets;
 mod cases;
 mod devices;
 mod division;
@@ -15,7 +16,7 @@ mod spoiled_texts;
 mod workers;
 
 use pb_inst::Workers;
-use pb_solve::{Device, Format, Options, RunFault, Status, run};
+use pb_solve::{Device, Format, Options, Ran, RunFault, Status, run};
 use std::alloc::Global;
 use std::io::{Empty, Read, Write};
 use std::process::Abort;
@@ -27,17 +28,22 @@ const WORKERS: [u32; 4] = [1, 2, 3, 64];
 /// How a run ended, and which devices have failed in it.
 #[derive(Clone, Copy, Debug, PartialEq, Eq)]
 struct Ended {
-    answer: Result<Status, RunFault>,
+    answer: Result<Ran, RunFault>,
     input_failed: bool,
     cubes_failed: bool,
     out_failed: bool,
 }
 
 impl Ended {
-    /// The run has written its report, and no device has failed.
+    /// The run has written its report with no piece cut, and no device has failed.
     fn reported(status: Status) -> Ended {
+        Ended::with_budget(status, false)
+    }
+
+    /// The run has written its report, with a piece cut or with none, and no device has failed.
+    fn with_budget(status: Status, cut: bool) -> Ended {
         Ended {
-            answer: Ok(status),
+            answer: Ok(Ran { status, cut }),
             input_failed: false,
             cubes_failed: false,
             out_failed: false,
@@ -63,6 +69,7 @@ struct Asked<'a> {
     cubes: Option<&'a [u8]>,
     workers: u32,
     split: u32,
+    nodes: Option<u64>,
 }
 
 fn options(rt: &impl Abort, format: Format, workers: u32, split: u32) -> Options {
@@ -70,10 +77,11 @@ fn options(rt: &impl Abort, format: Format, workers: u32, split: u32) -> Options
         format,
         workers: Workers::new(workers).expect(rt, "a number of workers"),
         split,
+        nodes: None,
     }
 }
 
-/// Runs as asked, and compares the report and the status with these. Where they differ it tells how the text begins.
+/// Runs as asked, and compares the report and the status with these, where no piece is to be cut.
 fn assert_report<R: Abort + Threads + Sync>(
     rt: &R,
     alloc: Global,
@@ -81,15 +89,23 @@ fn assert_report<R: Abort + Threads + Sync>(
     report: &[u8],
     status: Status,
 ) {
+    assert_ended(rt, alloc, asked, report, Ended::reported(status));
+}
+
+/// Runs as asked, and compares the report and the end with these. Where they differ it tells how the text begins.
+fn assert_ended<R: Abort + Threads + Sync>(
+    rt: &R,
+    alloc: Global,
+    asked: Asked<'_>,
+    report: &[u8],
+    want: Ended,
+) {
     let mut written = Vec::new(alloc);
-    let options = options(rt, asked.format, asked.workers, asked.split);
+    let mut options = options(rt, asked.format, asked.workers, asked.split);
+    options.nodes = asked.nodes;
     let ended = run_on(rt, alloc, asked.text, asked.cubes, options, &mut written);
     let beginning = asked.text.get(..200).unwrap_or(asked.text);
-    assert_eq!(rt;
-        ended,
-        Ended::reported(status),
-        "{beginning:?}, {options:?}"
-    );
+    assert_eq!(rt; ended, want, "{beginning:?}, {options:?}");
     assert_eq!(rt; written.as_slice(), report, "{beginning:?}, {options:?}");
 }
 

@@ -98,6 +98,7 @@ fn assert_beginning<R: Abort + Threads + Sync>(
             cubes: None,
             workers,
             split: 0,
+            nodes: None,
         };
         assert_report(rt, alloc, asked, expected.report, expected.status);
     }

@@ -11,10 +11,14 @@ pub struct Case {
     pub status: Status,
 }
 
-/// An objective and two constraints. Two assignments of three variables cost as little, and the tie decides.
+/// An objective and two constraints. Two assignments of three variables cost as little.
+pub const COVER_TEXT: &[u8] =
+    b"* #variable= 3 #constraint= 2\nmin: 2 x1 3 x2 1 x3 ;\n1 x1 1 x2 >= 1 ;\n1 x2 1 x3 >= 1 ;\n";
+
+/// The tie decides.
 pub const COVER: Case = Case {
     format: Format::Opb,
-    text: b"* #variable= 3 #constraint= 2\nmin: 2 x1 3 x2 1 x3 ;\n1 x1 1 x2 >= 1 ;\n1 x2 1 x3 >= 1 ;\n",
+    text: COVER_TEXT,
     report: b"o 3\ns OPTIMUM FOUND\nv -x1 x2 -x3\n",
     status: Status::Optimum,
 };

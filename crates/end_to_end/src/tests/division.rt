@@ -51,6 +51,7 @@ fn assert_divided<R: Abort + Threads + Sync>(
                 cubes,
                 workers,
                 split,
+                nodes: None,
             };
             assert_report(rt, alloc, asked, case.report, case.status);
         }
@@ -89,13 +90,16 @@ fn as_many_pieces_as_workers(rt: HostRuntime) -> Result<(), Fail> {
 fn a_split_of_more_variables_than_there_are(rt: HostRuntime) {
     let report = b"c refused split: BadSplit\ns UNSUPPORTED\n".as_slice();
     for workers in WORKERS {
-        let asked = Asked {
-            format: CONTRADICTION.format,
-            text: CONTRADICTION.text,
-            cubes: None,
-            workers,
-            split: 2,
-        };
-        assert_report(&rt, rt.alloc(), asked, report, Status::Unsupported);
+        for nodes in [None, Some(0)] {
+            let asked = Asked {
+                format: CONTRADICTION.format,
+                text: CONTRADICTION.text,
+                cubes: None,
+                workers,
+                split: 2,
+                nodes,
+            };
+            assert_report(&rt, rt.alloc(), asked, report, Status::Unsupported);
+        }
     }
 }

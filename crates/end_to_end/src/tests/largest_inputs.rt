@@ -83,6 +83,7 @@ fn asked<'a>(text: &'a [u8], cubes: Option<&'a [u8]>, split: u32) -> Asked<'a> {
         cubes,
         workers: 2,
         split,
+        nodes: None,
     }
 }
 

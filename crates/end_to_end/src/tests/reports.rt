@@ -341,8 +341,14 @@ const CASES: [NamedCase; 46] = [
     },
 ];
 
-/// Runs the case with each number of workers and so many splits.
-fn assert_case<R: Abort + Threads + Sync>(rt: &R, alloc: Global, case: &NamedCase, splits: u32) {
+/// Runs the case with each number of workers and so many splits, and with this budget of decisions.
+fn assert_case<R: Abort + Threads + Sync>(
+    rt: &R,
+    alloc: Global,
+    case: &NamedCase,
+    splits: u32,
+    nodes: Option<u64>,
+) {
     for split in 0..splits {
         for workers in WORKERS {
             let asked = Asked {
@@ -351,12 +357,14 @@ fn assert_case<R: Abort + Threads + Sync>(rt: &R, alloc: Global, case: &NamedCas
                 cubes: None,
                 workers,
                 split,
+                nodes,
             };
             assert_report(rt, alloc, asked, case.report, case.status);
         }
     }
 }
 
+// No piece needs as many decisions as the budget allows, so that with it each report is the same, and no piece is cut.
 #[test]
 fn ample_memory(rt: HostRuntime) {
     for case in &CASES {
@@ -366,7 +374,9 @@ fn ample_memory(rt: HostRuntime) {
         } else {
             2
         };
-        assert_case(&rt, rt.alloc(), case, splits);
+        for nodes in [None, Some(1000)] {
+            assert_case(&rt, rt.alloc(), case, splits, nodes);
+        }
     }
 }
 
@@ -449,6 +459,7 @@ fn reports_on_texts_with_cube_files_and_splits(rt: HostRuntime) {
                 cubes: Some(case.cubes),
                 workers,
                 split: case.split,
+                nodes: None,
             };
             assert_report(&rt, rt.alloc(), asked, case.report, case.status);
         }

@@ -47,6 +47,7 @@ fn assert_text<R: Abort + Threads + Sync>(
             cubes,
             workers: 1,
             split,
+            nodes: None,
         };
         assert_as_listed(rt, alloc, asked)?;
     }

@@ -2,11 +2,12 @@
 
 use pb_board::Board;
 use pb_cubes::Pieces;
-use pb_inst::{Assignment, Best, Cube, Lit, Number, Workers};
+use pb_inst::{Assignment, Best, Cube, Instance, Lit, Number, Workers};
 use pb_normal::normalise;
-use pb_read::read_cnf;
-use pb_solve::{Gate, OpenGate, solve, work};
+use pb_read::{read_cnf, read_opb};
+use pb_solve::{Gate, OpenGate, Part, solve, work};
 use std::alloc::Global;
+use std::process::Abort;
 use std::sync::atomic::{AtomicBool, AtomicU64, Ordering};
 use std::test::Fail;
 use std::thread::Threads;
@@ -16,6 +17,12 @@ const MOST_TURNS: u32 = 100_000_000;
 
 /// The clauses `x1 or x2` and `~x1 or x2`, whose first assignment makes x2 alone true.
 const TWO_CLAUSES: &[u8] = b"p cnf 2 2\n1 2 0\n-1 2 0\n";
+
+/// The cubes `x1` and `~x1`.
+const TWO_CUBES: &[&[(u32, bool)]] = &[&[(1, true)], &[(1, false)]];
+
+/// Either variable alone is enough, and the first one costs more.
+const DEAR_AND_CHEAP: &[u8] = b"min: 9 x1 1 x2 ;\n1 x1 1 x2 >= 1 ;\n";
 
 /// What is held: the cost, and the values as bits, that of x1 first.
 fn held(best: &Best<'_>) -> Option<(Number, u64)> {
@@ -32,20 +39,15 @@ fn bits(assignment: &Assignment) -> u64 {
     }
 }
 
-/// The cubes `x1` and `~x1`.
-fn two_cubes(alloc: Global) -> Result<Vec<Cube>, Fail> {
+/// The cubes of these literals, each a variable and the value that makes it true.
+fn cubes(alloc: Global, lists: &[&[(u32, bool)]]) -> Result<Vec<Cube>, Fail> {
     let mut cubes = Vec::new(alloc);
-    for positive in [true, false] {
-        cubes.push(Cube::new(alloc, &[Lit::new(1, positive)?])?)?;
-    }
-    Ok(cubes)
-}
-
-/// So many cubes without a literal.
-fn empty_cubes(alloc: Global, count: u32) -> Result<Vec<Cube>, Fail> {
-    let mut cubes = Vec::new(alloc);
-    for _ in 0..count {
-        cubes.push(Cube::new(alloc, &[])?)?;
+    for list in lists {
+        let mut lits = Vec::new(alloc);
+        for (var, positive) in *list {
+            lits.push(Lit::new(*var, *positive)?)?;
+        }
+        cubes.push(Cube::new(alloc, &lits)?)?;
     }
     Ok(cubes)
 }
@@ -183,47 +185,131 @@ impl Gate for Crowd {
     }
 }
 
-// One worker names all pieces, and its seat has one claim more.
-#[test]
-fn work_alone(rt: HostRuntime) -> Result<(), Fail> {
-    let alloc = rt.alloc();
+/// Holds the pass of piece 0 until that of piece 1 has begun, and that of piece 1 until that of piece 2 has.
+#[derive(Drop)]
+struct Procession {
+    begun: [AtomicBool; 3],
+    late: AtomicBool,
+}
+
+impl Procession {
+    fn new() -> Procession {
+        Procession {
+            begun: [
+                AtomicBool::new(false),
+                AtomicBool::new(false),
+                AtomicBool::new(false),
+            ],
+            late: AtomicBool::new(false),
+        }
+    }
+}
+
+impl Gate for Procession {
+    fn pass(&self, _worker: u32, piece: u32) {
+        let at = piece as usize;
+        if let Some(begun) = self.begun.get(at) {
+            begun.store(true, Ordering::SeqCst);
+        }
+        if let Some(next) = self.begun.get(at + 1)
+            && !is_met(next)
+        {
+            self.late.store(true, Ordering::SeqCst);
+        }
+    }
+}
+
+/// What one worker is to do on the two clauses.
+struct Alone {
+    cubes: &'static [&'static [(u32, bool)]],
+    nodes: Option<u64>,
+    done: &'static [u32],
+    cut: &'static [u32],
+    held: (Number, u64),
+}
+
+const ALONE: [Alone; 3] = [
+    Alone {
+        cubes: TWO_CUBES,
+        nodes: None,
+        done: &[0, 1, 2],
+        cut: &[],
+        held: (0, 2),
+    },
+    Alone {
+        cubes: TWO_CUBES,
+        nodes: Some(1000),
+        done: &[0, 1, 2],
+        cut: &[],
+        held: (0, 2),
+    },
+    // Without a decision the piece of the empty cube can't be ended. That of x1 can, by propagation, and nothing remains.
+    Alone {
+        cubes: &[&[], &[(1, true)]],
+        nodes: Some(0),
+        done: &[1, 2],
+        cut: &[0],
+        held: (0, 3),
+    },
+];
+
+/// Compares what one worker does with this. Its seat has a claim more than there are pieces.
+fn assert_alone(rt: &impl Abort, alloc: Global, alone: &Alone) -> Result<(), Fail> {
     let instance = read_cnf(alloc, TWO_CLAUSES)?;
     let normal = normalise(alloc, &instance)?;
-    let pieces = Pieces::new(instance.vars(), two_cubes(alloc)?)?;
+    let pieces = Pieces::new(instance.vars(), cubes(alloc, alone.cubes)?)?;
     let (board, seat) = Board::new(alloc, Workers::new(1)?, instance.vars())?;
+    let nodes = alone.nodes;
     let (part, seat) = work(
-        alloc, &instance, &normal, &pieces, &board, seat, 0, &OpenGate,
+        alloc, &instance, &normal, &pieces, &board, seat, 0, &OpenGate, nodes,
     )?;
     let claims = seat.claims();
     board.close(seat);
-    assert_eq!(rt; part.pieces(), [0, 1, 2].as_slice());
+    assert_part(rt, &part, alone);
     assert_eq!(rt; claims, 4);
-    assert_eq!(rt; held(part.best()), Some((0, 2)));
     Ok(())
 }
 
-/// The answer of two workers on the two clauses and these cubes.
+/// Compares what a part names and holds with this.
+fn assert_part(rt: &impl Abort, part: &Part<'_>, alone: &Alone) {
+    assert_eq!(rt; part.pieces(), alone.done);
+    assert_eq!(rt; part.cut(), alone.cut);
+    assert_eq!(rt; held(part.best()), Some(alone.held));
+}
+
+// One worker names all pieces, those that were cut apart.
+#[test]
+fn work_alone(rt: HostRuntime) -> Result<(), Fail> {
+    for alone in &ALONE {
+        assert_alone(&rt, rt.alloc(), alone)?;
+    }
+    Ok(())
+}
+
+/// What two workers answer on the instance and these cubes: what is held, and whether a piece was cut.
 fn answer<R: Threads + Sync, G: Gate + Sync>(
     rt: &R,
     alloc: Global,
-    cubes: Vec<Cube>,
+    instance: &Instance,
+    lists: &[&[(u32, bool)]],
     gate: &G,
-) -> Result<Option<(Number, u64)>, Fail> {
+    nodes: Option<u64>,
+) -> Result<(Option<(Number, u64)>, bool), Fail> {
     let workers = Workers::new(2)?;
-    let instance = read_cnf(alloc, TWO_CLAUSES)?;
-    let pieces = Pieces::new(instance.vars(), cubes)?;
-    let best = solve(rt, alloc, &instance, &pieces, workers, gate)?;
-    Ok(held(&best))
+    let pieces = Pieces::new(instance.vars(), cubes(alloc, lists)?)?;
+    let answer = solve(rt, alloc, instance, &pieces, workers, gate, nodes)?;
+    Ok((held(&answer.best), answer.cut))
 }
 
 #[test]
 fn two_workers_meet(rt: HostRuntime) -> Result<(), Fail> {
+    let instance = read_cnf(rt.alloc(), TWO_CLAUSES)?;
     for first in [None, Some(0), Some(1)] {
         let gate = Meeting::new(first);
-        let answer = answer(&rt, rt.alloc(), two_cubes(rt.alloc())?, &gate)?;
+        let answer = answer(&rt, rt.alloc(), &instance, TWO_CUBES, &gate, None)?;
         assert!(rt; !gate.passes.late.load(Ordering::SeqCst), "they met");
         assert!(rt; gate.passes.are_each_once(3), "each piece passed once");
-        assert_eq!(rt; answer, Some((0, 2)));
+        assert_eq!(rt; answer, (Some((0, 2)), false));
     }
     Ok(())
 }
@@ -231,10 +317,12 @@ fn two_workers_meet(rt: HostRuntime) -> Result<(), Fail> {
 // While one worker is held at its first piece the other one gets all others.
 #[test]
 fn pieces_are_claimed(rt: HostRuntime) -> Result<(), Fail> {
+    let instance = read_cnf(rt.alloc(), TWO_CLAUSES)?;
     let gate = Crowd {
         passes: Passes::new(),
     };
-    let answer = answer(&rt, rt.alloc(), empty_cubes(rt.alloc(), 4)?, &gate)?;
+    let empty_cubes: &[&[(u32, bool)]] = &[&[], &[], &[], &[]];
+    let answer = answer(&rt, rt.alloc(), &instance, empty_cubes, &gate, None)?;
     assert!(rt;
         !gate.passes.late.load(Ordering::SeqCst),
         "five passes began"
@@ -242,6 +330,19 @@ fn pieces_are_claimed(rt: HostRuntime) -> Result<(), Fail> {
     assert!(rt; gate.passes.are_each_once(5), "each piece passed once");
     let shares = (gate.passes.count_of(0), gate.passes.count_of(1));
     assert!(rt; shares == (1, 4) || shares == (4, 1), "{shares:?}");
-    assert_eq!(rt; answer, Some((0, 2)));
+    assert_eq!(rt; answer, (Some((0, 2)), false));
+    Ok(())
+}
+
+// Piece 0 finds the best assignment while the worker on piece 1 is held. That one then needs no decision, since what it
+// borrows closes its piece at the root: without borrowing it would be cut. Nothing remains.
+#[test]
+fn a_borrowed_bound_closes_a_piece(rt: HostRuntime) -> Result<(), Fail> {
+    let instance = read_opb(rt.alloc(), DEAR_AND_CHEAP)?;
+    let gate = Procession::new();
+    let cheap_then_dear: &[&[(u32, bool)]] = &[&[(1, false), (2, true)], &[(1, true)]];
+    let answer = answer(&rt, rt.alloc(), &instance, cheap_then_dear, &gate, Some(0))?;
+    assert!(rt; !gate.late.load(Ordering::SeqCst), "all passes began");
+    assert_eq!(rt; answer, (Some((1, 2)), false));
     Ok(())
 }
