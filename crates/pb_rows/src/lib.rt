@@ -14,11 +14,10 @@ mod tables_source;
 mod tally;
 mod weighs;
 
-use pb_inst::MAX_CONSTRAINTS;
-
 pub use clauses::Clauses;
 pub use count::Count;
 pub use occurrences::{Occurrence, Occurs, UnitOccurrence};
+use pb_inst::MAX_CONSTRAINTS;
 pub use rows::{Limits, Rows};
 pub use tables::{RowTerms, Tables};
 pub use tables_source::TablesSource;
