@@ -19,6 +19,8 @@ pub struct AgreedPrefix {
     count: u32,
     /// A variable that the trail had true and the best assignment has false, or 0. It is asked again before it is used.
     surplus: u32,
+    /// Whether the best assignment came from another search since this one began. Nothing is promised of it.
+    borrowed: bool,
 }
 
 impl AgreedPrefix {
@@ -30,7 +32,30 @@ impl AgreedPrefix {
             seen: 0,
             count: 0,
             surplus: 0,
+            borrowed: false,
         }
+    }
+
+    /// Nothing is known of a best assignment that this search found.
+    pub fn forget(&mut self)
+        ensures { (trail : List Literal) → (held : Option Solution) → KnowsHeldPrefix trail held self.new }
+    {
+        let borrowed = self.borrowed;
+        *self = AgreedPrefix::none();
+        self.borrowed = borrowed;
+    }
+
+    /// Nothing is known of a best assignment that another search found.
+    pub fn forget_for_borrowed(&mut self)
+        ensures { (trail : List Literal) → (held : Option Solution) → KnowsHeldPrefix trail held self.new }
+    {
+        *self = AgreedPrefix::none();
+        self.borrowed = true;
+    }
+
+    /// Whether another search's assignment was held since this search began.
+    pub fn has_borrowed(&self) -> bool {
+        self.borrowed
     }
 
     /// Whether the trail has a 1 where the assignment has 0, and before it every 1 of the assignment. It looks at the
@@ -117,7 +142,7 @@ impl AgreedPrefix {
         ensures known { (n : ℕ) → (longer : List Literal) → (held : Option Solution) → engine.now.trail ≡ take n longer → KnowsHeldPrefix longer held self.old → KnowsHeldPrefix engine.now.trail held self.new }
     {
         if self.seen > engine.trail_len() {
-            *self = AgreedPrefix::none();
+            self.forget();
         }
     }
 }

@@ -90,6 +90,6 @@ pub fn borrow_on_the_way<S: Share>(
     ensures known { (trail : List Literal) → KnowsHeldPrefix trail best.old.held agreed.old → KnowsHeldPrefix trail best.new.held agreed.new }
 {
     if borrow(scratch, best, share) {
-        *agreed = AgreedPrefix::none();
+        agreed.forget_for_borrowed();
     }
 }

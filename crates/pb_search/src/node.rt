@@ -64,7 +64,7 @@ fn expand_node<S: Share>(
     let Some(branch) = next_decision(&state.engine, vars, &mut state.order, hints, pruning, bound)
     else {
         take_leaf(&state.engine, &mut state.candidate, best, share);
-        *agreed = AgreedPrefix::none();
+        agreed.forget();
         return None;
     };
     Some(branch)

@@ -116,10 +116,31 @@ pub fn is_spent(
         return false;
     };
     // The best may have improved since the first value was decided, so the bound is compared before the second one too.
-    // The trail is the same again, so a bound that the branch keeps tells where asking the engine would be in vain. On the
-    // first descent none was taken.
+    // The trail is the same again, so a bound that the branch keeps tells where asking the engine would be in vain.
     if branch.bound.is_some_and(|bound| bound < cost) {
         return false;
     }
+    if branch.bound.is_none() && is_tied_below(engine, best, agreed) {
+        return false;
+    }
     check_bound(engine, best, agreed).0 == Pruning::Closed
+}
+
+/// Whether the best assignment was found below the trail, where nothing was held before, and another one of its cost may
+/// come before it.
+fn is_tied_below(engine: &Engine<'_>, best: &Best<'_>, agreed: &mut AgreedPrefix) -> bool
+    requires engine { IsEngineOf best.now.problem engine.now }
+    requires known { KnowsHeldPrefix engine.now.trail best.now.held agreed.old }
+    ensures known { KnowsHeldPrefix engine.now.trail best.now.held agreed.new }
+{
+    // A branch of the first descent keeps no bound. What this search found since then completes the trail, so no bound of
+    // the trail is over the cost, and the order of assignments alone could close it. So the way back costs no more than the
+    // way down, where taking each bound would go through rows as long as the instance for each of its variables.
+    if agreed.has_borrowed() {
+        return false;
+    }
+    match best.assignment() {
+        Some(held) => judge_tie(engine, held, agreed) != Pruning::Closed,
+        None => false,
+    }
 }

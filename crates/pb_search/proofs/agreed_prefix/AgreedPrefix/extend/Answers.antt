@@ -7,5 +7,5 @@ agreed_from-self-requires-clause-ones c = knows_all c.args.engine.now.trail c.ar
 
 pub returns-clause-known : goal.returns-clause-known
 returns-clause-known c =
-    let new : AgreedPrefix = record { seen = c.trail_len-self.result; count = c.agreed_from-self.result; surplus = c.args.self.now.surplus } in
+    let new : AgreedPrefix = record { seen = c.trail_len-self.result; count = c.agreed_from-self.result; surplus = c.args.self.now.surplus; borrowed = c.args.self.now.borrowed } in
     knows_by_all c.args.engine.now.trail c.args.held.now new c.trail_len-self.ensures c.agreed_from-self.ensures.within c.agreed_from-self.ensures.ones

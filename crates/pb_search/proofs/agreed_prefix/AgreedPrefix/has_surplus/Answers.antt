@@ -7,7 +7,7 @@ is_surplus-requires-clause-ones c = knows_all c.args.engine.now.trail c.args.hel
 
 pub returns-then-is_surplus-clause-known : goal.returns-then-is_surplus-clause-known
 returns-then-is_surplus-clause-known c =
-    let new : AgreedPrefix = record { seen = c.trail_len-self.result; count = c.args.self.now.count; surplus = c.args.self.now.surplus } in
+    let new : AgreedPrefix = record { seen = c.trail_len-self.result; count = c.args.self.now.count; surplus = c.args.self.now.surplus; borrowed = c.args.self.now.borrowed } in
     knows_by_all c.args.engine.now.trail c.args.held.now new c.trail_len-self.ensures c.requires.known.count (knows_all c.args.engine.now.trail c.args.held.now c.args.self.now c.requires.known)
 
 pub surplus_from-requires-clause-ones : goal.surplus_from-requires-clause-ones
@@ -15,10 +15,10 @@ surplus_from-requires-clause-ones c = knows_all c.args.engine.now.trail c.args.h
 
 pub returns-in_default-clause-known : goal.returns-in_default-clause-known
 returns-in_default-clause-known c =
-    let new : AgreedPrefix = record { seen = c.trail_len-self.result; count = c.args.self.now.count; surplus = c.args.self.now.surplus } in
+    let new : AgreedPrefix = record { seen = c.trail_len-self.result; count = c.args.self.now.count; surplus = c.args.self.now.surplus; borrowed = c.args.self.now.borrowed } in
     knows_by_all c.args.engine.now.trail c.args.held.now new c.trail_len-self.ensures c.requires.known.count (knows_all c.args.engine.now.trail c.args.held.now c.args.self.now c.requires.known)
 
 pub returns-clause-known : goal.returns-clause-known
 returns-clause-known c =
-    let new : AgreedPrefix = record { seen = c.trail_len-self.result; count = c.args.self.now.count; surplus = c.in-Some.var } in
+    let new : AgreedPrefix = record { seen = c.trail_len-self.result; count = c.args.self.now.count; surplus = c.in-Some.var; borrowed = c.args.self.now.borrowed } in
     knows_by_all c.args.engine.now.trail c.args.held.now new c.trail_len-self.ensures c.requires.known.count (knows_all c.args.engine.now.trail c.args.held.now c.args.self.now c.requires.known)

@@ -1,0 +1,61 @@
+//! Decisions that have one side alone.
+
+ghost use Rattle.std.specs.Prelude.{◌≡◌, true, IfSome};
+ghost use Rattle.pb_search.specs.SearchState.{IsClosed, IsEngineOf, IsOpenOnOneSide};
+ghost use Rattle.pb_search.specs.AgreedPrefix.{KnowsHeldPrefix};
+
+use crate::agreed_prefix::AgreedPrefix;
+use crate::branch::{Branch, Hints};
+use crate::pruning::{Pruning, check_bound};
+use pb_engine::Engine;
+use pb_inst::{Best, Lit, Number};
+
+/// What the bound says of the subtree below the trail, the bound itself, and a literal without a value whose negation has
+/// nothing to give: none where none is known.
+pub fn judge_node(
+    engine: &mut Engine<'_>,
+    best: &Best<'_>,
+    agreed: &mut AgreedPrefix,
+) -> (Pruning, Option<Number>, Option<Lit>)
+    requires engine { IsEngineOf best.now.problem engine.old }
+    requires known { KnowsHeldPrefix engine.old.trail best.now.held agreed.old }
+    ensures closed { result.0 ≡ Pruning.Closed → IsClosed best.now.problem engine.old best.now.held }
+    ensures fixed { IfSome result.2 (IsOpenOnOneSide best.now.problem engine.old best.now.held) }
+    ensures unchanged { engine.new ≡ engine.old }
+    ensures known { KnowsHeldPrefix engine.old.trail best.now.held agreed.new }
+{
+    let (pruning, bound) = check_bound(engine, best, agreed);
+    if pruning == Pruning::Closed {
+        return (pruning, bound, None);
+    }
+    let fixed = fixed_literal(engine, best);
+    (pruning, bound, fixed)
+}
+
+/// A literal without a value whose negation costs too much to come before the best assignment, or none.
+fn fixed_literal(engine: &mut Engine<'_>, best: &Best<'_>) -> Option<Lit>
+    requires engine { IsEngineOf best.now.problem engine.old }
+    ensures fixed { IfSome result (IsOpenOnOneSide best.now.problem engine.old best.now.held) }
+    ensures unchanged { engine.new ≡ engine.old }
+{
+    let Some(cost) = best.cost() else {
+        return None;
+    };
+    let Some(lit) = engine.fixed_literal(cost) else {
+        return None;
+    };
+    Some(lit)
+}
+
+/// The decision for a literal whose negation has nothing to give: its other value counts as tried.
+pub fn one_sided(lit: Lit, bound: Option<Number>, hints: Hints) -> Branch
+    ensures literal { result.lit ≡ lit }
+    ensures flipped { result.flipped ≡ true }
+{
+    Branch {
+        lit,
+        flipped: true,
+        bound,
+        hints,
+    }
+}
