@@ -10,7 +10,7 @@ use Rattle.pb_rows.specs.Index.{literal_place}
 use Rattle.pb_normal.specs.Literals.{same_literal, weight_of}
 use Rattle.pb_rows.proofs.EntryLemmas.{same_place-same_literal}
 
-weight_of-next : (l : Literal) (terms : List PositiveTerm) (i : ℕ) (d : PositiveTerm) → i < length terms → weight_of l (take (i + 1) terms) ≡ weight_of l (take i terms) + cond (same_literal l (get_or terms i d).lit) (get_or terms i d).coef 0
+pub weight_of-next : (l : Literal) (terms : List PositiveTerm) (i : ℕ) (d : PositiveTerm) → i < length terms → weight_of l (take (i + 1) terms) ≡ weight_of l (take i terms) + cond (same_literal l (get_or terms i d).lit) (get_or terms i d).coef 0
 unfolding weight_of
 weight_of-next l terms i d h = sum_by_more (λ (t : PositiveTerm). cond (same_literal l t.lit) t.coef 0) terms i d h
 

@@ -16,7 +16,7 @@ mod weighs;
 
 pub use clauses::Clauses;
 pub use count::Count;
-pub use occurrences::{Occurrence, Occurs, UnitOccurrence};
+pub use occurrences::{Occurrence, Occurs, UnitOccurrence, place_of};
 use pb_inst::MAX_CONSTRAINTS;
 pub use rows::{Limits, Rows};
 pub use tables::{RowTerms, Tables};

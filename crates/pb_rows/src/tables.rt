@@ -1,6 +1,6 @@
 //! The rows of a normal form and the clauses of cubes as one list of rows.
 
-ghost use Rattle.std.specs.Prelude.{◌≡◌, ℕ, ◌+◌, ◌^◌, ◌<◌, ◌≤◌, length, All};
+ghost use Rattle.std.specs.Prelude.{◌≡◌, ℕ, ◌+◌, ◌^◌, ◌<◌, ◌≤◌, length, take, All};
 ghost use Rattle.pb_normal.specs.NormalForm.{IsNormal, HasSmallSums, total_coefficient};
 ghost use Rattle.pb_rows.specs.Constraints.{AreRowsOver, row_at, HaveRisingVariables};
 ghost use Rattle.pb_rows.specs.Clauses.{clause_row};
@@ -63,6 +63,7 @@ impl<'t, 'a, C: Count> Tables<'t, 'a, C> {
     pub fn vars(&self) -> u32
         ensures value { result ≡ self.now.vars }
         ensures form { self.now.vars ≡ self.now.form.vars }
+        ensures first { take (length self.now.form.rows) self.now.rows ≡ self.now.form.rows }
         ensures rows { AreRowsOver self.now.vars self.now.rows }
         ensures rising { HaveRisingVariables self.now.rows }
         ensures limits { All (λ row. HasSmallSums row) self.now.rows }

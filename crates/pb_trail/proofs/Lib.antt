@@ -5,3 +5,4 @@ pub mod SoundLemmas
 pub mod Looking
 pub mod EngineLemmas
 pub mod AssumptionLemmas
+pub mod PlaceLemmas

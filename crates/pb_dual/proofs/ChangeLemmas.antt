@@ -1,0 +1,174 @@
+-- What one change of a reduced cost, of a value or of a multiplier does to the sums.
+use Rattle.std.proofs.Common.{◌≡◌, ◌≢◌, ℕ, zero, suc, ◌+◌, ◌-◌, ◌*◌, ◌^◌, ◌<◌, ◌≤◌, ◌⊎◌, List, [], ◌∷◌, length, get_or, set, refl, sym, ◌∙◌, ap, arith, Bool, true, false, cond, Option, Some, None, min, inl, inr, length-set, get_or-set_same, get_or-set_other, take, sum_by}
+use Rattle.std.proofs.lemmas.Bool.{cases_Bool, cases_eq, cases_lt, eq-eqb, eqb-true}
+use Rattle.std.proofs.lemmas.List.Sums.{sum_by_more, sum_by-take-le}
+use Rattle.std.proofs.lemmas.Nat.{mul-le}
+use Rattle.pb_inst.specs.Literal.{Literal}
+use Rattle.pb_normal.specs.NormalForm.{PositiveRow, NormalForm}
+use Rattle.pb_normal.specs.declared.terms.PositiveTerm.{PositiveTerm}
+use Rattle.pb_normal.specs.Literals.{same_literal, weight_of}
+use Rattle.pb_normal.proofs.LiteralLemmas.{same_literal-itself, same_literal-is}
+use Rattle.pb_rows.specs.Constraints.{row_at}
+use Rattle.pb_rows.specs.Index.{literal_place}
+use Rattle.pb_rows.proofs.EntryLemmas.{same_place-same_literal}
+use Rattle.pb_rows.proofs.CostLemmas.{weight_of-next, place_below}
+use Rattle.pb_trail.specs.Trail.{value_on}
+use Rattle.pb_trail.specs.Tracked.{AreValues}
+use Rattle.pb_dual.specs.declared.TheConstants.{ZERO}
+use Rattle.pb_dual.proofs.SoundLemmas.{over-same}
+use Rattle.pb_dual.specs.ReducedCosts.{weighted, promised, taken_off, AreReducedCosts, IsReducedCost, reduced_cost, cost_at, over_variables, least_cost, part, part_on, parts, parts_on}
+
+-- one number is another
+pub over-changed : (f g : ℕ → ℕ) (n v : ℕ) → 1 ≤ v → v ≤ n → ((u : ℕ) → 1 ≤ u → u ≤ n → u ≢ v → f u ≡ g u) → over_variables g n + f v ≡ over_variables f n + g v
+over-changed f g zero v low high same = absurd (omega arith)
+over-changed f g (suc n) v low high same = elim (cases_eq v (suc n)) [
+  | inl e ↦ (let before = over-same f g n (λ u from upto. same u from (omega arith) (λ is. omega arith)) in let at_f = ap f e in let at_g = ap g e in omega arith)
+  | inr other ↦ (let last = same (suc n) (omega arith) (omega arith) (λ is. other (sym is)) in let rest = over-changed f g n v low (omega arith) (λ u from upto apart. same u from (omega arith) apart) in omega arith)
+]
+
+-- a number is no more than the sum
+pub over-has : (f : ℕ → ℕ) (n v : ℕ) → 1 ≤ v → v ≤ n → f v ≤ over_variables f n
+over-has f zero v low high = absurd (omega arith)
+over-has f (suc n) v low high = elim (cases_lt n v) [
+  | inl h ↦ (let last : v ≡ suc n = omega arith in let at = ap f last in omega arith)
+  | inr h ↦ omega (arith, over-has f n v low h)
+]
+
+-- a sum of numbers up to a limit
+pub over-most : (f : ℕ → ℕ) (n most : ℕ) → ((v : ℕ) → 1 ≤ v → v ≤ n → f v ≤ most) → over_variables f n ≤ n * most
+over-most f zero most each = omega arith
+over-most f (suc n) most each = omega (arith, over-most f n most (λ v low high. each v low (omega arith)), each (suc n) (omega arith) (omega arith))
+
+-- places of literals of different variables differ
+pub places_apart : (v u : ℕ) (b c : Bool) → 1 ≤ v → 1 ≤ u → u ≢ v → literal_place (record { var = u; positive = c }) ≢ literal_place (record { var = v; positive = b })
+places_apart v u true true low from other e = other (omega arith)
+places_apart v u true false low from other e = other (omega arith)
+places_apart v u false true low from other e = other (omega arith)
+places_apart v u false false low from other e = other (omega arith)
+
+-- another reduced cost of a literal
+pub parts-repriced : (costs : List ℕ) (values : List (Option Bool)) (l : Literal) (n : ℕ) → 1 ≤ l.var → l.var ≤ length values → parts (set costs (literal_place l) n) values + part costs l.var (get_or values (l.var - 1) None) ≡ parts costs values + part (set costs (literal_place l) n) l.var (get_or values (l.var - 1) None)
+unfolding parts
+parts-repriced costs values l n low high =
+    over-changed (λ v. part costs v (get_or values (v - 1) None)) (λ v. part (set costs (literal_place l) n) v (get_or values (v - 1) None)) (length values) l.var low high
+    (λ u from upto other. same_part u (get_or values (u - 1) None) (kept u true from other) (kept u false from other))
+  where
+    kept : (u : ℕ) (b : Bool) → 1 ≤ u → u ≢ l.var → cost_at costs u b ≡ cost_at (set costs (literal_place l) n) u b
+    kept u b from other = (let apart : literal_place (record { var = u; positive = b }) ≢ literal_place l = places_apart l.var u l.positive b low from other in sym (let same : get_or (set costs (literal_place l) n) (literal_place (record { var = u; positive = b })) 0 ≡ get_or costs (literal_place (record { var = u; positive = b })) 0 = rw get_or-set_other refl in same))
+
+    same_part : (u : ℕ) (value : Option Bool) → cost_at costs u true ≡ cost_at (set costs (literal_place l) n) u true → cost_at costs u false ≡ cost_at (set costs (literal_place l) n) u false → part costs u value ≡ part (set costs (literal_place l) n) u value
+    same_part u (Some true) plain negated = plain
+    same_part u (Some false) plain negated = negated
+    same_part u None plain negated = rw (plain, negated) refl
+
+-- another value of a variable
+pub parts-valued : (costs : List ℕ) (values : List (Option Bool)) (v : ℕ) (value : Option Bool) → 1 ≤ v → v ≤ length values → parts costs (set values (v - 1) value) + part costs v (get_or values (v - 1) None) ≡ parts costs values + part costs v (get_or (set values (v - 1) value) (v - 1) None)
+unfolding parts
+parts-valued costs values v value low high =
+    let same_length = length-set values (v - 1) value in
+    let lengths = ap (over_variables (λ u. part costs u (get_or (set values (v - 1) value) (u - 1) None))) same_length in
+    let changed = over-changed (λ u. part costs u (get_or values (u - 1) None)) (λ u. part costs u (get_or (set values (v - 1) value) (u - 1) None)) (length values) v low high (λ u from upto other. kept u from other) in
+    omega arith
+  where
+    kept : (u : ℕ) → 1 ≤ u → u ≢ v → part costs u (get_or values (u - 1) None) ≡ part costs u (get_or (set values (v - 1) value) (u - 1) None)
+    kept u from other = (let apart : u - 1 ≢ v - 1 = λ e. other (omega arith) in let same : get_or (set values (v - 1) value) (u - 1) None ≡ get_or values (u - 1) None = rw get_or-set_other refl in ap (part costs u) (sym same))
+
+-- no part is more than all of them, and none is over a limit of the reduced costs
+pub part-within : (costs : List ℕ) (values : List (Option Bool)) (v : ℕ) → 1 ≤ v → v ≤ length values → part costs v (get_or values (v - 1) None) ≤ parts costs values
+unfolding parts
+part-within costs values v low high = over-has (λ u. part costs u (get_or values (u - 1) None)) (length values) v low high
+
+pub parts-most : (costs : List ℕ) (values : List (Option Bool)) (most : ℕ) → ((k : ℕ) → get_or costs k 0 ≤ most) → parts costs values ≤ length values * most
+unfolding parts
+parts-most costs values most each = over-most (λ u. part costs u (get_or values (u - 1) None)) (length values) most (λ v low high. one v (get_or values (v - 1) None))
+  where
+    one : (v : ℕ) (value : Option Bool) → part costs v value ≤ most
+    one v (Some b) = each (literal_place (record { var = v; positive = b }))
+    one v None = omega (arith, each (literal_place (record { var = v; positive = true })))
+
+-- one row's multiplier is another
+pub weighted-set : (worth : PositiveRow → ℕ) (ys : List ℕ) (rows : List PositiveRow) (r y : ℕ) → length ys ≡ length rows → r < length rows → weighted worth (set ys r y) rows + get_or ys r 0 * worth (row_at rows r) ≡ weighted worth ys rows + y * worth (row_at rows r)
+weighted-set worth [] [] r y same h = absurd (omega arith)
+weighted-set worth [] (row ∷ rows) r y same h = absurd (omega arith)
+weighted-set worth (z ∷ ys) [] r y same h = absurd (omega arith)
+weighted-set worth (z ∷ ys) (row ∷ rows) zero y same h = omega arith
+weighted-set worth (z ∷ ys) (row ∷ rows) (suc r) y same h = omega (arith, weighted-set worth ys rows r y (omega arith) (omega arith))
+
+-- where each row promises no more than its share, all of them promise no more than all shares
+pub promised-most : (ys : List ℕ) (rows : List PositiveRow) (share : ℕ) → length ys ≡ length rows → ((r : ℕ) → r < length rows → get_or ys r 0 * (row_at rows r).degree ≤ share) → promised ys rows ≤ share * length rows
+promised-most [] rows share same each = omega arith
+promised-most (y ∷ ys) [] share same each = absurd (omega arith)
+promised-most (y ∷ ys) (row ∷ rows) share same each =
+    let head : y * row.degree ≤ share = each 0 (omega arith) in
+    omega (arith, promised-most ys rows share (omega arith) (λ r h. each (suc r) (omega arith)))
+
+pub product_more : (r w whole from to : ℕ) → w ≤ whole → to * whole ≤ r + from * whole → to * w ≤ r + from * w
+product_more r w whole from to within enough = by_order (cases_lt from to)
+  where
+    by_order : (from < to) ⊎ (to ≤ from) → to * w ≤ r + from * w
+    by_order (inr h) = omega (arith, mul-le to w from w h (omega arith))
+    by_order (inl h) =
+        let more : to ≡ from + (to - from) = omega arith in
+        let whole_is : to * whole ≡ from * whole + (to - from) * whole = ap (λ n. n * whole) more ∙ (let spread : (from + (to - from)) * whole ≡ from * whole + (to - from) * whole = omega arith in spread) in
+        let part_is : to * w ≡ from * w + (to - from) * w = ap (λ n. n * w) more ∙ (let spread : (from + (to - from)) * w ≡ from * w + (to - from) * w = omega arith in spread) in
+        omega (arith, mul-le (to - from) w (to - from) whole (omega arith) within)
+
+-- what stands at a literal's place once the number at another's is changed
+pub place-set : (costs : List ℕ) (l m : Literal) (n : ℕ) → 1 ≤ l.var → 1 ≤ m.var → literal_place l < length costs → get_or (set costs (literal_place l) n) (literal_place m) 0 ≡ cond (same_literal m l) n (get_or costs (literal_place m) 0)
+place-set costs l m n low from short =
+    let places = same_place-same_literal m l from low in
+    elim (cases_Bool (same_literal m l)) [
+      | inl same ↦
+          (let place_is : literal_place l ≡ literal_place m = eqb-true (literal_place l) (literal_place m) (places ∙ same) in
+          let here : get_or (set costs (literal_place l) n) (literal_place l) 0 ≡ n = rw get_or-set_same refl in
+          let moved : get_or (set costs (literal_place l) n) (literal_place m) 0 ≡ n = rw (← place_is) here in
+          moved ∙ (let one : n ≡ cond (same_literal m l) n (get_or costs (literal_place m) 0) = rw same refl in one))
+      | inr other ↦
+          (let apart : literal_place m ≢ literal_place l = λ e. (let on = eq-eqb (literal_place l) (literal_place m) (sym e) in let none : ⊥ = cc in none) in
+          let kept : get_or (set costs (literal_place l) n) (literal_place m) 0 ≡ get_or costs (literal_place m) 0 = rw get_or-set_other refl in
+          kept ∙ (let one : get_or costs (literal_place m) 0 ≡ cond (same_literal m l) n (get_or costs (literal_place m) 0) = rw other refl in one))
+    ]
+
+-- the weight of a literal in the terms up to one of its own, and in all of them
+pub weight-own : (terms : List PositiveTerm) (i : ℕ) (t : PositiveTerm) → i < length terms → t ≡ get_or terms i t → (weight_of t.lit (take (i + 1) terms) ≡ weight_of t.lit (take i terms) + t.coef) × (weight_of t.lit (take (i + 1) terms) ≤ weight_of t.lit terms)
+unfolding weight_of
+weight-own terms i t h read =
+    let f : PositiveTerm → ℕ = λ u. cond (same_literal t.lit u.lit) u.coef 0 in
+    let more = sum_by_more f terms i t h in
+    let own : f (get_or terms i t) ≡ t.coef = ap f (sym read) ∙ (let itself : f t ≡ t.coef = rw (same_literal-itself t.lit) refl in itself) in
+    (more ∙ ap (λ (n : ℕ). sum_by f (take i terms) + n) own, sum_by-take-le f terms (i + 1))
+
+-- so the row can be taken off the cost of its next term
+pub can-reprice : (costs before : ℕ) (terms : List PositiveTerm) (i : ℕ) (t : PositiveTerm) (from to : ℕ) → i < length terms → t ≡ get_or terms i t → costs + to * weight_of t.lit (take i terms) ≡ before + from * weight_of t.lit (take i terms) → to * weight_of t.lit terms ≤ before + from * weight_of t.lit terms → before + from * weight_of t.lit terms < 2 ^ 64 → (to * t.coef ≤ costs + from * t.coef) × (costs + from * t.coef < 2 ^ 64)
+can-reprice costs before terms i t from to h read is enough fits =
+    let own = weight-own terms i t h read in
+    let w = weight_of t.lit (take i terms) in
+    let more = product_more before (w + t.coef) (weight_of t.lit terms) from to (omega arith) enough in
+    let taken : to * (w + t.coef) ≡ to * w + to * t.coef = omega arith in
+    let given : from * (w + t.coef) ≡ from * w + from * t.coef = omega arith in
+    let whole = mul-le from (w + t.coef) from (weight_of t.lit terms) (omega arith) (omega arith) in
+    (omega arith, omega arith)
+
+-- one term further
+pub repriced-next : (first costs : List ℕ) (terms : List PositiveTerm) (i : ℕ) (t : PositiveTerm) (from to : ℕ) (m : Literal) → i < length terms → t ≡ get_or terms i t → 1 ≤ t.lit.var → 1 ≤ m.var → literal_place t.lit < length costs → to * t.coef ≤ get_or costs (literal_place t.lit) 0 + from * t.coef → get_or costs (literal_place m) 0 + to * weight_of m (take i terms) ≡ get_or first (literal_place m) 0 + from * weight_of m (take i terms) → get_or (set costs (literal_place t.lit) (get_or costs (literal_place t.lit) 0 + from * t.coef - to * t.coef)) (literal_place m) 0 + to * weight_of m (take (i + 1) terms) ≡ get_or first (literal_place m) 0 + from * weight_of m (take (i + 1) terms)
+repriced-next first costs terms i t from to m h read low above short enough is =
+    let n = get_or costs (literal_place t.lit) 0 + from * t.coef - to * t.coef in
+    let placed = place-set costs t.lit m n low above short in
+    let next : weight_of m (take (i + 1) terms) ≡ weight_of m (take i terms) + cond (same_literal m t.lit) t.coef 0 = weight_of-next m terms i t h ∙ ap (λ (u : PositiveTerm). weight_of m (take i terms) + cond (same_literal m u.lit) u.coef 0) (sym read) in
+    let w = weight_of m (take i terms) in
+    elim (cases_Bool (same_literal m t.lit)) [
+      | inl same ↦
+          (let at : literal_place m ≡ literal_place t.lit = ap literal_place (same_literal-is m t.lit same) in
+          let here : get_or costs (literal_place m) 0 ≡ get_or costs (literal_place t.lit) 0 = ap (λ (p : ℕ). get_or costs p 0) at in
+          let value : get_or (set costs (literal_place t.lit) n) (literal_place m) 0 ≡ n = placed ∙ rw same refl in
+          let weight : weight_of m (take (i + 1) terms) ≡ w + t.coef = next ∙ rw same refl in
+          let taken : to * weight_of m (take (i + 1) terms) ≡ to * w + to * t.coef = ap (λ (k : ℕ). to * k) weight ∙ (let spread : to * (w + t.coef) ≡ to * w + to * t.coef = omega arith in spread) in
+          let given : from * weight_of m (take (i + 1) terms) ≡ from * w + from * t.coef = ap (λ (k : ℕ). from * k) weight ∙ (let spread : from * (w + t.coef) ≡ from * w + from * t.coef = omega arith in spread) in
+          omega arith)
+      | inr other ↦
+          (let value : get_or (set costs (literal_place t.lit) n) (literal_place m) 0 ≡ get_or costs (literal_place m) 0 = placed ∙ rw other refl in
+          let weight : weight_of m (take (i + 1) terms) ≡ w = next ∙ (let none : w + cond (same_literal m t.lit) t.coef 0 ≡ w = rw other (omega arith) in none) in
+          let taken = ap (λ (k : ℕ). to * k) weight in
+          let given = ap (λ (k : ℕ). from * k) weight in
+          omega arith)
+    ]

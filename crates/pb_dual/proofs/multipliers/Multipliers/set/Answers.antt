@@ -1,0 +1,158 @@
+use Rattle.std.proofs.Common.{◌≡◌, ℕ, ◌+◌, ◌-◌, ◌*◌, ◌^◌, ◌<◌, ◌≤◌, ◌++◌, List, [], Option, Bool, length, get_or, set, take, drop, arith, ap, sym, subst, ◌∙◌, length-set, refl}
+use Rattle.std.specs.Prelude.{IsSomeAnd}
+use Rattle.std.proofs.lemmas.Option.{slice_get-get_or}
+use Rattle.std.proofs.lemmas.List.{get_or_read}
+use Rattle.pb_inst.specs.Literal.{Literal}
+use Rattle.pb_normal.specs.declared.terms.PositiveTerm.{PositiveTerm}
+use Rattle.pb_normal.specs.NormalForm.{PositiveRow}
+use Rattle.pb_normal.specs.Literals.{weight_of}
+use Rattle.pb_rows.specs.Constraints.{row_at}
+use Rattle.pb_rows.specs.Index.{literal_place}
+use Rattle.pb_rows.proofs.IndexLemmas.{changed_in_place}
+use Rattle.pb_dual.specs.ReducedCosts.{promised, AreReducedCosts, parts}
+use Rattle.pb_dual.specs.Multipliers.{MultipliersState, IsWithinShare}
+use Rattle.pb_dual.proofs.SetLemmas.{can-set, costs-set, degrees-set, within-set, promised-small}
+use Rattle.pb_dual.proofs.multipliers.Multipliers.set.Goals as goal
+
+pub reprice-requires-clause-enough : goal.reprice-requires-clause-enough
+reprice-requires-clause-enough c = λ l low high.
+    let s = c.self.inside in
+    let kept = c.self.invariant in
+    let ys = s.multipliers.items in
+    let form = s.form.now in
+    let row : c.args.row < length form.rows = subst (λ (m : MultipliersState). c.args.row < length m.form.rows) (sym c.self.view_is) c.requires.row in
+    let within : IsWithinShare form s.share c.args.row c.args.to = subst (λ (m : MultipliersState). IsWithinShare m.form m.share c.args.row c.args.to) (sym c.self.view_is) c.requires.within in
+    let from : c.index-from.result.now ≡ get_or ys c.args.row 0 = get_or_read ys c.args.row c.index-from.result.now (omega (arith, row, kept.count)) c.index-from.ensures 0 in
+    let terms : (row_at form.rows c.args.row).terms ≡ c.terms.result.now = subst (λ found. IsSomeAnd found (λ (r : PositiveRow). r.terms ≡ c.terms.result.now)) (slice_get-get_or form.rows c.args.row (record { terms = []; degree = 0 }) row) c.terms.ensures in
+    let can = can-set s.scale form ys s.share c.args.row c.args.to l (get_or s.costs.items (literal_place l) 0) c.vars-vars.ensures.normal kept.count kept.shared kept.each_within (omega (arith, kept.scaled, ap (λ (n : ℕ). s.scale * n) kept.total_is)) row within (kept.costs_are.each l low (omega (arith, high, ap (λ (vs : List (Option Bool)). length vs) c.deref.ensures.value, kept.vars))) in
+    let cost = ap (λ (xs : List ℕ). get_or xs (literal_place l) 0) c.deref_mut.ensures.value in
+    let weight = ap (λ (ts : List PositiveTerm). weight_of l ts) terms in
+    let given : c.index-from.result.now * weight_of l c.terms.result.now ≡ get_or ys c.args.row 0 * weight_of l (row_at form.rows c.args.row).terms = ap (λ (n : ℕ). n * weight_of l c.terms.result.now) from ∙ ap (λ (n : ℕ). get_or ys c.args.row 0 * n) (sym weight) in
+    let taken : c.args.to * weight_of l c.terms.result.now ≡ c.args.to * weight_of l (row_at form.rows c.args.row).terms = ap (λ (n : ℕ). c.args.to * n) (sym weight) in
+    omega (arith, can.0, can.1)
+
+pub reprice-requires-clause-fits : goal.reprice-requires-clause-fits
+reprice-requires-clause-fits c = λ l low high.
+    let s = c.self.inside in
+    let kept = c.self.invariant in
+    let ys = s.multipliers.items in
+    let form = s.form.now in
+    let row : c.args.row < length form.rows = subst (λ (m : MultipliersState). c.args.row < length m.form.rows) (sym c.self.view_is) c.requires.row in
+    let within : IsWithinShare form s.share c.args.row c.args.to = subst (λ (m : MultipliersState). IsWithinShare m.form m.share c.args.row c.args.to) (sym c.self.view_is) c.requires.within in
+    let from : c.index-from.result.now ≡ get_or ys c.args.row 0 = get_or_read ys c.args.row c.index-from.result.now (omega (arith, row, kept.count)) c.index-from.ensures 0 in
+    let terms : (row_at form.rows c.args.row).terms ≡ c.terms.result.now = subst (λ found. IsSomeAnd found (λ (r : PositiveRow). r.terms ≡ c.terms.result.now)) (slice_get-get_or form.rows c.args.row (record { terms = []; degree = 0 }) row) c.terms.ensures in
+    let can = can-set s.scale form ys s.share c.args.row c.args.to l (get_or s.costs.items (literal_place l) 0) c.vars-vars.ensures.normal kept.count kept.shared kept.each_within (omega (arith, kept.scaled, ap (λ (n : ℕ). s.scale * n) kept.total_is)) row within (kept.costs_are.each l low (omega (arith, high, ap (λ (vs : List (Option Bool)). length vs) c.deref.ensures.value, kept.vars))) in
+    let cost = ap (λ (xs : List ℕ). get_or xs (literal_place l) 0) c.deref_mut.ensures.value in
+    let weight = ap (λ (ts : List PositiveTerm). weight_of l ts) terms in
+    let given : c.index-from.result.now * weight_of l c.terms.result.now ≡ get_or ys c.args.row 0 * weight_of l (row_at form.rows c.args.row).terms = ap (λ (n : ℕ). n * weight_of l c.terms.result.now) from ∙ ap (λ (n : ℕ). get_or ys c.args.row 0 * n) (sym weight) in
+    let taken : c.args.to * weight_of l c.terms.result.now ≡ c.args.to * weight_of l (row_at form.rows c.args.row).terms = ap (λ (n : ℕ). c.args.to * n) (sym weight) in
+    omega (arith, can.0, can.1)
+
+pub overflow_mul-self : goal.overflow_mul-self
+overflow_mul-self c =
+    let s = c.self.inside in
+    let kept = c.self.invariant in
+    let ys = s.multipliers.items in
+    let form = s.form.now in
+    let row : c.args.row < length form.rows = subst (λ (m : MultipliersState). c.args.row < length m.form.rows) (sym c.self.view_is) c.requires.row in
+    let within : IsWithinShare form s.share c.args.row c.args.to = subst (λ (m : MultipliersState). IsWithinShare m.form m.share c.args.row c.args.to) (sym c.self.view_is) c.requires.within in
+    let from : c.index-from.result.now ≡ get_or ys c.args.row 0 = get_or_read ys c.args.row c.index-from.result.now (omega (arith, row, kept.count)) c.index-from.ensures 0 in
+    let degree : (row_at form.rows c.args.row).degree ≡ c.degree-degree.result = subst (λ found. IsSomeAnd found (λ (r : PositiveRow). r.degree ≡ c.degree-degree.result)) (slice_get-get_or form.rows c.args.row (record { terms = []; degree = 0 }) row) c.degree-degree.ensures in
+    let product : c.index-from.result.now * c.degree-degree.result ≡ get_or ys c.args.row 0 * (row_at form.rows c.args.row).degree = ap (λ (n : ℕ). n * c.degree-degree.result) from ∙ ap (λ (n : ℕ). get_or ys c.args.row 0 * n) (sym degree) in
+    let new : c.args.to * c.degree-degree.result ≡ c.args.to * (row_at form.rows c.args.row).degree = ap (λ (n : ℕ). c.args.to * n) (sym degree) in
+    let degrees = degrees-set form ys c.args.row c.args.to kept.count row in
+    let now = promised-small form ys s.share kept.count kept.shared kept.each_within in
+    let then = promised-small form (set ys c.args.row c.args.to) s.share (length-set ys c.args.row c.args.to ∙ kept.count) kept.shared (within-set form ys s.share c.args.row c.args.to kept.count kept.each_within within) in
+    omega (arith, degrees.0, degrees.1, now, then, kept.degrees_are)
+
+pub overflow_sub-self : goal.overflow_sub-self
+overflow_sub-self c =
+    let s = c.self.inside in
+    let kept = c.self.invariant in
+    let ys = s.multipliers.items in
+    let form = s.form.now in
+    let row : c.args.row < length form.rows = subst (λ (m : MultipliersState). c.args.row < length m.form.rows) (sym c.self.view_is) c.requires.row in
+    let within : IsWithinShare form s.share c.args.row c.args.to = subst (λ (m : MultipliersState). IsWithinShare m.form m.share c.args.row c.args.to) (sym c.self.view_is) c.requires.within in
+    let from : c.index-from.result.now ≡ get_or ys c.args.row 0 = get_or_read ys c.args.row c.index-from.result.now (omega (arith, row, kept.count)) c.index-from.ensures 0 in
+    let degree : (row_at form.rows c.args.row).degree ≡ c.degree-degree.result = subst (λ found. IsSomeAnd found (λ (r : PositiveRow). r.degree ≡ c.degree-degree.result)) (slice_get-get_or form.rows c.args.row (record { terms = []; degree = 0 }) row) c.degree-degree.ensures in
+    let product : c.index-from.result.now * c.degree-degree.result ≡ get_or ys c.args.row 0 * (row_at form.rows c.args.row).degree = ap (λ (n : ℕ). n * c.degree-degree.result) from ∙ ap (λ (n : ℕ). get_or ys c.args.row 0 * n) (sym degree) in
+    let new : c.args.to * c.degree-degree.result ≡ c.args.to * (row_at form.rows c.args.row).degree = ap (λ (n : ℕ). c.args.to * n) (sym degree) in
+    let degrees = degrees-set form ys c.args.row c.args.to kept.count row in
+    let now = promised-small form ys s.share kept.count kept.shared kept.each_within in
+    let then = promised-small form (set ys c.args.row c.args.to) s.share (length-set ys c.args.row c.args.to ∙ kept.count) kept.shared (within-set form ys s.share c.args.row c.args.to kept.count kept.each_within within) in
+    omega (arith, degrees.0, degrees.1, now, then, kept.degrees_are)
+
+pub overflow_mul-self-2 : goal.overflow_mul-self-2
+overflow_mul-self-2 c =
+    let s = c.self.inside in
+    let kept = c.self.invariant in
+    let ys = s.multipliers.items in
+    let form = s.form.now in
+    let row : c.args.row < length form.rows = subst (λ (m : MultipliersState). c.args.row < length m.form.rows) (sym c.self.view_is) c.requires.row in
+    let within : IsWithinShare form s.share c.args.row c.args.to = subst (λ (m : MultipliersState). IsWithinShare m.form m.share c.args.row c.args.to) (sym c.self.view_is) c.requires.within in
+    let from : c.index-from.result.now ≡ get_or ys c.args.row 0 = get_or_read ys c.args.row c.index-from.result.now (omega (arith, row, kept.count)) c.index-from.ensures 0 in
+    let degree : (row_at form.rows c.args.row).degree ≡ c.degree-degree.result = subst (λ found. IsSomeAnd found (λ (r : PositiveRow). r.degree ≡ c.degree-degree.result)) (slice_get-get_or form.rows c.args.row (record { terms = []; degree = 0 }) row) c.degree-degree.ensures in
+    let product : c.index-from.result.now * c.degree-degree.result ≡ get_or ys c.args.row 0 * (row_at form.rows c.args.row).degree = ap (λ (n : ℕ). n * c.degree-degree.result) from ∙ ap (λ (n : ℕ). get_or ys c.args.row 0 * n) (sym degree) in
+    let new : c.args.to * c.degree-degree.result ≡ c.args.to * (row_at form.rows c.args.row).degree = ap (λ (n : ℕ). c.args.to * n) (sym degree) in
+    let degrees = degrees-set form ys c.args.row c.args.to kept.count row in
+    let now = promised-small form ys s.share kept.count kept.shared kept.each_within in
+    let then = promised-small form (set ys c.args.row c.args.to) s.share (length-set ys c.args.row c.args.to ∙ kept.count) kept.shared (within-set form ys s.share c.args.row c.args.to kept.count kept.each_within within) in
+    omega (arith, degrees.0, degrees.1, now, then, kept.degrees_are)
+
+pub overflow_add-self : goal.overflow_add-self
+overflow_add-self c =
+    let s = c.self.inside in
+    let kept = c.self.invariant in
+    let ys = s.multipliers.items in
+    let form = s.form.now in
+    let row : c.args.row < length form.rows = subst (λ (m : MultipliersState). c.args.row < length m.form.rows) (sym c.self.view_is) c.requires.row in
+    let within : IsWithinShare form s.share c.args.row c.args.to = subst (λ (m : MultipliersState). IsWithinShare m.form m.share c.args.row c.args.to) (sym c.self.view_is) c.requires.within in
+    let from : c.index-from.result.now ≡ get_or ys c.args.row 0 = get_or_read ys c.args.row c.index-from.result.now (omega (arith, row, kept.count)) c.index-from.ensures 0 in
+    let degree : (row_at form.rows c.args.row).degree ≡ c.degree-degree.result = subst (λ found. IsSomeAnd found (λ (r : PositiveRow). r.degree ≡ c.degree-degree.result)) (slice_get-get_or form.rows c.args.row (record { terms = []; degree = 0 }) row) c.degree-degree.ensures in
+    let product : c.index-from.result.now * c.degree-degree.result ≡ get_or ys c.args.row 0 * (row_at form.rows c.args.row).degree = ap (λ (n : ℕ). n * c.degree-degree.result) from ∙ ap (λ (n : ℕ). get_or ys c.args.row 0 * n) (sym degree) in
+    let new : c.args.to * c.degree-degree.result ≡ c.args.to * (row_at form.rows c.args.row).degree = ap (λ (n : ℕ). c.args.to * n) (sym degree) in
+    let degrees = degrees-set form ys c.args.row c.args.to kept.count row in
+    let now = promised-small form ys s.share kept.count kept.shared kept.each_within in
+    let then = promised-small form (set ys c.args.row c.args.to) s.share (length-set ys c.args.row c.args.to ∙ kept.count) kept.shared (within-set form ys s.share c.args.row c.args.to kept.count kept.each_within within) in
+    omega (arith, degrees.0, degrees.1, now, then, kept.degrees_are)
+
+pub invariant_of-self : goal.invariant_of-self
+invariant_of-self c =
+    let s = c.self.inside in
+    let kept = c.self.invariant in
+    let ys = s.multipliers.items in
+    let form = s.form.now in
+    let row : c.args.row < length form.rows = subst (λ (m : MultipliersState). c.args.row < length m.form.rows) (sym c.self.view_is) c.requires.row in
+    let within : IsWithinShare form s.share c.args.row c.args.to = subst (λ (m : MultipliersState). IsWithinShare m.form m.share c.args.row c.args.to) (sym c.self.view_is) c.requires.within in
+    let from : c.index-from.result.now ≡ get_or ys c.args.row 0 = get_or_read ys c.args.row c.index-from.result.now (omega (arith, row, kept.count)) c.index-from.ensures 0 in
+    let terms : (row_at form.rows c.args.row).terms ≡ c.terms.result.now = subst (λ found. IsSomeAnd found (λ (r : PositiveRow). r.terms ≡ c.terms.result.now)) (slice_get-get_or form.rows c.args.row (record { terms = []; degree = 0 }) row) c.terms.ensures in
+    let degree : (row_at form.rows c.args.row).degree ≡ c.degree-degree.result = subst (λ found. IsSomeAnd found (λ (r : PositiveRow). r.degree ≡ c.degree-degree.result)) (slice_get-get_or form.rows c.args.row (record { terms = []; degree = 0 }) row) c.degree-degree.ensures in
+    let product : c.index-from.result.now * c.degree-degree.result ≡ get_or ys c.args.row 0 * (row_at form.rows c.args.row).degree = ap (λ (n : ℕ). n * c.degree-degree.result) from ∙ ap (λ (n : ℕ). get_or ys c.args.row 0 * n) (sym degree) in
+    let new : c.args.to * c.degree-degree.result ≡ c.args.to * (row_at form.rows c.args.row).degree = ap (λ (n : ℕ). c.args.to * n) (sym degree) in
+    let degrees = degrees-set form ys c.args.row c.args.to kept.count row in
+    let now = promised-small form ys s.share kept.count kept.shared kept.each_within in
+    let then = promised-small form (set ys c.args.row c.args.to) s.share (length-set ys c.args.row c.args.to ∙ kept.count) kept.shared (within-set form ys s.share c.args.row c.args.to kept.count kept.each_within within) in
+    let count : length c.reprice.new.costs ≡ length s.costs.items = c.reprice.ensures.count ∙ ap (λ (xs : List ℕ). length xs) c.deref_mut.ensures.value in
+    let back : take s.costs.len (c.reprice.new.costs ++ drop (length c.reprice.new.costs) s.costs.items) ≡ c.reprice.new.costs = changed_in_place s.costs.len c.reprice.new.costs s.costs.items count (omega (arith, s.costs.ok.0)) in
+    let values = c.deref.ensures.value in
+    let costs : AreReducedCosts s.scale form (set ys c.args.row c.args.to) c.reprice.new.costs = costs-set s.scale form ys s.costs.items c.reprice.new.costs c.args.row c.args.to kept.count row kept.costs_are count
+    (λ l low high.
+    let weight = ap (λ (ts : List PositiveTerm). weight_of l ts) terms in
+    let given : c.index-from.result.now * weight_of l c.terms.result.now ≡ get_or ys c.args.row 0 * weight_of l (row_at form.rows c.args.row).terms = ap (λ (n : ℕ). n * weight_of l c.terms.result.now) from ∙ ap (λ (n : ℕ). get_or ys c.args.row 0 * n) (sym weight) in
+    let taken : c.args.to * weight_of l c.terms.result.now ≡ c.args.to * weight_of l (row_at form.rows c.args.row).terms = ap (λ (n : ℕ). c.args.to * n) (sym weight) in
+    let cost = ap (λ (xs : List ℕ). get_or xs (literal_place l) 0) c.deref_mut.ensures.value in
+    omega (arith, c.reprice.ensures.each l low (omega (arith, high, ap (λ (vs : List (Option Bool)). length vs) values, kept.vars)))) in
+    record {
+      scale_from_one = kept.scale_from_one;
+      total_is = kept.total_is;
+      scaled = kept.scaled;
+      shared = kept.shared;
+      count = length-set ys c.args.row c.args.to ∙ kept.count;
+      each_within = within-set form ys s.share c.args.row c.args.to kept.count kept.each_within within;
+      degrees_are = (let sum : s.degrees - c.index-from.result.now * c.degree-degree.result + c.args.to * c.degree-degree.result ≡ promised (set ys c.args.row c.args.to) form.rows = omega (arith, degrees.0, degrees.1, kept.degrees_are) in sum);
+      costs_are = subst (λ (xs : List ℕ). AreReducedCosts s.scale form (set ys c.args.row c.args.to) xs) (sym back) costs;
+      vars = kept.vars;
+      values_are = kept.values_are;
+      sum_is = c.reprice.ensures.sum ∙ (ap (λ (vs : List (Option Bool)). parts c.reprice.new.costs vs) values ∙ ap (λ (xs : List ℕ). parts xs s.values.items) (sym back));
+      changes_within = kept.changes_within;
+    }

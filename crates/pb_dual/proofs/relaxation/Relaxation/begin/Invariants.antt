@@ -1,0 +1,8 @@
+use Rattle.std.proofs.Common.{◌≡◌, [], List}
+use Rattle.pb_dual.proofs.relaxation.Relaxation.begin.Given as goal
+
+abbrev pub invariant-loop-pass : goal.invariant-loop-pass
+invariant-loop-pass l = record {
+  form : l.self.form ≡ l.fn.self.form;
+  empty : l.self.trail ≡ [];
+}

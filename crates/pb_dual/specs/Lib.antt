@@ -1,0 +1,3 @@
+pub mod ReducedCosts
+pub mod Multipliers
+pub mod Relaxation

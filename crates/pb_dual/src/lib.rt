@@ -1,0 +1,23 @@
+//! Lagrangian multipliers for the rows of a normal form, and the lower bound that they give.
+//!
+//! Whoever meets a row `sum of a l >= b` meets it times any number from 0 on. So for multipliers y the cost of every
+//! assignment that meets all rows is at least what the degrees promise, y b, and what is left of the costs of its true
+//! literals once each row has taken off its coefficients as often as its multiplier says, the reduced costs. That holds
+//! whatever multipliers are proposed: which row to shift, and how far, carries no promise.
+#![tactic(auto)]
+
+mod changes;
+mod multipliers;
+mod reduced_costs;
+mod relaxation;
+
+pub use changes::Change;
+pub use multipliers::Multipliers;
+use pb_inst::Magnitude;
+pub use relaxation::Relaxation;
+
+/// 2^62: a reduced cost that is 0. They may be below it.
+const ZERO: Magnitude = 4_611_686_018_427_387_904;
+
+#[cfg(test)]
+mod tests;
