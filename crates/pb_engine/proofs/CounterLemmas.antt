@@ -1,6 +1,5 @@
 -- The counters stay right when a literal is counted or taken back.
 use Rattle.std.proofs.Common.{◌≡◌, ℕ, ◌+◌, ◌<◌, ◌≤◌, ◌^◌, List, [], ◌∷◌, ◌++◌, length, get_or, take, refl, sym, ◌∙◌, ap, arith, Bool, cond, sum_by, All, None}
-use Rattle.std.proofs.lemmas.List.{take_more}
 use Rattle.std.proofs.lemmas.List.Sums.{sum_by-cons}
 use Rattle.pb_inst.specs.Literal.{Literal}
 use Rattle.pb_normal.specs.declared.terms.PositiveTerm.{PositiveTerm}
@@ -8,7 +7,6 @@ use Rattle.pb_normal.specs.NormalForm.{PositiveRow, NormalForm, HasSmallSums}
 use Rattle.pb_rows.specs.Constraints.{row_at}
 use Rattle.pb_engine.specs.DisjointRows.{gain, loss}
 use Rattle.pb_engine.specs.Needs.{wants, IsLackOf, AreCounters}
-use Rattle.pb_trail.specs.Soundness.{IsProperTrail}
 use Rattle.pb_normal.specs.Literals.{negation, weight_of}
 use Rattle.pb_trail.specs.Trail.{is_true, value_on, reached}
 use Rattle.pb_engine.proofs.BoundLemmas.{reached-le-total}
@@ -61,11 +59,6 @@ can_leave form rows trail paid lacks given wanting l are free small same r h =
     let within : r < length rows = omega (arith, ap (λ (xs : List ℕ). length xs) same, are.count) in
     let read = ap (λ (xs : List ℕ). get_or xs r 0) same in
     lack-left form.objective trail l (row_at rows r) (get_or given r 0) free (small r (record { terms = []; degree = 0 }) within) (omega (arith, are.each r within))
-
--- the literal at a place of the trail has no value before it, and follows the literals before it
-pub at_place : (vars : ℕ) (trail : List Literal) (k : ℕ) (l : Literal) → IsProperTrail vars trail → k < length trail → l ≡ get_or trail k l → (value_on (take k trail) l.var ≡ None) × (take (k + 1) trail ≡ take k trail ++ l ∷ [])
-at_place vars trail k l proper h read =
-    (ap (λ (m : Literal). value_on (take k trail) m.var) read ∙ proper.once k l h, take_more trail k l h ∙ ap (λ (m : Literal). take k trail ++ m ∷ []) (sym read))
 
 -- the objective's total bounds what is paid
 pub paid_within : (form : NormalForm) (trail : List Literal) (l : Literal) → value_on trail l.var ≡ None → reached trail form.objective + weight_of l form.objective ≤ sum_by (λ (t : PositiveTerm). t.coef) form.objective

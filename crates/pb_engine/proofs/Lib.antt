@@ -8,3 +8,4 @@ pub mod DisjointLemmas
 pub mod DisjointBound
 pub mod SpareLemmas
 pub mod ClauseLemmas
+pub mod RelaxedLemmas

@@ -1,6 +1,7 @@
 pub mod DisjointRows
 pub mod Needs
 pub mod Offers
+pub mod Fixing
 pub mod Laws
 pub use Rattle.pb_trail.specs.Trail
 pub use Rattle.pb_trail.specs.Completion

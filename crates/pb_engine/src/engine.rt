@@ -13,10 +13,12 @@ ghost use Rattle.pb_trail.specs.Propagation.{AddsForced, IsBrokenAt};
 ghost use Rattle.pb_trail.specs.EngineState.{trail_before, is_conflict, HasNegativeSlack};
 ghost use Rattle.pb_trail.specs.Soundness.{IsFull, IsSolved, IsSoundTrail};
 ghost use Rattle.pb_engine.specs.DisjointRows.{disjoint_bound};
+ghost use Rattle.pb_engine.specs.Fixing.{IsForcedWithin};
 
 use crate::bound::{bound_with, payment};
 use crate::needs::Needs;
 use pb_bits::Marks;
+use pb_dual::Relaxation;
 use pb_inst::{Cube, Lit, Memory, Number};
 use pb_normal::Normal;
 use pb_rows::{Clauses, Count, RowTerms, Rows, TablesSource};
@@ -34,17 +36,21 @@ pub struct CountingEngine<'a, C: Count> {
     propagator: Propagator<'a, C>,
     needs: Needs<C>,
     marks: Marks,
+    /// Multipliers for a second lower bound, where there is an objective. The view leaves them out.
+    relaxation: Option<Relaxation<'a>>,
 }
 
 impl<'a, C: Count> Model for CountingEngine<'a, C> {
+    ghost use Rattle.std.specs.Prelude.{IfSome};
     ghost use Rattle.pb_trail.specs.EngineState.{EngineState};
+    ghost use Rattle.pb_dual.specs.Relaxation.{IsBeside};
     ghost use Rattle.pb_engine.specs.Needs.{HasCounters};
 
     ghost Value = { EngineState };
 
     ghost view = { λ e. e.propagator };
 
-    ghost invariant = { λ e. HasCounters e.propagator e.needs e.marks };
+    ghost invariant = { λ e. (HasCounters e.propagator e.needs e.marks) × IfSome e.relaxation (λ r. IsBeside e.propagator.form e.propagator.trail r) };
 }
 
 impl<'a, C: Count> CountingEngine<'a, C> {
@@ -84,6 +90,7 @@ impl<'a, C: Count> CountingEngine<'a, C> {
     fn start(alloc: Global, source: TablesSource<'a, C>) -> Result<CountingEngine<'a, C>, Memory>
         ensures { IfOk result (λ e. e ≡ record { form = source.entry.form; vars = source.entry.vars; rows = source.entry.rows; trail = []; levels = []; conflict = false }) }
     {
+        let relaxation = relaxation_over(alloc, source.tables().form())?;
         let propagator = Propagator::new(alloc, source)?;
         let needs = Needs::new(alloc, &propagator.slacks())?;
         let marks = Marks::new(alloc, propagator.vars())?;
@@ -91,6 +98,7 @@ impl<'a, C: Count> CountingEngine<'a, C> {
             propagator,
             needs,
             marks,
+            relaxation,
         })
     }
 
@@ -168,6 +176,9 @@ impl<'a, C: Count> CountingEngine<'a, C> {
         ensures fixed { result ≡ Step.Fixed }
         ensures sound { IsSoundTrail self.new }
     {
+        if let Some(relaxation) = &mut self.relaxation {
+            relaxation.begin_level();
+        }
         self.propagator.assume(lit)
     }
 
@@ -208,7 +219,50 @@ impl<'a, C: Count> CountingEngine<'a, C> {
         let start = self.propagator.start_of(level);
         self.needs.take_back(&self.propagator.slacks(), start);
         self.propagator.undo_to(level);
+        if let Some(relaxation) = &mut self.relaxation {
+            relaxation.undo_to(level as usize, start);
+        }
     }
+
+    /// The greater of a lower bound and that of the multipliers, if there are any. Where the latter is below the goal, the
+    /// multipliers of the rows that the trail touched since the last time are improved first. It leaves the trail and the
+    /// conflict as they are, and takes no memory.
+    pub fn relaxed_bound(&mut self, bound: Number, goal: Number) -> Number
+        requires { IsLowerBound self.old.form self.old.rows self.old.trail bound }
+        ensures bound { IsLowerBound self.old.form self.old.rows self.old.trail result }
+        ensures unchanged { self.new ≡ self.old }
+    {
+        let slacks = self.propagator.slacks();
+        let _vars = slacks.tables().vars();
+        let Some(relaxation) = &mut self.relaxation else {
+            return bound;
+        };
+        relaxation.raise(&slacks, bound, goal)
+    }
+
+    /// A literal without a value that every completion of the trail that costs no more than the limit makes true, by the
+    /// multipliers; or none. It leaves the trail and the conflict as they are, and takes no memory.
+    pub fn fixed_literal(&mut self, limit: Number) -> Option<Lit>
+        ensures fixed { IfSome result (IsForcedWithin self.old limit) }
+        ensures unchanged { self.new ≡ self.old }
+    {
+        let slacks = self.propagator.slacks();
+        let _vars = slacks.tables().vars();
+        let Some(relaxation) = &mut self.relaxation else {
+            return None;
+        };
+        relaxation.fixed_literal(&slacks, limit)
+    }
+}
+
+/// Multipliers for the rows of the form, where it has an objective.
+fn relaxation_over<'a>(alloc: Global, form: &'a Normal) -> Result<Option<Relaxation<'a>>, Memory>
+    ensures { IfOk result (λ relaxation. IfSome relaxation (λ r. (r.form ≡ form.now) × (r.trail ≡ []))) }
+{
+    if form.objective().is_empty() {
+        return Ok(None);
+    }
+    Ok(Some(Relaxation::new(alloc, form)?))
 }
 
 #[cfg(test)]

@@ -17,10 +17,11 @@ use Rattle.pb_normal.specs.NormalForm.{normal_cost}
 use Rattle.pb_engine.specs.Trail.{value_on}
 use Rattle.pb_engine.specs.Completion.{IsLowerBound}
 use Rattle.pb_engine.specs.EngineState.{EngineState}
+use Rattle.pb_engine.specs.Fixing.{IsForcedWithin}
 use Rattle.pb_engine.specs.Soundness.{IsFull, IsSolved, IsSoundTrail}
 use Rattle.pb_search.specs.Held.{IsImprovement}
 use Rattle.pb_search.specs.Solutions.{Completes}
-use Rattle.pb_search.specs.SearchState.{IsEngineOf, IsFilledFrom, IsClosed, IsNotBefore, DifferAt, HasOnesWithin, bit_on}
+use Rattle.pb_search.specs.SearchState.{IsEngineOf, IsFilledFrom, IsClosed, IsOpenOnOneSide, IsNotBefore, DifferAt, HasOnesWithin, bit_on}
 use Rattle.pb_search.proofs.HeldLemmas.{IsTaken}
 use Rattle.pb_search.proofs.Engines.{value_on-true, value_on-entry}
 
@@ -136,6 +137,18 @@ closed_at_tie p s bound t engine low sound over after a h (inl less) =
     let same : normal_cost s.form a ≡ cost p a = engine.costs a in
     let is : t.cost ≡ cost p t.assignment = sound.cost_is in omega (arith, ints)
 closed_at_tie p s bound t engine low sound over after a h (inr equal) = after a h.makes_true equal.1
+
+-- a literal that is forced within the best cost
+pub one_sided_within : (p : Problem) (s : EngineState) (t : Solution) (limit : ℤ) (l : Literal) → IsEngineOf p s → IsSolution p t → t.cost ≡ limit → IsForcedWithin s limit l → IsOpenOnOneSide p s (Some t) l
+one_sided_within p s t limit l engine sound is fixed = record {
+  variable = fixed.variable;
+  no_value = fixed.no_value;
+  one_sided = λ a h better. fixed.forced a (record { makes_true = h.makes_true; meets_rows = h.solution.meets_rows }) (no_dearer a better);
+}
+  where
+    no_dearer : (a : List Bool) → IsBefore p a t.assignment → normal_cost s.form a ≤ℤ limit
+    no_dearer a (inl less) = (let same : normal_cost s.form a ≡ cost p a = engine.costs a in let best : t.cost ≡ cost p t.assignment = sound.cost_is in omega (arith, ints))
+    no_dearer a (inr equal) = (let same : normal_cost s.form a ≡ cost p a = engine.costs a in let best : t.cost ≡ cost p t.assignment = sound.cost_is in omega (arith, ints, equal.0))
 
 -- what is held has the cost and the assignment that are told
 pub held_is : (held : Option Solution) (c : ℤ) (a : List Bool) → option_map (λ (s : Solution). s.cost) held ≡ Some c → option_map (λ (s : Solution). s.assignment) held ≡ Some a → held ≡ Some (record { cost = c; assignment = a })

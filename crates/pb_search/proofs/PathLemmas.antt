@@ -1,6 +1,6 @@
 -- How open branches and the steps that are left change when the path does.
-use Rattle.std.proofs.Common.{◌≡◌, ℕ, ◌*◌, ◌-◌, ◌^◌, ◌<◌, ◌≤◌, List, [], ◌∷◌, ◌++◌, length, refl, arith, suc, zero, Bool, true, false, not, cond, inl, inr, ◌⊎◌}
-use Rattle.std.specs.Prelude.{slice_index_or}
+use Rattle.std.proofs.Common.{◌≡◌, ℕ, ◌+◌, ◌*◌, ◌-◌, ◌^◌, ◌<◌, ◌≤◌, List, [], ◌∷◌, ◌++◌, length, refl, arith, suc, zero, Bool, true, false, not, cond, inl, inr, ◌⊎◌}
+use Rattle.std.specs.Prelude.{if◌then◌else◌, slice_index_or}
 use Rattle.std.proofs.lemmas.List.Elements.{All-nil, All-cons}
 use Rattle.pb_inst.specs.Literal.{Literal}
 use Rattle.pb_inst.specs.Meaning.{literal_value}
@@ -24,6 +24,12 @@ pub decide_keeps : (a : List Bool) (path : List Branch) (b : Branch) → b.flipp
 decide_keeps a [] b fresh h = elim (literal_cases a b.lit) [ inl one ↦ inl (one, tt) | inr none ↦ inr (none, fresh) ]
 decide_keeps a (c ∷ path) b fresh (inl on) = inl (on.0, decide_keeps a path b fresh on.1)
 decide_keeps a (c ∷ path) b fresh (inr off) = inr off
+
+-- the same where the path's end leaves the new decision no other value
+pub decide_keeps_one_sided : (a : List Bool) (path : List Branch) (b : Branch) → (MakesTrue a (decided path) → literal_value a b.lit ≡ 1) → LiesOpen a path → LiesOpen a (path ++ b ∷ [])
+decide_keeps_one_sided a [] b forced h = inl (forced (All-nil (λ l. literal_value a l ≡ 1)), tt)
+decide_keeps_one_sided a (c ∷ path) b forced (inl on) = inl (on.0, decide_keeps_one_sided a path b (λ follows. forced (All-cons (λ l. literal_value a l ≡ 1) c.lit (decided path) on.0 follows)) on.1)
+decide_keeps_one_sided a (c ∷ path) b forced (inr off) = inr off
 
 -- what lies open leaves the path open, unless it follows the path to its end
 pub leaves_open : (a : List Bool) (path : List Branch) → LiesOpen a path → ¬ MakesTrue a (decided path) → LeavesOpen a path
@@ -61,10 +67,15 @@ power_next : (n : ℕ) → 1 ≤ n → 3 ^ n ≡ 3 * 3 ^ (n - 1)
 power_next zero h = absurd (omega arith)
 power_next (suc n) h = grind arith
 
+-- at the end of the path, whether one value or both are to be tried
+last_falls : (n : ℕ) (flipped : Bool) → 1 ≤ n → (if flipped then 0 else 3 ^ (n - 1)) + 3 ^ (n - 1) < 3 ^ n
+last_falls n true from_one = rw (power_next n from_one) (omega (arith, power_positive (n - 1)))
+last_falls n false from_one = rw (power_next n from_one) (omega (arith, power_positive (n - 1)))
+
 -- a decision leaves fewer steps
-pub decide_falls : (n : ℕ) (path : List Branch) (b : Branch) → b.flipped ≡ false → length path < n → steps_left n (path ++ b ∷ []) < steps_left n path
-decide_falls n [] b fresh lt = rw (fresh, power_next n (omega arith)) (omega (arith, power_positive (n - 1)))
-decide_falls n (c ∷ path) b fresh lt = omega (arith, decide_falls (n - 1) path b fresh (omega arith))
+pub decide_falls : (n : ℕ) (path : List Branch) (b : Branch) → length path < n → steps_left n (path ++ b ∷ []) < steps_left n path
+decide_falls n [] b lt = last_falls n b.flipped (omega arith)
+decide_falls n (c ∷ path) b lt = omega (arith, decide_falls (n - 1) path b (omega arith))
 
 -- turning to the other value leaves fewer steps
 pub turn_falls : (n : ℕ) (kept taken_back : List Branch) (last next : Branch) → last.flipped ≡ false → next.flipped ≡ true → steps_left n (kept ++ next ∷ []) < steps_left n (kept ++ last ∷ taken_back)

@@ -19,9 +19,9 @@ use Rattle.pb_search.specs.Layout.{IsLaidOut}
 use Rattle.pb_search.specs.Held.{IsNotAfter}
 use Rattle.pb_search.specs.Paths.{decided, steps_left, LiesOpen, LeavesOpen, IsOtherValue}
 use Rattle.pb_search.specs.Solutions.{SameConstraints, Satisfies, SatisfiesUnder, Completes}
-use Rattle.pb_search.specs.SearchState.{IsEngineOf, IsStateOf, IsAtPath, IsFree, IsClosed, SameBranches, IsUnderWay, IsLeaving, IsNext, LeavesFewer, IsOwn}
+use Rattle.pb_search.specs.SearchState.{IsEngineOf, IsStateOf, IsAtPath, IsFree, IsClosed, IsFreshOrOneSided, SameBranches, IsUnderWay, IsLeaving, IsNext, LeavesFewer, IsOwn}
 use Rattle.pb_search.proofs.HeldLemmas.{improvement_on_earlier}
-use Rattle.pb_search.proofs.PathLemmas.{decide_keeps, leaves_open, leaves_last, turn_keeps}
+use Rattle.pb_search.proofs.PathLemmas.{decide_keeps, decide_keeps_one_sided, leaves_open, leaves_last, turn_keeps}
 use Rattle.pb_search.proofs.Engines.{same_constraints_onward, same_constraints_itself}
 use Rattle.pb_search.proofs.Moves.{All_front, free_other}
 
@@ -94,14 +94,22 @@ state_moves p u w same room candidate h = record {
 }
 
 -- after an expansion that left the node open
-pub open_next : (p : Problem) (start : EngineState) (t u : SearchState) (next : Branch) (old new : Option Solution) → SameBranches t u → IsSoundTrail u.engine → IsFree u.engine next.lit → next.flipped ≡ false → IsNotAfter p old new → IsUnderWay p start t old → IsNext p start u next new
-open_next p start t u next old new same sound free fresh later h = record {
-  made_for = expanded_state p t u same h.made_for;
-  at_path = expanded_at (assumptions start) t u same sound h.at_path;
-  constraints = same_constraints_onward start t.engine u.engine h.constraints same.constraints;
-  free = free;
-  all_open = λ a below better. subst (λ v. LiesOpen a (v.items ++ next ∷ [])) (sym same.branches) (decide_keeps a t.branches.items next fresh (h.all_open a below (improvement_on_earlier p a old new later better)));
-}
+pub open_next : (p : Problem) (start : EngineState) (t u : SearchState) (next : Branch) (old new : Option Solution) → SameBranches t u → IsSoundTrail u.engine → IsFree u.engine next.lit → IsFreshOrOneSided p u.engine new next → IsNotAfter p old new → IsUnderWay p start t old → IsNext p start u next new
+open_next p start t u next old new same sound free sides later h =
+    let at = expanded_at (assumptions start) t u same sound h.at_path in
+    let constraints = same_constraints_onward start t.engine u.engine h.constraints same.constraints in
+    record {
+      made_for = expanded_state p t u same h.made_for;
+      at_path = at;
+      constraints = constraints;
+      free = free;
+      all_open = λ a below better.
+          let lies : LiesOpen a u.branches.items = subst (λ v. LiesOpen a v.items) (sym same.branches) (h.all_open a below (improvement_on_earlier p a old new later better)) in
+          elim sides [
+            | inl fresh ↦ decide_keeps a u.branches.items next fresh lies
+            | inr one_sided ↦ decide_keeps_one_sided a u.branches.items next (λ follows. one_sided a (completes (assumptions start) start u.engine u.branches.items a constraints at below follows) better) lies
+          ];
+    }
 
 -- after an expansion that closed the node
 pub closed_leaving : (p : Problem) (start : EngineState) (t u : SearchState) (old new : Option Solution) → SameBranches t u → IsSoundTrail u.engine → IsClosed p u.engine new → IsNotAfter p old new → IsUnderWay p start t old → IsLeaving p start u new

@@ -2,7 +2,7 @@
 use Rattle.std.specs.Prelude.{◌≡◌, ℕ, ◌+◌, ◌-◌, ◌<◌, ◌≤◌, Bool, true, false, List, [], ◌∷◌, ◌++◌, length, All, ◌⊎◌, IsSomeAnd, Option, None, Some, vec_capacity, slice_index_or, unwrap_or}
 use Rattle.pb_inst.specs.Literal.{Literal}
 use Rattle.pb_inst.specs.Problem.{Problem}
-use Rattle.pb_inst.specs.Meaning.{IsFeasible}
+use Rattle.pb_inst.specs.Meaning.{IsFeasible, literal_value}
 use Rattle.pb_inst.specs.Order.{IsLexBefore}
 use Rattle.pb_inst.specs.Cubes.{MakesTrue}
 use Rattle.pb_inst.specs.Incumbent.{Incumbent, Solution}
@@ -83,6 +83,20 @@ IsNotBefore trail b = (a : List Bool) → MakesTrue a trail → ¬ IsLexBefore a
 -- no completion of the trail is before what is held
 abbrev pub IsClosed : Problem → EngineState → Option Solution → Type 0
 IsClosed p s held = (a : List Bool) → Completes s a → ¬ IsImprovement p a held
+
+-- every completion of the trail that is before what is held makes the literal true
+abbrev pub IsOneSided : Problem → EngineState → Option Solution → Literal → Type 0
+IsOneSided p s held l = (a : List Bool) → Completes s a → IsImprovement p a held → literal_value a l ≡ 1
+
+-- the literal has no value, and its negation has nothing to give
+pub record IsOpenOnOneSide (p : Problem) (s : EngineState) (held : Option Solution) (l : Literal) : Type 0 where
+  pub variable : l.var ≤ s.vars
+  pub no_value : value_on s.trail l.var ≡ None
+  pub one_sided : IsOneSided p s held l
+
+-- both values of the decision are to be tried, or the other one has nothing to give
+abbrev pub IsFreshOrOneSided : Problem → EngineState → Option Solution → Branch → Type 0
+IsFreshOrOneSided p s held b = (b.flipped ≡ false) ⊎ IsOneSided p s held b.lit
 
 -- where a search stands that began at the trail of `start`: every solution below the start that is before what is held lies below an open branch
 pub record IsUnderWay (p : Problem) (start : EngineState) (t : SearchState) (held : Option Solution) : Type 0 where

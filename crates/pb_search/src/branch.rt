@@ -14,7 +14,7 @@ use pb_inst::{Lit, Number};
 pub struct Branch {
     /// The literal that is assumed.
     pub lit: Lit,
-    /// Whether the other value was tried before it.
+    /// Whether the other value was tried before it, or has nothing to give.
     pub flipped: bool,
     /// The bound of the trail before the decision, or none where none was taken: no more than a hint of whether to ask the
     /// engine again.

@@ -10,6 +10,7 @@
 mod agreed_prefix;
 mod backtrack;
 mod branch;
+mod fixing;
 mod incumbent;
 mod node;
 mod order;

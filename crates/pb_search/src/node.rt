@@ -8,16 +8,17 @@ ghost use Rattle.pb_search.specs.Held.{MovesOn};
 ghost use Rattle.pb_search.specs.Solutions.{SameConstraints, Completes};
 ghost use Rattle.pb_search.specs.AgreedPrefix.{KnowsHeldPrefix};
 ghost use Rattle.pb_search.specs.Budget.{IsLeftOf};
-ghost use Rattle.pb_search.specs.SearchState.{IsStateOf, IsAtSomePath, IsFree, IsClosed, SameBranches, IsUnderWay, IsNext, LeavesFewer, IsSearched, IsOwn};
+ghost use Rattle.pb_search.specs.SearchState.{IsStateOf, IsAtSomePath, IsFree, IsClosed, IsFreshOrOneSided, SameBranches, IsUnderWay, IsNext, LeavesFewer, IsSearched, IsOwn};
 
 use crate::Share;
 use crate::agreed_prefix::AgreedPrefix;
 use crate::backtrack::backtrack;
 use crate::branch::{Branch, decide};
+use crate::fixing::{judge_node, one_sided};
 use crate::incumbent::{borrow_on_the_way, take_leaf};
 use crate::order::next_decision;
 use crate::outcome::Outcome;
-use crate::pruning::{Pruning, check_bound};
+use crate::pruning::Pruning;
 use crate::search_state::SearchState;
 use pb_engine::Step;
 use pb_inst::Best;
@@ -37,7 +38,7 @@ fn expand_node<S: Share>(
     requires sound { IsSoundTrail state.old.engine }
     requires known { KnowsHeldPrefix state.old.engine.trail best.old.held agreed.old }
     ensures open { IfSome result (λ b. IsFree state.new.engine b.lit) }
-    ensures fresh { IfSome result (λ b. b.flipped ≡ false) }
+    ensures sides { IfSome result (λ b. IsFreshOrOneSided best.old.problem state.new.engine best.new.held b) }
     ensures closed { IfNone result (IsClosed best.old.problem state.new.engine best.new.held) }
     ensures same_branches { SameBranches state.old state.new }
     ensures sound { IsSoundTrail state.new.engine }
@@ -56,11 +57,14 @@ fn expand_node<S: Share>(
     }
     // The bound is asked for after propagation alone: it counts what the trail forces, and a node that ends in a conflict
     // never pays for it.
-    let (pruning, bound) = check_bound(&mut state.engine, best, agreed);
+    let (pruning, bound, fixed) = judge_node(&mut state.engine, best, agreed);
     if pruning == Pruning::Closed {
         return None;
     }
     let (vars, hints) = (state.candidate.len(), state.hints());
+    if let Some(lit) = fixed {
+        return Some(one_sided(lit, bound, hints));
+    }
     let Some(branch) = next_decision(&state.engine, vars, &mut state.order, hints, pruning, bound)
     else {
         take_leaf(&state.engine, &mut state.candidate, best, share);

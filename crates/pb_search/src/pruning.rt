@@ -36,11 +36,20 @@ pub fn check_bound(
 {
     // Where nothing is held there is nothing to compare a bound with, and taking one would go through rows for nothing:
     // the first descent to a solution costs propagation alone.
-    if best.cost().is_none() {
+    let Some(cost) = best.cost() else {
         return (Pruning::Open, None);
-    }
+    };
+    // Of two lower bounds the greater one counts. That of disjoint rows is at hand sooner.
     let bound = engine.bound();
-    (judge_bound(engine, bound, best, agreed), Some(bound))
+    let pruning = judge_bound(engine, bound, best, agreed);
+    if pruning == Pruning::Closed {
+        return (pruning, Some(bound));
+    }
+    let relaxed = engine.relaxed_bound(bound, cost);
+    if relaxed <= bound {
+        return (pruning, Some(bound));
+    }
+    (judge_bound(engine, relaxed, best, agreed), Some(relaxed))
 }
 
 /// Compares a bound of the trail's completions with the best cost. Where they are equal the order of assignments decides.

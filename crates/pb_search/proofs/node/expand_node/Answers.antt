@@ -29,24 +29,32 @@ returns-then-eq-clause-same_branches g c = record {
 
 pub returns-then-eq-2-clause-same_branches : goal.returns-then-eq-2-clause-same_branches
 returns-then-eq-2-clause-same_branches g c = record {
-  constraints = same_constraints c.args.state.now.engine c.check_bound-pruning.new.engine c.propagate.new.self.trail c.args.state.now.engine.levels (is_conflict c.propagate.result) (c.check_bound-pruning.ensures.unchanged ∙ c.propagate.ensures.added);
-  assumptions = propagated c.args.state.now.engine c.check_bound-pruning.new.engine c.propagate.new.self.trail (is_conflict c.propagate.result) c.requires.sound (c.check_bound-pruning.ensures.unchanged ∙ c.propagate.ensures.added) c.propagate.ensures.forced;
+  constraints = same_constraints c.args.state.now.engine c.judge_node-pruning.new.engine c.propagate.new.self.trail c.args.state.now.engine.levels (is_conflict c.propagate.result) (c.judge_node-pruning.ensures.unchanged ∙ c.propagate.ensures.added);
+  assumptions = propagated c.args.state.now.engine c.judge_node-pruning.new.engine c.propagate.new.self.trail (is_conflict c.propagate.result) c.requires.sound (c.judge_node-pruning.ensures.unchanged ∙ c.propagate.ensures.added) c.propagate.ensures.forced;
   branches = refl;
   room = refl;
 }
 
-pub returns-in_default-clause-same_branches : goal.returns-in_default-clause-same_branches
-returns-in_default-clause-same_branches g c = record {
-  constraints = same_constraints c.args.state.now.engine c.check_bound-pruning.new.engine c.propagate.new.self.trail c.args.state.now.engine.levels (is_conflict c.propagate.result) (c.check_bound-pruning.ensures.unchanged ∙ c.propagate.ensures.added);
-  assumptions = propagated c.args.state.now.engine c.check_bound-pruning.new.engine c.propagate.new.self.trail (is_conflict c.propagate.result) c.requires.sound (c.check_bound-pruning.ensures.unchanged ∙ c.propagate.ensures.added) c.propagate.ensures.forced;
+pub returns-in_default-next_decision-clause-same_branches : goal.returns-in_default-next_decision-clause-same_branches
+returns-in_default-next_decision-clause-same_branches g c = record {
+  constraints = same_constraints c.args.state.now.engine c.judge_node-pruning.new.engine c.propagate.new.self.trail c.args.state.now.engine.levels (is_conflict c.propagate.result) (c.judge_node-pruning.ensures.unchanged ∙ c.propagate.ensures.added);
+  assumptions = propagated c.args.state.now.engine c.judge_node-pruning.new.engine c.propagate.new.self.trail (is_conflict c.propagate.result) c.requires.sound (c.judge_node-pruning.ensures.unchanged ∙ c.propagate.ensures.added) c.propagate.ensures.forced;
   branches = refl;
   room = c.take_leaf.ensures.same_length;
 }
 
 pub returns-clause-same_branches : goal.returns-clause-same_branches
 returns-clause-same_branches g c = record {
-  constraints = same_constraints c.args.state.now.engine c.check_bound-pruning.new.engine c.propagate.new.self.trail c.args.state.now.engine.levels (is_conflict c.propagate.result) (c.check_bound-pruning.ensures.unchanged ∙ c.propagate.ensures.added);
-  assumptions = propagated c.args.state.now.engine c.check_bound-pruning.new.engine c.propagate.new.self.trail (is_conflict c.propagate.result) c.requires.sound (c.check_bound-pruning.ensures.unchanged ∙ c.propagate.ensures.added) c.propagate.ensures.forced;
+  constraints = same_constraints c.args.state.now.engine c.judge_node-pruning.new.engine c.propagate.new.self.trail c.args.state.now.engine.levels (is_conflict c.propagate.result) (c.judge_node-pruning.ensures.unchanged ∙ c.propagate.ensures.added);
+  assumptions = propagated c.args.state.now.engine c.judge_node-pruning.new.engine c.propagate.new.self.trail (is_conflict c.propagate.result) c.requires.sound (c.judge_node-pruning.ensures.unchanged ∙ c.propagate.ensures.added) c.propagate.ensures.forced;
+  branches = refl;
+  room = refl;
+}
+
+pub returns-in-Some-clause-same_branches : goal.returns-in-Some-clause-same_branches
+returns-in-Some-clause-same_branches g c = record {
+  constraints = same_constraints c.args.state.now.engine c.judge_node-pruning.new.engine c.propagate.new.self.trail c.args.state.now.engine.levels (is_conflict c.propagate.result) (c.judge_node-pruning.ensures.unchanged ∙ c.propagate.ensures.added);
+  assumptions = propagated c.args.state.now.engine c.judge_node-pruning.new.engine c.propagate.new.self.trail (is_conflict c.propagate.result) c.requires.sound (c.judge_node-pruning.ensures.unchanged ∙ c.propagate.ensures.added) c.propagate.ensures.forced;
   branches = refl;
   room = refl;
 }
@@ -54,19 +62,19 @@ returns-clause-same_branches g c = record {
 pub returns-then-eq-clause-known : goal.returns-then-eq-clause-known
 returns-then-eq-clause-known g c = knows_added c.args.state.now.engine.rows c.args.state.now.engine.trail c.propagate.new.self.trail c.args.best.now.held c.args.agreed.now c.propagate.ensures.forced c.requires.known
 
-pub check_bound-pruning-requires-clause-known : goal.check_bound-pruning-requires-clause-known
-check_bound-pruning-requires-clause-known g c = knows_added c.args.state.now.engine.rows c.args.state.now.engine.trail c.propagate.new.self.trail c.args.best.now.held c.args.agreed.now c.propagate.ensures.forced c.requires.known
+pub judge_node-pruning-requires-clause-known : goal.judge_node-pruning-requires-clause-known
+judge_node-pruning-requires-clause-known g c = knows_added c.args.state.now.engine.rows c.args.state.now.engine.trail c.propagate.new.self.trail c.args.best.now.held c.args.agreed.now c.propagate.ensures.forced c.requires.known
 
-pub check_bound-pruning-requires-clause-engine : goal.check_bound-pruning-requires-clause-engine
-check_bound-pruning-requires-clause-engine g c =
+pub judge_node-pruning-requires-clause-engine : goal.judge_node-pruning-requires-clause-engine
+judge_node-pruning-requires-clause-engine g c =
     same_engine c.args.best.now.problem c.args.state.now.engine c.propagate.new.self
     (same_constraints c.args.state.now.engine c.propagate.new.self c.propagate.new.self.trail c.args.state.now.engine.levels (is_conflict c.propagate.result) c.propagate.ensures.added)
     c.requires.state.engine
 
 pub take_leaf-requires-clause-engine : goal.take_leaf-requires-clause-engine
 take_leaf-requires-clause-engine g c =
-    same_engine c.args.best.now.problem c.args.state.now.engine c.check_bound-pruning.new.engine
-    (same_constraints c.args.state.now.engine c.check_bound-pruning.new.engine c.propagate.new.self.trail c.args.state.now.engine.levels (is_conflict c.propagate.result) (c.check_bound-pruning.ensures.unchanged ∙ c.propagate.ensures.added))
+    same_engine c.args.best.now.problem c.args.state.now.engine c.judge_node-pruning.new.engine
+    (same_constraints c.args.state.now.engine c.judge_node-pruning.new.engine c.propagate.new.self.trail c.args.state.now.engine.levels (is_conflict c.propagate.result) (c.judge_node-pruning.ensures.unchanged ∙ c.propagate.ensures.added))
     c.requires.state.engine
 
 pub returns-then-conflict-clause-same_branches : goal.returns-then-conflict-clause-same_branches
@@ -97,28 +105,28 @@ pub returns-clause-own : goal.returns-clause-own
 returns-clause-own g c = inl refl
 
 pub returns-then-eq-2-clause-sound : goal.returns-then-eq-2-clause-sound
-returns-then-eq-2-clause-sound g c = subst (λ (e : EngineState). IsSoundTrail e) (sym c.check_bound-pruning.ensures.unchanged) c.propagate.ensures.sound
+returns-then-eq-2-clause-sound g c = subst (λ (e : EngineState). IsSoundTrail e) (sym c.judge_node-pruning.ensures.unchanged) c.propagate.ensures.sound
 
 pub take_leaf-requires-clause-sound : goal.take_leaf-requires-clause-sound
-take_leaf-requires-clause-sound g c = subst (λ (e : EngineState). IsSoundTrail e) (sym c.check_bound-pruning.ensures.unchanged) c.propagate.ensures.sound
+take_leaf-requires-clause-sound g c = subst (λ (e : EngineState). IsSoundTrail e) (sym c.judge_node-pruning.ensures.unchanged) c.propagate.ensures.sound
 
-pub returns-in_default-clause-sound : goal.returns-in_default-clause-sound
-returns-in_default-clause-sound g c = subst (λ (e : EngineState). IsSoundTrail e) (sym c.check_bound-pruning.ensures.unchanged) c.propagate.ensures.sound
+pub returns-in_default-next_decision-clause-sound : goal.returns-in_default-next_decision-clause-sound
+returns-in_default-next_decision-clause-sound g c = subst (λ (e : EngineState). IsSoundTrail e) (sym c.judge_node-pruning.ensures.unchanged) c.propagate.ensures.sound
 
 pub returns-clause-sound : goal.returns-clause-sound
-returns-clause-sound g c = subst (λ (e : EngineState). IsSoundTrail e) (sym c.check_bound-pruning.ensures.unchanged) c.propagate.ensures.sound
+returns-clause-sound g c = subst (λ (e : EngineState). IsSoundTrail e) (sym c.judge_node-pruning.ensures.unchanged) c.propagate.ensures.sound
 
 pub returns-then-eq-2-clause-known : goal.returns-then-eq-2-clause-known
-returns-then-eq-2-clause-known g c = subst (λ (e : EngineState). KnowsHeldPrefix e.trail c.args.best.now.held c.check_bound-pruning.new.agreed) (sym c.check_bound-pruning.ensures.unchanged) c.check_bound-pruning.ensures.known
+returns-then-eq-2-clause-known g c = subst (λ (e : EngineState). KnowsHeldPrefix e.trail c.args.best.now.held c.judge_node-pruning.new.agreed) (sym c.judge_node-pruning.ensures.unchanged) c.judge_node-pruning.ensures.known
 
 pub returns-clause-known : goal.returns-clause-known
-returns-clause-known g c = subst (λ (e : EngineState). KnowsHeldPrefix e.trail c.args.best.now.held c.check_bound-pruning.new.agreed) (sym c.check_bound-pruning.ensures.unchanged) c.check_bound-pruning.ensures.known
+returns-clause-known g c = subst (λ (e : EngineState). KnowsHeldPrefix e.trail c.args.best.now.held c.judge_node-pruning.new.agreed) (sym c.judge_node-pruning.ensures.unchanged) c.judge_node-pruning.ensures.known
 
-pub returns-in_default-clause-closed : goal.returns-in_default-clause-closed
-returns-in_default-clause-closed g c = c.take_leaf.ensures.closed
+pub returns-in_default-next_decision-clause-closed : goal.returns-in_default-next_decision-clause-closed
+returns-in_default-next_decision-clause-closed g c = c.take_leaf.ensures.closed
 
-pub returns-in_default-clause-moves_on : goal.returns-in_default-clause-moves_on
-returns-in_default-clause-moves_on g c = c.take_leaf.ensures.moves_on
+pub returns-in_default-next_decision-clause-moves_on : goal.returns-in_default-next_decision-clause-moves_on
+returns-in_default-next_decision-clause-moves_on g c = c.take_leaf.ensures.moves_on
 
-pub returns-in_default-clause-own : goal.returns-in_default-clause-own
-returns-in_default-clause-own g c = c.take_leaf.ensures.own
+pub returns-in_default-next_decision-clause-own : goal.returns-in_default-next_decision-clause-own
+returns-in_default-next_decision-clause-own g c = c.take_leaf.ensures.own

@@ -9,12 +9,12 @@ use Rattle.pb_search.proofs.node.next_branch.Goals as goal
 
 pub returns-in-Some-clause-next : goal.returns-in-Some-clause-next
 returns-in-Some-clause-next g c start h =
-    open_next c.args.best.now.problem start c.args.state.now c.expand_node.new.state c.in-Some.branch c.args.best.now.held c.expand_node.new.best.held c.expand_node.ensures.same_branches c.expand_node.ensures.sound c.in-Some.ensures.open c.in-Some.ensures.fresh c.expand_node.ensures.moves_on.not_after h
+    open_next c.args.best.now.problem start c.args.state.now c.expand_node.new.state c.in-Some.branch c.args.best.now.held c.expand_node.new.best.held c.expand_node.ensures.same_branches c.expand_node.ensures.sound c.in-Some.ensures.open c.in-Some.ensures.sides c.expand_node.ensures.moves_on.not_after h
 
 pub returns-in-Some-clause-fewer : goal.returns-in-Some-clause-fewer
 returns-in-Some-clause-fewer g c few =
     subst (λ v. steps_left c.args.best.now.problem.vars (c.expand_node.new.state.branches.items ++ c.in-Some.branch ∷ []) < steps_left c.args.best.now.problem.vars v.items) c.expand_node.ensures.same_branches.branches
-    (decide_falls c.args.best.now.problem.vars c.expand_node.new.state.branches.items c.in-Some.branch c.in-Some.ensures.fresh few)
+    (decide_falls c.args.best.now.problem.vars c.expand_node.new.state.branches.items c.in-Some.branch few)
 
 pub returns-in-Some-clause-own : goal.returns-in-Some-clause-own
 returns-in-Some-clause-own g c start h =

@@ -6,7 +6,8 @@ use Rattle.pb_engine.specs.Needs.{AreCounters}
 use Rattle.pb_trail.specs.Tracked.{Tracked}
 use Rattle.pb_normal.specs.Literals.{negation}
 use Rattle.pb_rows.proofs.IndexLemmas.{changed_in_place}
-use Rattle.pb_engine.proofs.CounterLemmas.{counters-push, can_join, at_place, paid_within}
+use Rattle.pb_engine.proofs.CounterLemmas.{counters-push, can_join, paid_within}
+use Rattle.pb_trail.proofs.PlaceLemmas.{at_place}
 use Rattle.pb_engine.proofs.needs.Needs.count_next.Goals as goal
 
 pub join-requires-clause-enough : goal.join-requires-clause-enough

@@ -6,7 +6,8 @@ use Rattle.pb_engine.specs.Needs.{AreCounters}
 use Rattle.pb_trail.specs.Tracked.{Tracked}
 use Rattle.pb_normal.specs.Literals.{negation, weight_of}
 use Rattle.pb_rows.proofs.IndexLemmas.{changed_in_place}
-use Rattle.pb_engine.proofs.CounterLemmas.{counters-pop, can_leave, at_place}
+use Rattle.pb_engine.proofs.CounterLemmas.{counters-pop, can_leave}
+use Rattle.pb_trail.proofs.PlaceLemmas.{at_place}
 use Rattle.pb_engine.proofs.SpareLemmas.{reached-push}
 use Rattle.pb_engine.proofs.needs.Needs.take_back_last.Goals as goal
 
