@@ -10,6 +10,15 @@
     machines    SIZE jobs, each on one of three machines, under their hours, at least cost
     routes      parcels that move over SIZE hops between towns, at least cost of the legs that are used
     parity      SIZE variables in sums that are even or odd, with a cost for each
+    units       vertices of a graph with SIZE vertices that touch each edge, as few as can be
+    domination  vertices of a graph with SIZE vertices such that each vertex is one or is next to one, of least weight
+    assignment  SIZE workers, each for one of SIZE tasks, at least cost under a limit on the hours of all
+    shifts      SIZE patterns of five shifts in a row, taken to give each of the 14 shifts of a week its people at least cost
+    schedule    SIZE jobs one after the other on a machine, each with a price for each hour until its end
+    cut         two sides for SIZE vertices of a graph such that the edges between the sides are worth most
+    grid        squares of a board of SIZE by SIZE that do not touch, not even at corners, worth most
+    garden      plants on a board of SIZE by SIZE, in or beside each square but not crowded, at least cost
+    options     SIZE features, one of four options for each, that need one another, under two limits, at least cost
     clauses     clauses of three literals over SIZE variables, 4.2 for each variable (a text of clauses)
     colours     three colours for a graph with SIZE vertices (a text of clauses)
 """
@@ -37,10 +46,23 @@ def clausal(variables, clauses):
 
 def edges(rng, vertices, mean_degree):
     drawn = set()
-    while len(drawn) < int(vertices * mean_degree / 2):
+    while len(drawn) < min(int(vertices * mean_degree / 2), vertices * (vertices - 1) // 2):
         one, other = rng.sample(range(1, vertices + 1), 2)
         drawn.add((min(one, other), max(one, other)))
     return sorted(drawn)
+
+
+def counted(literals, relation, count):
+    return [(1, v) for v in literals], relation, count
+
+
+def weighted(rng, least, most, variables):
+    return [(rng.randint(least, most), v) for v in variables]
+
+
+def near(size, row, column, steps):
+    places = [(row + down, column + right) for down, right in steps]
+    return [size * r + c + 1 for r, c in places if 0 <= r < size and 0 <= c < size]
 
 
 def any_sums(rng, size):
@@ -56,13 +78,13 @@ def any_sums(rng, size):
 
 
 def cover(rng, size):
-    costs = [(rng.randint(1, 20), v) for v in range(1, size + 1)]
-    return linear(size, costs, [([(1, a), (1, b)], ">=", 1) for a, b in edges(rng, size, 5)])
+    costs = weighted(rng, 1, 20, range(1, size + 1))
+    return linear(size, costs, [counted(edge, ">=", 1) for edge in edges(rng, size, 5)])
 
 
 def sets(rng, size):
-    costs = [(rng.randint(3, 25), v) for v in range(1, size + 1)]
-    rows = [([(1, v) for v in sorted(rng.sample(range(1, size + 1), min(size, 5)))], ">=", 1) for _ in range(size)]
+    costs = weighted(rng, 3, 25, range(1, size + 1))
+    rows = [counted(sorted(rng.sample(range(1, size + 1), min(size, 5))), ">=", 1) for _ in range(size)]
     return linear(size, costs, rows)
 
 
@@ -70,7 +92,7 @@ def knapsack(rng, size):
     values = [(-rng.randint(10, 90), v) for v in range(1, size + 1)]
     rows = []
     for _ in range(3):
-        weights = [(rng.randint(10, 90), v) for v in range(1, size + 1)]
+        weights = weighted(rng, 10, 90, range(1, size + 1))
         rows.append((weights, "<=", sum(a for a, _ in weights) // 2))
     return linear(size, values, rows)
 
@@ -80,7 +102,7 @@ def machines(rng, size):
         return 3 * job + machine + 1
 
     costs = [(rng.randint(1, 30), on(j, m)) for j in range(size) for m in range(3)]
-    rows = [([(1, on(j, m)) for m in range(3)], "=", 1) for j in range(size)]
+    rows = [counted([on(j, m) for m in range(3)], "=", 1) for j in range(size)]
     for machine in range(3):
         hours = [(rng.randint(2, 20), on(j, machine)) for j in range(size)]
         rows.append((hours, "<=", 4 * sum(a for a, _ in hours) // 11))
@@ -122,6 +144,106 @@ def parity(rng, size):
     return linear(variables, [(rng.randint(1, 9), v) for v in range(1, size + 1)], rows)
 
 
+def units(rng, size):
+    costs = [(1, v) for v in range(1, size + 1)]
+    return linear(size, costs, [counted(edge, ">=", 1) for edge in edges(rng, size, 5)])
+
+
+def domination(rng, size):
+    beside = {v: {v} for v in range(1, size + 1)}
+    for a, b in edges(rng, size, 4):
+        beside[a].add(b)
+        beside[b].add(a)
+    costs = weighted(rng, 1, 20, beside)
+    return linear(size, costs, [counted(sorted(group), ">=", 1) for group in beside.values()])
+
+
+def assignment(rng, size):
+    pairs = sorted({(w, t) for w in range(size) for t in [w] + rng.sample(range(size), min(size, 6))})
+    number = {pair: n + 1 for n, pair in enumerate(pairs)}
+    costs = weighted(rng, 1, 99, number.values())
+    rows = []
+    for side in range(2):
+        for one in range(size):
+            rows.append(counted([number[pair] for pair in pairs if pair[side] == one], "=", 1))
+    # Each worker can do the task of the same number in 8 hours: the limit can be kept.
+    hours = [(rng.randint(1, 8 if w == t else 20), number[w, t]) for w, t in pairs]
+    rows.append((hours, "<=", 8 * size))
+    return linear(len(pairs), costs, rows)
+
+
+def shifts(rng, size):
+    week = 14
+    first = [rng.randrange(week) for _ in range(size)]
+    costs = weighted(rng, 5, 40, range(1, size + 1))
+    rows = []
+    for shift in range(week):
+        there = [n + 1 for n, begin in enumerate(first) if (shift - begin) % week < 5]
+        if there:
+            rows.append(counted(there, ">=", rng.randint(1, len(there) // 2 + 1)))
+    return linear(size, costs, rows)
+
+
+def schedule(rng, size):
+    jobs = [(rng.randint(1, 4), rng.randint(1, 9)) for _ in range(size)]
+    hours = sum(length for length, _ in jobs)
+    starts = [(job, begin) for job in range(size) for begin in range(hours - jobs[job][0] + 1)]
+    number = {start: n + 1 for n, start in enumerate(starts)}
+    costs = [(jobs[j][1] * (begin + jobs[j][0]), number[j, begin]) for j, begin in starts]
+    rows = [counted([number[start] for start in starts if start[0] == j], "=", 1) for j in range(size)]
+    for hour in range(hours):
+        busy = [number[j, begin] for j, begin in starts if begin <= hour < begin + jobs[j][0]]
+        rows.append(counted(busy, "<=", 1))
+    return linear(len(starts), costs, rows)
+
+
+def cut(rng, size):
+    rows, values = [], []
+    for n, (a, b) in enumerate(edges(rng, size, 4)):
+        between = size + n + 1
+        rows += [counted((a, b, -between), ">=", 1), counted((-a, -b, -between), ">=", 1)]
+        values.append((-rng.randint(1, 9), between))
+    return linear(size + len(values), values, rows)
+
+
+def grid(rng, size):
+    rows = []
+    for r in range(size):
+        for c in range(size):
+            for other in near(size, r, c, ((0, 1), (1, -1), (1, 0), (1, 1))):
+                rows.append(counted((-(size * r + c + 1), -other), ">=", 1))
+    values = [(-rng.randint(1, 9), v) for v in range(1, size * size + 1)]
+    return linear(size * size, values, rows)
+
+
+def garden(rng, size):
+    rows = []
+    for r in range(size):
+        for c in range(size):
+            rows.append(counted(near(size, r, c, ((-1, 0), (0, -1), (0, 0), (0, 1), (1, 0))), ">=", 1))
+    for r in range(size - 1):
+        for c in range(size - 1):
+            rows.append(counted(near(size, r, c, ((0, 0), (0, 1), (1, 0), (1, 1))), "<=", 2))
+    return linear(size * size, weighted(rng, 1, 9, range(1, size * size + 1)), rows)
+
+
+def options(rng, size):
+    def option(feature, choice):
+        return 4 * feature + choice + 1
+
+    rows = [counted([option(f, choice) for choice in range(4)], "=", 1) for f in range(size)]
+    # The first option of a feature needs nothing and is light: all of them together can be taken.
+    for _ in range(4 * size if size > 1 else 0):
+        one, other = rng.sample(range(size), 2)
+        needed = [option(other, choice) for choice in sorted(rng.sample(range(4), 2))]
+        rows.append(counted([-option(one, rng.randint(1, 3))] + needed, ">=", 1))
+    variables = range(1, 4 * size + 1)
+    for _ in range(2):
+        weights = [(rng.randint(1, 8 if v % 4 == 1 else 20), v) for v in variables]
+        rows.append((weights, "<=", 8 * size))
+    return linear(4 * size, weighted(rng, 1, 60, variables), rows)
+
+
 def clauses(rng, size):
     drawn = [[rng.choice((-1, 1)) * v for v in rng.sample(range(1, size + 1), 3)] for _ in range(int(4.2 * size))]
     return clausal(size, drawn)
@@ -144,6 +266,15 @@ FAMILIES = {
     "machines": machines,
     "routes": routes,
     "parity": parity,
+    "units": units,
+    "domination": domination,
+    "assignment": assignment,
+    "shifts": shifts,
+    "schedule": schedule,
+    "cut": cut,
+    "grid": grid,
+    "garden": garden,
+    "options": options,
     "clauses": clauses,
     "colours": colours,
 }
