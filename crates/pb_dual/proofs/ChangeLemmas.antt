@@ -1,22 +1,19 @@
 -- What one change of a reduced cost, of a value or of a multiplier does to the sums.
-use Rattle.std.proofs.Common.{◌≡◌, ◌≢◌, ℕ, zero, suc, ◌+◌, ◌-◌, ◌*◌, ◌^◌, ◌<◌, ◌≤◌, ◌⊎◌, List, [], ◌∷◌, length, get_or, set, refl, sym, ◌∙◌, ap, arith, Bool, true, false, cond, Option, Some, None, min, inl, inr, length-set, get_or-set_same, get_or-set_other, take, sum_by}
+use Rattle.std.proofs.Common.{◌≡◌, ◌≢◌, ℕ, zero, suc, ◌+◌, ◌-◌, ◌*◌, ◌^◌, ◌<◌, ◌≤◌, ◌⊎◌, List, [], ◌∷◌, length, get_or, set, refl, sym, ◌∙◌, ap, arith, Bool, true, false, cond, Option, Some, None, inl, inr, length-set, get_or-set_same, get_or-set_other, take, sum_by}
 use Rattle.std.proofs.lemmas.Bool.{cases_Bool, cases_eq, cases_lt, eq-eqb, eqb-true}
 use Rattle.std.proofs.lemmas.List.Sums.{sum_by_more, sum_by-take-le}
 use Rattle.std.proofs.lemmas.Nat.{mul-le}
 use Rattle.pb_inst.specs.Literal.{Literal}
-use Rattle.pb_normal.specs.NormalForm.{PositiveRow, NormalForm}
+use Rattle.pb_normal.specs.NormalForm.{PositiveRow}
 use Rattle.pb_normal.specs.declared.terms.PositiveTerm.{PositiveTerm}
 use Rattle.pb_normal.specs.Literals.{same_literal, weight_of}
 use Rattle.pb_normal.proofs.LiteralLemmas.{same_literal-itself, same_literal-is}
 use Rattle.pb_rows.specs.Constraints.{row_at}
 use Rattle.pb_rows.specs.Index.{literal_place}
 use Rattle.pb_rows.proofs.EntryLemmas.{same_place-same_literal}
-use Rattle.pb_rows.proofs.CostLemmas.{weight_of-next, place_below}
-use Rattle.pb_trail.specs.Trail.{value_on}
-use Rattle.pb_trail.specs.Tracked.{AreValues}
-use Rattle.pb_dual.specs.declared.TheConstants.{ZERO}
+use Rattle.pb_rows.proofs.CostLemmas.{weight_of-next}
 use Rattle.pb_dual.proofs.SoundLemmas.{over-same}
-use Rattle.pb_dual.specs.ReducedCosts.{weighted, promised, taken_off, AreReducedCosts, IsReducedCost, reduced_cost, cost_at, over_variables, least_cost, part, part_on, parts, parts_on}
+use Rattle.pb_dual.specs.ReducedCosts.{weighted, promised, cost_at, over_variables, part, parts}
 
 -- one number is another
 pub over-changed : (f g : ℕ → ℕ) (n v : ℕ) → 1 ≤ v → v ≤ n → ((u : ℕ) → 1 ≤ u → u ≤ n → u ≢ v → f u ≡ g u) → over_variables g n + f v ≡ over_variables f n + g v

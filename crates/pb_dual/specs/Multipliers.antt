@@ -1,9 +1,9 @@
 -- Multipliers for the rows of a normal form, and what they say of a trail's completions.
-use Rattle.std.specs.Prelude.{◌≡◌, ℕ, ◌+◌, ◌-◌, ◌*◌, ◌/◌, ◌^◌, ◌<◌, ◌≤◌, Bool, List, [], ◌∷◌, ◌++◌, Option, None, All, length, min, drop, slice_index, slice_set, ℤ, pos, ◌+ℤ◌, ◌≤ℤ◌, int_lt, unsigned_abs, if◌then◌else◌}
+use Rattle.std.specs.Prelude.{◌≡◌, ℕ, ◌+◌, ◌-◌, ◌*◌, ◌/◌, ◌^◌, ◌<◌, ◌≤◌, Bool, List, [], ◌∷◌, ◌++◌, Option, None, All, length, min, slice_index, slice_set, ℤ, pos, ◌+ℤ◌, ◌≤ℤ◌, int_lt, unsigned_abs, if◌then◌else◌}
 use Rattle.std.specs.Int.{div_ceil}
 use Rattle.pb_inst.specs.Literal.{Literal}
 use Rattle.pb_inst.specs.Meaning.{literal_value}
-use Rattle.pb_normal.specs.NormalForm.{PositiveRow, NormalForm, normal_cost, total_coefficient}
+use Rattle.pb_normal.specs.NormalForm.{NormalForm, normal_cost, total_coefficient}
 use Rattle.pb_rows.specs.Constraints.{row_at}
 use Rattle.pb_trail.specs.Trail.{value_on}
 use Rattle.pb_trail.specs.Completion.{IsCompletion}

@@ -1,7 +1,6 @@
 -- What is left of the costs where rows are taken as often as their multipliers say.
 use Rattle.std.specs.Prelude.{◌≡◌, ℕ, zero, suc, ◌+◌, ◌-◌, ◌*◌, ◌≤◌, Bool, true, false, List, [], ◌∷◌, Option, Some, None, length, min, slice_index, slice_index_or}
 use Rattle.pb_inst.specs.Literal.{Literal}
-use Rattle.pb_normal.specs.declared.terms.PositiveTerm.{PositiveTerm}
 use Rattle.pb_normal.specs.NormalForm.{PositiveRow, NormalForm}
 use Rattle.pb_normal.specs.Literals.{weight_of}
 use Rattle.pb_rows.specs.Index.{literal_place}

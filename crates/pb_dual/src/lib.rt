@@ -6,6 +6,8 @@
 //! whatever multipliers are proposed: which row to shift, and how far, carries no promise.
 #![tactic(auto)]
 
+mod account;
+mod ascent;
 mod changes;
 mod multipliers;
 mod reduced_costs;

@@ -200,16 +200,25 @@ impl<'a> Multipliers<'a> {
         None
     }
 
-    /// By how much, times the scale, the bound may rise before it is over the limit.
-    fn gap(&self, limit: Number) -> Magnitude {
-        let floor = self.values.len() as u128 * ZERO as u128;
-        let above = self
-            .sum
-            .saturating_add(self.degrees as u128)
-            .saturating_sub(floor);
+    /// By how much, times the scale, the bound may rise before it is over the limit. A measure, and no more than a hint.
+    pub fn gap(&self, limit: Number) -> Magnitude {
         let room = limit.saturating_sub(self.form.base()).max(0).unsigned_abs();
         let most = (room as u128).saturating_mul(self.scale as u128);
-        most.saturating_sub(above).min(Magnitude::MAX as u128) as Magnitude
+        most.saturating_sub(self.above())
+            .min(Magnitude::MAX as u128) as Magnitude
+    }
+
+    /// How far the bound is over the base, times the scale. A measure, and no more than a hint.
+    pub fn height(&self) -> Magnitude {
+        self.above().min(Magnitude::MAX as u128) as Magnitude
+    }
+
+    /// The same, however great.
+    fn above(&self) -> u128 {
+        let floor = self.values.len() as u128 * ZERO as u128;
+        self.sum
+            .saturating_add(self.degrees as u128)
+            .saturating_sub(floor)
     }
 
     /// The bound where all variables add so much at least.

@@ -5,6 +5,8 @@ ghost use Rattle.std.specs.Prelude.{◌≡◌, ◌⊎◌, ◌+◌, ◌^◌, ◌<
 ghost use Rattle.pb_dual.specs.Relaxation.{IsBeside, IsSameButShifted};
 ghost use Rattle.pb_dual.specs.Multipliers.{IsBelowCosts, IsFixed};
 
+use crate::account::Account;
+use crate::ascent::Ascent;
 use crate::multipliers::{FIXING_WINDOW, Multipliers, number_of};
 use pb_bits::RowSet;
 use pb_inst::{Lit, Magnitude, Memory, Number};
@@ -14,21 +16,32 @@ use pb_trail::Slacks;
 use std::alloc::Global;
 use std::marker::Model;
 
-/// After how many bounds the multipliers are looked for, 2^18. A node with them takes some times as long, so a search that is
-/// over before, in a fraction of a second, is the sooner over without them.
-const PATIENCE: u32 = 262_144;
+/// How often all rows are gone through at the first node, forwards and backwards in turn.
+const FIRST_PASSES: u32 = 2;
 
-/// How often all rows are gone through at first, forwards and backwards in turn.
+/// After how many nodes better first multipliers are looked for: a search that is over before does well without.
+const PATIENCE: u32 = 10;
+
+/// How often all rows are gone through by then.
 const PASSES: u32 = 20;
 
-/// How many terms are looked at for one bound, about, before its steps end. The rows that are left wait for the next one.
-const WORK_OF_A_BOUND: usize = 2000;
+/// After how many nodes all rows are shifted at once, to make the first multipliers better still.
+const LONG_PATIENCE: u32 = 20;
+
+/// How many terms are looked at for one bound, about, before its steps end. The next one goes on behind them.
+const WORK_OF_A_BOUND: usize = 10_000;
 
 /// By which part of a cost, 1 in so many, a reduced cost must change before the rows of its variable are stepped too.
 const SMALL_PART: Magnitude = 8;
 
-/// How many changes of multipliers can be taken back, for each row.
+/// How many changes of multipliers can be taken back at least, for each row.
 const CHANGES_OF_A_ROW: usize = 8;
+
+/// The same where there are few rows: a deep search changes each of them at many of its levels.
+const CHANGES_OF_FEW_ROWS: usize = 64;
+
+/// The most changes that few rows have room for.
+const MOST_CHANGES_OF_FEW_ROWS: usize = 65_536;
 
 /// Where the multiplier of a row makes a literal free of cost, and the literal's coefficient.
 #[derive(Clone, Copy, Debug)]
@@ -37,8 +50,8 @@ struct Breakpoint {
     coef: Magnitude,
 }
 
-/// Multipliers beside the trail of a search. They begin after some hundred bounds, follow the trail, and are shifted at the
-/// rows that it touches. What was shifted below an assumption is taken back with it.
+/// Multipliers beside the trail of a search. Where they are used they follow the trail, and are shifted at the rows that it
+/// touches. What was shifted below an assumption is taken back with it. An account tells where they are used.
 #[derive(Debug, Drop)]
 pub struct Relaxation<'a> {
     multipliers: Multipliers<'a>,
@@ -48,12 +61,28 @@ pub struct Relaxation<'a> {
     /// How many changes there were at each assumption.
     marks: Vec<usize>,
     breakpoints: Vec<Breakpoint>,
-    /// How many bounds were asked for before they began.
-    waited: u32,
+    account: Account,
+    ascent: Ascent,
+    /// The number of terms of all rows.
+    terms: u64,
+    /// How many nodes were counted.
+    nodes: u32,
+    /// How often all rows were gone through.
+    passes: u32,
+    /// How many literals of the trail are counted.
+    counted: usize,
     /// How many terms were looked at for this bound.
     work: usize,
+    /// From which row on the next bound steps.
+    step_from: usize,
     /// After how many variables the next literal to fix is looked for.
     fixing_from: u32,
+    /// Whether they were used at the node where the search is.
+    is_used: bool,
+    /// Whether they were used at the node that was judged last, be it above the one where the search is.
+    was_used: bool,
+    /// Whether they fixed a literal there.
+    is_fixing: bool,
 }
 
 impl<'a> Model for Relaxation<'a> {
@@ -74,23 +103,34 @@ impl<'a> Relaxation<'a> {
         ensures empty { IfOk result (λ r. r.trail ≡ []) }
     {
         let rows = form.len();
+        let terms = all_terms(form);
         let marks = Vec::with_capacity(alloc, form.vars() as usize)?;
         let breakpoints = Vec::with_capacity(alloc, longest_row(form))?;
         let touched = RowSet::new(alloc, rows)?;
-        let multipliers = Multipliers::new(alloc, form, CHANGES_OF_A_ROW * rows)?;
+        let multipliers = Multipliers::new(alloc, form, changes_for(rows))?;
         Ok(Relaxation {
             multipliers,
             touched,
             marks,
             breakpoints,
-            waited: 0,
+            account: Account::new(terms),
+            ascent: Ascent::new(alloc, rows)?,
+            terms,
+            nodes: 0,
+            passes: 0,
+            counted: 0,
             work: 0,
+            step_from: 0,
             fixing_from: 0,
+            is_used: false,
+            was_used: false,
+            is_fixing: false,
         })
     }
 
-    /// The bound, or that of the multipliers where it is greater. Where the latter is below the goal, the rows that the trail
-    /// touched since the last time are stepped at first. Before the multipliers begin it is the bound alone.
+    /// The bound, or that of the multipliers where they are used and it is greater. Where the latter is below the goal, the
+    /// rows that the trail touched since the last time are stepped at first. Where it alone would reach the goal it is left
+    /// out now and then, to see what it saves.
     pub fn raise<C: Count>(
         &mut self,
         slacks: &Slacks<'_, '_, C>,
@@ -101,35 +141,72 @@ impl<'a> Relaxation<'a> {
         ensures bound { (result ≡ bound) ⊎ ((bound ≤ℤ result) × IsBelowCosts slacks.now.form slacks.now.trail result) }
         ensures beside { IsBeside slacks.now.form slacks.now.trail self.new }
     {
-        if self.is_waiting() {
+        let is_used = self.use_at(slacks, goal);
+        if !is_used {
             return bound;
         }
-        self.catch_up(slacks);
-        self.improve(slacks.tables(), goal);
         let relaxed = self.multipliers.bound();
-        if relaxed <= bound {
+        if relaxed <= bound || self.is_tried(relaxed, goal) {
             return bound;
         }
         relaxed
     }
 
-    /// Whether the multipliers wait until enough bounds were asked for. The first ones are made where they begin.
-    fn is_waiting(&mut self) -> bool
-        ensures form { self.new.form ≡ self.old.form }
-        ensures trail { (self.new.trail ≡ self.old.trail) ⊎ (self.new.trail ≡ []) }
+    /// Follows the trail and improves the multipliers, where they are used, as `raise` does; no bound is asked for.
+    pub fn adjust<C: Count>(&mut self, slacks: &Slacks<'_, '_, C>)
+        requires { IsBeside slacks.now.form slacks.now.trail self.old }
+        ensures { IsBeside slacks.now.form slacks.now.trail self.new }
     {
-        if self.waited >= PATIENCE {
+        self.use_at(slacks, Number::MAX);
+    }
+
+    /// Uses the multipliers at the node, if they pay: they follow the trail to its end, and are improved where their bound is
+    /// below the goal. Answers whether they are used.
+    fn use_at<C: Count>(&mut self, slacks: &Slacks<'_, '_, C>, goal: Number) -> bool
+        requires { IsBeside slacks.now.form slacks.now.trail self.old }
+        ensures followed { result ≡ true → self.new.trail ≡ slacks.now.trail }
+        ensures beside { IsBeside slacks.now.form slacks.now.trail self.new }
+    {
+        self.count_node(slacks.len());
+        self.climb(goal);
+        self.is_used = self.account.is_open();
+        self.was_used = self.is_used;
+        if !self.is_used {
             return false;
         }
-        self.waited += 1;
-        if self.waited == PATIENCE {
-            self.begin();
+        self.ascend();
+        self.catch_up(slacks);
+        self.improve(slacks.tables(), goal);
+        self.account.count_use(self.work);
+        true
+    }
+
+    /// Counts a node of the search whose trail has so many literals.
+    fn count_node(&mut self, length: usize)
+        ensures { self.new ≡ self.old }
+    {
+        self.work = 0;
+        self.is_fixing = false;
+        self.nodes = self.nodes.saturating_add(1);
+        self.account
+            .count_search(length.saturating_sub(self.counted));
+        self.counted = length;
+    }
+
+    /// Whether a bound that reaches the goal is left out, to see what it saves. The multipliers then rest below the node.
+    fn is_tried(&mut self, relaxed: Number, goal: Number) -> bool
+        ensures { self.new ≡ self.old }
+    {
+        if relaxed < goal || self.account.close(self.marks.len()) {
+            return false;
         }
+        self.is_used = false;
+        self.was_used = false;
         true
     }
 
     /// A literal that every completion of the trail that costs no more than the limit makes true, and that has no value yet; or
-    /// none.
+    /// none. None also where the multipliers are not used at the node.
     pub fn fixed_literal<C: Count>(
         &mut self,
         slacks: &Slacks<'_, '_, C>,
@@ -139,15 +216,70 @@ impl<'a> Relaxation<'a> {
         ensures fixed { IfSome result (IsFixed slacks.now.form slacks.now.trail limit) }
         ensures beside { IsBeside slacks.now.form slacks.now.trail self.new }
     {
-        if self.waited < PATIENCE {
+        self.is_fixing = false;
+        if !self.is_used {
             return None;
         }
         self.catch_up(slacks);
+        if self.multipliers.bound() > limit {
+            return None;
+        }
         let found = self.multipliers.fixed_literal(self.fixing_from, limit);
-        if found.is_none() {
+        self.note_fixed(found.is_some());
+        found
+    }
+
+    /// Whether the last call of `fixed_literal` fixed a literal at the node where the search still is. There may be more, and
+    /// no bound need be asked for before.
+    pub fn is_fixing(&self) -> bool {
+        self.is_fixing
+    }
+
+    /// Notes whether a literal was fixed. Where none was, the next one is looked for elsewhere.
+    fn note_fixed(&mut self, is_fixed: bool)
+        ensures { self.new ≡ self.old }
+    {
+        self.is_fixing = is_fixed;
+        if is_fixed {
+            self.account.fix();
+        } else {
             self.look_on();
         }
-        found
+    }
+
+    /// By how much, times the scale, the bound at the node that was judged last may rise before it is over the limit; none
+    /// where the multipliers were not used there.
+    pub fn gap(&self, limit: Number) -> Option<Magnitude> {
+        if self.was_used {
+            return Some(self.multipliers.gap(limit));
+        }
+        None
+    }
+
+    /// Whether the multipliers have saved what they cost, in counted work.
+    pub fn pays(&self) -> bool {
+        self.account.pays()
+    }
+
+    /// Shifts the multiplier of a row, where there is room to take it back: for whoever knows better than the steps.
+    pub fn propose(&mut self, row: usize, amount: Number)
+        ensures { IsSameButShifted self.old self.new }
+    {
+        if row < self.multipliers.form().len() && self.multipliers.has_room() {
+            self.multipliers.shift(row, amount);
+        }
+    }
+
+    /// Of the literal and its negation the one whose reduced cost is less, where the multipliers are used at the node; else
+    /// the literal.
+    pub fn cheaper(&self, lit: Lit) -> Lit
+        requires { lit.var ≤ self.now.form.vars }
+        ensures { result.var ≡ lit.var }
+    {
+        if self.is_used && self.multipliers.difference(lit) > 0 {
+            return lit.negate();
+        }
+        lit
     }
 
     /// The next literal to fix is looked for among the variables that come next.
@@ -177,15 +309,16 @@ impl<'a> Relaxation<'a> {
         requires { tables.now.form ≡ self.old.form }
         ensures { IsSameButShifted self.old self.new }
     {
-        self.work = 0;
-        let mut from = 0;
+        let mut from = self.step_from;
+        self.step_from = 0;
         while let Some(row) = self.take_touched(from) {
             let amount = self.step(row);
             self.spread(tables, row, amount);
+            from = row + 1;
             if self.work > WORK_OF_A_BOUND {
+                self.step_from = from;
                 return;
             }
-            from = row + 1;
         }
     }
 
@@ -226,6 +359,10 @@ impl<'a> Relaxation<'a> {
             self.take_back_to(mark);
         }
         self.marks.truncate(level);
+        self.account.step_back(level);
+        self.counted = self.counted.min(length);
+        self.is_used = false;
+        self.is_fixing = false;
     }
 
     /// Takes back the changes of multipliers until so many are left, and touches their rows: below the next decision their
@@ -251,15 +388,58 @@ impl<'a> Relaxation<'a> {
         true
     }
 
-    /// The first multipliers: no trail, and some passes over all rows. They are kept for good.
-    fn begin(&mut self)
+    /// Looks for first multipliers, and for better ones once the search has gone on for some nodes, where that is not too
+    /// dear.
+    fn ascend(&mut self)
+        ensures form { self.new.form ≡ self.old.form }
+        ensures trail { (self.new.trail ≡ self.old.trail) ⊎ (self.new.trail ≡ []) }
+    {
+        let end = if self.nodes < PATIENCE {
+            FIRST_PASSES
+        } else {
+            PASSES
+        };
+        let passes = end.saturating_sub(self.passes) as u64;
+        let work = passes.saturating_mul(self.terms);
+        if passes > 0 && self.account.affords(work) {
+            self.account.count_multipliers(work);
+            self.pass_up_to(end);
+        }
+    }
+
+    /// Shifts all rows at once, again and again, when the search has gone on for long enough, and steps them twice after that.
+    /// That is done once, so the account leaves it out.
+    fn climb(&mut self, limit: Number)
+        ensures form { self.new.form ≡ self.old.form }
+        ensures trail { (self.new.trail ≡ self.old.trail) ⊎ (self.new.trail ≡ []) }
+    {
+        if self.nodes == LONG_PATIENCE {
+            self.leave_trail();
+            self.ascent.climb(&mut self.multipliers, self.terms, limit);
+            self.pass(false);
+            self.pass(true);
+        }
+    }
+
+    /// Goes through all rows until that was done so often, with no trail. The multipliers are kept for good.
+    fn pass_up_to(&mut self, end: u32)
+        ensures form { self.new.form ≡ self.old.form }
+        ensures empty { self.new.trail ≡ [] }
+    {
+        self.leave_trail();
+        let start = self.passes;
+        for pass in start..end {
+            self.pass(pass % 2 == 1);
+        }
+        self.passes = end;
+    }
+
+    /// Follows the trail no more: from now on from its beginning.
+    fn leave_trail(&mut self)
         ensures form { self.new.form ≡ self.old.form }
         ensures empty { self.new.trail ≡ [] }
     {
         self.multipliers.unassign_to(0);
-        for pass in 0..PASSES {
-            self.pass(pass % 2 == 1);
-        }
     }
 
     /// Steps once through all rows.
@@ -456,6 +636,23 @@ fn target(breakpoints: &mut [Breakpoint], need: Number) -> Option<Magnitude> {
         left = left.saturating_sub(number_of(point.coef));
     }
     if left > 0 { None } else { Some(last) }
+}
+
+/// How many changes can be taken back where there are so many rows.
+fn changes_for(rows: usize) -> usize {
+    let few = rows
+        .saturating_mul(CHANGES_OF_FEW_ROWS)
+        .min(MOST_CHANGES_OF_FEW_ROWS);
+    rows.saturating_mul(CHANGES_OF_A_ROW).max(few)
+}
+
+/// The number of terms of all rows.
+fn all_terms(form: &Normal) -> u64 {
+    let mut count = 0_u64;
+    for row in 0..form.len() {
+        count = count.saturating_add(form.terms(row).len() as u64);
+    }
+    count
 }
 
 /// The number of terms of the longest row.

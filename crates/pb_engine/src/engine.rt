@@ -19,7 +19,7 @@ use crate::bound::{bound_with, payment};
 use crate::needs::Needs;
 use pb_bits::Marks;
 use pb_dual::Relaxation;
-use pb_inst::{Cube, Lit, Memory, Number};
+use pb_inst::{Cube, Lit, Magnitude, Memory, Number};
 use pb_normal::Normal;
 use pb_rows::{Clauses, Count, RowTerms, Rows, TablesSource};
 use pb_trail::{Propagator, Step};
@@ -240,6 +240,18 @@ impl<'a, C: Count> CountingEngine<'a, C> {
         relaxation.raise(&slacks, bound, goal)
     }
 
+    /// Improves the multipliers, if there are any, where no bound is asked for. It leaves the trail and the conflict as they
+    /// are, and takes no memory.
+    pub fn adjust(&mut self)
+        ensures { self.new ≡ self.old }
+    {
+        let slacks = self.propagator.slacks();
+        let _vars = slacks.tables().vars();
+        if let Some(relaxation) = &mut self.relaxation {
+            relaxation.adjust(&slacks);
+        }
+    }
+
     /// A literal without a value that every completion of the trail that costs no more than the limit makes true, by the
     /// multipliers; or none. It leaves the trail and the conflict as they are, and takes no memory.
     pub fn fixed_literal(&mut self, limit: Number) -> Option<Lit>
@@ -252,6 +264,55 @@ impl<'a, C: Count> CountingEngine<'a, C> {
             return None;
         };
         relaxation.fixed_literal(&slacks, limit)
+    }
+
+    /// Whether the last call of `fixed_literal` gave a literal and nothing was undone since: there may be more, and no bound
+    /// need be asked for before. No more than a hint.
+    pub fn is_fixing(&self) -> bool {
+        match &self.relaxation {
+            Some(relaxation) => relaxation.is_fixing(),
+            None => false,
+        }
+    }
+
+    /// By how much the bound of the multipliers at the node that was judged last may rise before it is over the limit; none
+    /// where there were none. A measure to compare nodes by, and no more than a hint.
+    pub fn gap(&self, limit: Number) -> Option<Magnitude> {
+        match &self.relaxation {
+            Some(relaxation) => relaxation.gap(limit),
+            None => None,
+        }
+    }
+
+    /// Whether there are multipliers and they have saved what they cost, in counted work. No more than a hint.
+    pub fn multipliers_pay(&self) -> bool {
+        match &self.relaxation {
+            Some(relaxation) => relaxation.pays(),
+            None => false,
+        }
+    }
+
+    /// Shifts the multiplier of a row, if there is one: for whoever knows better than the steps. It leaves the trail and the
+    /// conflict as they are, and takes no memory.
+    pub fn propose(&mut self, row: usize, amount: Number)
+        ensures { self.new ≡ self.old }
+    {
+        if let Some(relaxation) = &mut self.relaxation {
+            relaxation.propose(row, amount);
+        }
+    }
+
+    /// Of the literal and its negation the one that seems to cost less by the multipliers; the literal where there are none.
+    pub fn cheaper(&self, lit: Lit) -> Lit
+        requires { lit.var ≤ self.now.vars }
+        ensures { result.var ≡ lit.var }
+    {
+        let slacks = self.propagator.slacks();
+        let _vars = slacks.tables().vars();
+        match &self.relaxation {
+            Some(relaxation) => relaxation.cheaper(lit),
+            None => lit,
+        }
     }
 }
 

@@ -1,5 +1,4 @@
-use Rattle.std.proofs.Common.{◌≡◌, ℕ, ◌+◌, ◌-◌, ◌*◌, ◌^◌, ◌<◌, ◌≤◌, List, length, get_or, set, take, arith, ap, sym, subst, ◌∙◌, length-set}
-use Rattle.pb_inst.specs.Literal.{Literal}
+use Rattle.std.proofs.Common.{◌≡◌, ℕ, ◌+◌, ◌-◌, ◌*◌, ◌<◌, ◌≤◌, List, length, get_or, set, take, arith, ap, sym, subst, ◌∙◌, length-set}
 use Rattle.pb_normal.specs.declared.terms.PositiveTerm.{PositiveTerm}
 use Rattle.pb_normal.specs.Literals.{weight_of}
 use Rattle.pb_normal.proofs.LiteralLemmas.{weight_of-nil}

@@ -1,5 +1,4 @@
-use Rattle.std.proofs.Common.{◌≡◌, ℕ, ◌+◌, ◌-◌, ◌*◌, ◌^◌, ◌<◌, ◌≤◌, List, Option, None, length, get_or, set, arith, ap, sym, subst, ◌∙◌}
-use Rattle.std.proofs.lemmas.Nat.{mul-le}
+use Rattle.std.proofs.Common.{◌≡◌, ℕ, ◌+◌, ◌-◌, ◌*◌, ◌^◌, None, get_or, set, arith, ap}
 use Rattle.pb_rows.specs.Index.{literal_place}
 use Rattle.pb_dual.specs.ReducedCosts.{part, parts}
 use Rattle.pb_dual.proofs.ChangeLemmas.{part-within, parts-most, parts-repriced}

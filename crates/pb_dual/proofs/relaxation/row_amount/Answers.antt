@@ -1,4 +1,4 @@
-use Rattle.std.proofs.Common.{◌≡◌, ◌≤◌, subst, sym}
+use Rattle.std.proofs.Common.{◌≡◌, subst}
 use Rattle.std.specs.Prelude.{IsSomeAnd, slice_get}
 use Rattle.pb_normal.specs.NormalForm.{NormalForm, IsNormal}
 use Rattle.pb_dual.proofs.RowTermLemmas.{term-within}

@@ -1,5 +1,5 @@
 use Rattle.std.proofs.Common.{◌≡◌, ◌≤◌, length, take, drop}
-use Rattle.pb_dual.specs.Multipliers.{MultipliersState, undone}
+use Rattle.pb_dual.specs.Multipliers.{undone}
 use Rattle.pb_dual.proofs.multipliers.Multipliers.take_back_to.Given as goal
 
 abbrev pub invariant-loop-self : goal.invariant-loop-self

@@ -1,5 +1,5 @@
-use Rattle.std.proofs.Common.{◌≡◌, List, ap, sym, subst, arith, inl, inr, ◌⊎◌, ◌∙◌}
-use Rattle.std.specs.Prelude.{ℤ, ◌≤ℤ◌}
+use Rattle.std.proofs.Common.{◌≡◌, List, sym, subst, arith, inr}
+use Rattle.std.specs.Prelude.{ℤ}
 use Rattle.std.proofs.lemmas.Int.{ints, to_z-of_z}
 use mir.Val.{to_z, of_z}
 use Rattle.pb_inst.proofs.NumberWidth.{number_width}
@@ -12,8 +12,8 @@ pub returns-clause-bound : goal.returns-clause-bound
 returns-clause-bound g c =
     let relaxed = c.bound-relaxed.result in
     let back : to_z number_width (of_z number_width relaxed) ≡ relaxed = to_z-of_z number_width relaxed (record { sfits = c.bound-relaxed.type_inv }) in
-    let own : IsBelowCosts c.improve.new.self.form c.improve.new.self.trail relaxed = subst (λ (m : MultipliersState). IsBelowCosts m.form m.trail relaxed) c.self.view_is c.bound-relaxed.ensures.bound in
-    let form : c.improve.new.self.form ≡ c.args.slacks.now.form = c.improve.ensures.form_is ∙ (c.catch_up.ensures.form ∙ (c.is_waiting.ensures.form ∙ c.requires.form_is)) in
-    let trail : c.improve.new.self.trail ≡ c.args.slacks.now.trail = c.improve.ensures.trail_is ∙ c.catch_up.ensures.trail in
-    let here : IsBelowCosts c.args.slacks.now.form c.args.slacks.now.trail relaxed = subst (λ (f : NormalForm). IsBelowCosts f c.args.slacks.now.trail relaxed) form (subst (λ (t : List Literal). IsBelowCosts c.improve.new.self.form t relaxed) trail own) in
+    let own : IsBelowCosts c.use_at-is_used.new.self.form c.use_at-is_used.new.self.trail relaxed = subst (λ (m : MultipliersState). IsBelowCosts m.form m.trail relaxed) c.self.view_is c.bound-relaxed.ensures.bound in
+    let form : c.use_at-is_used.new.self.form ≡ c.args.slacks.now.form = c.use_at-is_used.ensures.beside.form_is in
+    let trail : c.use_at-is_used.new.self.trail ≡ c.args.slacks.now.trail = c.use_at-is_used.ensures.followed c.if-not-is_used.false in
+    let here : IsBelowCosts c.args.slacks.now.form c.args.slacks.now.trail relaxed = subst (λ (f : NormalForm). IsBelowCosts f c.args.slacks.now.trail relaxed) form (subst (λ (t : List Literal). IsBelowCosts c.use_at-is_used.new.self.form t relaxed) trail own) in
     inr (omega (arith, ints, c.if-relaxed-bound.false), subst (λ (z : ℤ). IsBelowCosts c.args.slacks.now.form c.args.slacks.now.trail z) (sym back) here)

@@ -1,4 +1,4 @@
-use Rattle.std.proofs.Common.{◌≡◌, length}
+use Rattle.std.proofs.Common.{length}
 use Rattle.pb_dual.specs.Relaxation.{IsSameButShifted}
 use Rattle.pb_dual.proofs.relaxation.Relaxation.take_back_to.Given as goal
 

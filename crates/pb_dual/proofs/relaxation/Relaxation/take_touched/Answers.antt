@@ -1,5 +1,5 @@
-use Rattle.std.proofs.Common.{◌≡◌, ◌+◌, ◌<◌, ◌≤◌, ◌^◌, length, arith, ap, refl, sym}
-use Rattle.pb_normal.specs.NormalForm.{NormalForm, PositiveRow}
+use Rattle.std.proofs.Common.{length, arith, ap}
+use Rattle.pb_normal.specs.NormalForm.{NormalForm}
 use Rattle.pb_dual.specs.Multipliers.{MultipliersState}
 use Rattle.pb_dual.proofs.relaxation.Relaxation.take_touched.Goals as goal
 

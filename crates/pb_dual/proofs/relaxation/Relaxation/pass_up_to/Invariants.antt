@@ -1,5 +1,5 @@
-use Rattle.std.proofs.Common.{◌≡◌, [], List}
-use Rattle.pb_dual.proofs.relaxation.Relaxation.begin.Given as goal
+use Rattle.std.proofs.Common.{◌≡◌, []}
+use Rattle.pb_dual.proofs.relaxation.Relaxation.pass_up_to.Given as goal
 
 abbrev pub invariant-loop-pass : goal.invariant-loop-pass
 invariant-loop-pass l = record {

@@ -1,0 +1,201 @@
+//! Better multipliers beside an empty trail, by subgradient steps: all rows are shifted at once, each by how far the cheapest
+//! values are from meeting it. What one row can't gain alone, several can. No answer depends on it, so nothing is promised
+//! but that form and trail stay.
+
+ghost use Rattle.std.specs.Prelude.{◌<◌, length};
+ghost use Rattle.pb_dual.specs.Relaxation.{IsSameButShifted};
+
+use crate::multipliers::{Multipliers, number_of};
+use pb_inst::{Magnitude, Memory, Number};
+use pb_normal::PositiveTerm;
+use std::alloc::Global;
+
+/// How many steps there are to a round, after which the reach is adapted.
+const STEPS: u32 = 30;
+
+/// How many rounds there are at most.
+const MOST_ROUNDS: u64 = 10;
+
+/// How many terms all rounds may look at, some tenths of a second: rows with more terms have fewer rounds.
+const TERMS: u64 = 20_000_000;
+
+/// By how much directions are scaled up.
+const SCALE: i128 = 256;
+
+/// The best multipliers that were found, and where better ones are looked for.
+#[derive(Debug, Drop)]
+pub struct Ascent {
+    /// By how much, times the scale, the next round is to raise the bound.
+    reach: Magnitude,
+    /// The height of the best multipliers.
+    top: Magnitude,
+    best: Vec<Magnitude>,
+    /// How far each row is from being met, by its mean coefficient and scaled up.
+    directions: Vec<i128>,
+    /// The mean coefficient of each row.
+    means: Vec<Magnitude>,
+}
+
+impl Ascent {
+    /// Room for so many rows.
+    pub fn new(alloc: Global, rows: usize) -> Result<Ascent, Memory> {
+        Ok(Ascent {
+            reach: 0,
+            top: 0,
+            best: vec![in alloc; 0; rows]?,
+            directions: vec![in alloc; 0; rows]?,
+            means: vec![in alloc; 0; rows]?,
+        })
+    }
+
+    /// Climbs from the multipliers as they are, towards a bound that is over the limit, and keeps the best for good.
+    pub fn climb(&mut self, multipliers: &mut Multipliers<'_>, terms: u64, limit: Number)
+        ensures { IsSameButShifted multipliers.old multipliers.new }
+    {
+        self.begin(multipliers);
+        let rounds = TERMS / terms.saturating_mul(2 * STEPS as u64).max(1);
+        for _ in 0..rounds.min(MOST_ROUNDS) {
+            self.round(multipliers, limit);
+            if self.reach < multipliers.scale() / 50 {
+                return;
+            }
+        }
+    }
+
+    /// Begins at the multipliers as they are.
+    fn begin(&mut self, multipliers: &Multipliers<'_>) {
+        let form = multipliers.form();
+        self.means.clear();
+        for row in 0..form.len() {
+            if self.means.len() < self.means.capacity() {
+                self.means.push_reserved(mean_coefficient(form.terms(row)));
+            }
+        }
+        self.remember(multipliers);
+        self.reach = multipliers.scale().saturating_mul(2).max(self.top / 20);
+    }
+
+    /// One round of steps towards a bound that is higher by the reach. The best multipliers stay, and the reach grows where
+    /// they gained most of it, and falls where they gained next to nothing.
+    fn round(&mut self, multipliers: &mut Multipliers<'_>, limit: Number)
+        ensures { IsSameButShifted multipliers.old multipliers.new }
+    {
+        let start = self.top;
+        let rise = self.reach.min(multipliers.gap(limit));
+        for _ in 0..STEPS {
+            self.step(multipliers, start.saturating_add(rise));
+            if multipliers.height() > self.top {
+                self.remember(multipliers);
+            }
+        }
+        self.restore(multipliers);
+        let gained = self.top.saturating_sub(start);
+        if gained > self.reach / 2 {
+            self.reach = (self.reach / 3).saturating_mul(4);
+        } else if gained < self.reach / 10 {
+            self.reach /= 2;
+        }
+    }
+
+    /// Shifts all rows along their directions, so far that the bound would come to the target if no value changed.
+    fn step(&mut self, multipliers: &mut Multipliers<'_>, target: Magnitude)
+        ensures { IsSameButShifted multipliers.old multipliers.new }
+    {
+        let norm = self.aim(multipliers).max(1);
+        let gap = target.saturating_sub(multipliers.height()) as i128;
+        for row in 0..multipliers.form().len() {
+            let direction = self.directions.get(row).copied().unwrap_or(0);
+            let mean = self.means.get(row).copied().unwrap_or(1).max(1);
+            let scaled = gap.saturating_mul(SCALE).saturating_mul(direction);
+            let amount = quotient(quotient(scaled, norm), mean as i128);
+            shift_for_good(multipliers, row, nearest(amount));
+        }
+    }
+
+    /// Finds the direction of each row, and gives the sum of their squares.
+    fn aim(&mut self, multipliers: &Multipliers<'_>) -> i128 {
+        let mut norm: i128 = 0;
+        self.directions.clear();
+        for row in 0..multipliers.form().len() {
+            let mean = self.means.get(row).copied().unwrap_or(1).max(1);
+            let lack = lack(multipliers, row);
+            let direction = quotient(lack.saturating_mul(SCALE), mean as i128);
+            // A multiplier of 0 can't fall.
+            let is_stuck = direction < 0 && multipliers.multiplier(row) == 0;
+            let direction = if is_stuck { 0 } else { direction };
+            norm = norm.saturating_add(direction.saturating_mul(direction));
+            if self.directions.len() < self.directions.capacity() {
+                self.directions.push_reserved(direction);
+            }
+        }
+        norm
+    }
+
+    /// Remembers the multipliers as the best.
+    fn remember(&mut self, multipliers: &Multipliers<'_>) {
+        self.top = multipliers.height();
+        self.best.clear();
+        for row in 0..multipliers.form().len() {
+            if self.best.len() < self.best.capacity() {
+                self.best.push_reserved(multipliers.multiplier(row));
+            }
+        }
+    }
+
+    /// Goes back to the best multipliers.
+    fn restore(&self, multipliers: &mut Multipliers<'_>)
+        ensures { IsSameButShifted multipliers.old multipliers.new }
+    {
+        for row in 0..multipliers.form().len() {
+            let best = self.best.get(row).copied().unwrap_or(0);
+            let amount = number_of(best).saturating_sub(number_of(multipliers.multiplier(row)));
+            shift_for_good(multipliers, row, amount);
+        }
+    }
+}
+
+/// Shifts the multiplier of the row, and keeps it so.
+fn shift_for_good(multipliers: &mut Multipliers<'_>, row: usize, amount: Number)
+    requires { row < length multipliers.old.form.rows }
+    ensures { IsSameButShifted multipliers.old multipliers.new }
+{
+    if amount != 0 && multipliers.has_room() {
+        multipliers.shift(row, amount);
+        multipliers.keep();
+    }
+}
+
+/// What the cheapest values of all variables lack to meet the row; below 0 what they have too much.
+fn lack(multipliers: &Multipliers<'_>, row: usize) -> i128
+    requires { row < length multipliers.now.form.rows }
+{
+    let form = multipliers.form();
+    let _vars = form.vars();
+    let mut lack = form.degree(row) as i128;
+    for term in form.terms(row) {
+        let difference = multipliers.difference(term.lit);
+        if difference < 0 || (difference == 0 && !term.lit.positive()) {
+            lack = lack.saturating_sub(term.coef as i128);
+        }
+    }
+    lack
+}
+
+/// The mean coefficient, at least 1.
+fn mean_coefficient(terms: &[PositiveTerm]) -> Magnitude {
+    let mut total: Magnitude = 0;
+    for term in terms {
+        total = total.saturating_add(term.coef);
+    }
+    (total / (terms.len() as Magnitude).max(1)).max(1)
+}
+
+/// The quotient, 0 where there is none.
+fn quotient(part: i128, whole: i128) -> i128 {
+    part.checked_div(whole).unwrap_or(0)
+}
+
+/// The number, cut to the range of numbers.
+fn nearest(amount: i128) -> Number {
+    amount.max(Number::MIN as i128).min(Number::MAX as i128) as Number
+}
