@@ -24,6 +24,12 @@ pub fn judge_node(
     ensures unchanged { engine.new ≡ engine.old }
     ensures known { KnowsHeldPrefix engine.old.trail best.now.held agreed.new }
 {
+    // Where a literal was fixed just before there are often more: they come without bounds between them.
+    if engine.is_fixing()
+        && let Some(lit) = fixed_literal(engine, best)
+    {
+        return (Pruning::Open, None, Some(lit));
+    }
     let (pruning, bound) = check_bound(engine, best, agreed);
     if pruning == Pruning::Closed {
         return (pruning, bound, None);

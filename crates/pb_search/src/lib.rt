@@ -4,7 +4,7 @@
 //! `search` assumes a piece's cube at the `root` and searches the subtree below it, `node` by node. At a node the engine
 //! propagates, `pruning` asks whether the subtree may be left, and `order` names the decision (`branch`) to make next.
 //! Where there is none, `incumbent` takes the full trail, and `backtrack` goes back to a decision whose other value is
-//! still to be tried.
+//! still to be tried. What decisions did to the bound is told to the order (`learning`).
 #![tactic(auto)]
 
 mod agreed_prefix;
@@ -12,6 +12,7 @@ mod backtrack;
 mod branch;
 mod fixing;
 mod incumbent;
+mod learning;
 mod node;
 mod order;
 mod outcome;

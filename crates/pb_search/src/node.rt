@@ -16,6 +16,7 @@ use crate::backtrack::backtrack;
 use crate::branch::{Branch, decide};
 use crate::fixing::{judge_node, one_sided};
 use crate::incumbent::{borrow_on_the_way, take_leaf};
+use crate::learning::{gap_left, last_decided, learn};
 use crate::order::next_decision;
 use crate::outcome::Outcome;
 use crate::pruning::Pruning;
@@ -51,13 +52,17 @@ fn expand_node<S: Share>(
     if state.engine.conflict() {
         return None;
     }
+    let decided = last_decided(state, best);
     if state.engine.propagate() == Step::Conflict {
         state.order.bump_conflict(&state.engine);
+        learn(&mut state.order, decided, Some(0));
         return None;
     }
     // The bound is asked for after propagation alone: it counts what the trail forces, and a node that ends in a conflict
     // never pays for it.
     let (pruning, bound, fixed) = judge_node(&mut state.engine, best, agreed);
+    let gap = gap_left(&state.engine, best, pruning);
+    learn(&mut state.order, decided, gap);
     if pruning == Pruning::Closed {
         return None;
     }
@@ -65,6 +70,7 @@ fn expand_node<S: Share>(
     if let Some(lit) = fixed {
         return Some(one_sided(lit, bound, hints));
     }
+    state.order.lead_by_gains(state.engine.multipliers_pay());
     let Some(branch) = next_decision(&state.engine, vars, &mut state.order, hints, pruning, bound)
     else {
         take_leaf(&state.engine, &mut state.candidate, best, share);
@@ -141,3 +147,6 @@ pub fn search_subtree<S: Share>(
     }
     Outcome::Whole
 }
+
+#[cfg(test)]
+mod tests;

@@ -2,23 +2,32 @@
 
 mod activity;
 mod decide;
+mod gains;
 mod heap;
 mod initial;
 
 use activity::Activities;
 pub use decide::next_decision;
+use gains::LearnedGains;
 use heap::Heap;
 use initial::{initial_activities, initial_phases};
 use pb_engine::{Engine, RowTerms};
-use pb_inst::{Cube, Lit, Memory};
+use pb_inst::{Cube, Lit, Magnitude, Memory};
 use pb_normal::Normal;
 use std::alloc::Global;
 
-/// The literals in which variables are first decided, those of the variables of the greatest activity first.
+/// How many variables of the heap there are to a node from one change of what leads the order to the next, so that putting
+/// the heap in order again costs a node little.
+const REBUILT_AT_A_NODE: u32 = 16;
+
+/// The literals in which variables are first decided, those of the variables of the greatest activity first, or of the
+/// greatest activity by what they gained.
 #[derive(Drop)]
 pub struct Order {
     activities: Activities,
     heap: Heap,
+    /// How many variables could have been put in order since that was last done.
+    waited: u32,
     /// Of each variable the literal that is tried first. No search changes it.
     phases: Vec<Lit>,
 }
@@ -26,12 +35,15 @@ pub struct Order {
 impl Order {
     /// All variables of the normal form. Where cubes are to be false, their variables come first.
     pub fn new(alloc: Global, normal: &Normal, negated: &[Cube]) -> Result<Order, Memory> {
-        let activities = Activities::new(initial_activities(alloc, normal, negated)?);
+        let entries = initial_activities(alloc, normal, negated)?;
+        let gains = LearnedGains::new(alloc, vars_with_gains(normal))?;
+        let activities = Activities::new(entries, gains);
         let heap = Heap::new(alloc, normal.vars(), &activities)?;
         let phases = initial_phases(alloc, normal)?;
         Ok(Order {
             activities,
             heap,
+            waited: 0,
             phases,
         })
     }
@@ -79,10 +91,36 @@ impl Order {
         }
     }
 
+    /// The decision for the literal raised the bound so much.
+    pub fn learn(&mut self, lit: Lit, gain: Magnitude) {
+        self.activities.learn(lit, gain);
+        if self.activities.is_led_by_gains() {
+            self.heap.moved(lit.var() - 1, &self.activities);
+        }
+    }
+
+    /// At this node gains are to lead the order too, or not. A change waits until enough nodes went by.
+    pub fn lead_by_gains(&mut self, is_led: bool) {
+        self.waited = self.waited.saturating_add(REBUILT_AT_A_NODE);
+        if is_led != self.activities.is_led_by_gains() && self.waited >= self.heap.len() {
+            self.activities.lead_by_gains(is_led);
+            self.heap.rebuild(&self.activities);
+            self.waited = 0;
+        }
+    }
+
     /// Bumps the activity of the literal's variable.
     fn bump(&mut self, lit: Lit) {
         let index = lit.var() - 1;
         self.activities.bump(index);
         self.heap.bumped(index, &self.activities);
     }
+}
+
+/// Of how many variables gains are kept: of none where there is nothing to pay.
+fn vars_with_gains(normal: &Normal) -> usize {
+    if normal.objective().is_empty() {
+        return 0;
+    }
+    normal.vars() as usize
 }

@@ -35,21 +35,41 @@ pub fn check_bound(
     ensures known { KnowsHeldPrefix engine.old.trail best.now.held agreed.new }
 {
     // Where nothing is held there is nothing to compare a bound with, and taking one would go through rows for nothing:
-    // the first descent to a solution costs propagation alone.
-    let Some(cost) = best.cost() else {
+    // the first descent to a solution costs propagation, and multipliers as far as they pay, which lead it to a cheap one.
+    if best.cost().is_none() {
+        engine.adjust();
         return (Pruning::Open, None);
-    };
+    }
     // Of two lower bounds the greater one counts. That of disjoint rows is at hand sooner.
     let bound = engine.bound();
     let pruning = judge_bound(engine, bound, best, agreed);
     if pruning == Pruning::Closed {
         return (pruning, Some(bound));
     }
-    let relaxed = engine.relaxed_bound(bound, cost);
+    let goal = closing_bound(engine, best, agreed);
+    let relaxed = engine.relaxed_bound(bound, goal);
     if relaxed <= bound {
         return (pruning, Some(bound));
     }
     (judge_bound(engine, relaxed, best, agreed), Some(relaxed))
+}
+
+/// The least bound that closes the subtree: the best cost where the order of assignments closes it at a tie, else more.
+fn closing_bound(engine: &Engine<'_>, best: &Best<'_>, agreed: &mut AgreedPrefix) -> Number
+    requires engine { IsEngineOf best.now.problem engine.now }
+    requires known { KnowsHeldPrefix engine.now.trail best.now.held agreed.old }
+    ensures known { KnowsHeldPrefix engine.now.trail best.now.held agreed.new }
+{
+    let Some(cost) = best.cost() else {
+        return Number::MAX;
+    };
+    let Some(held) = best.assignment() else {
+        return Number::MAX;
+    };
+    if judge_tie(engine, held, agreed) == Pruning::Closed {
+        return cost;
+    }
+    cost.saturating_add(1)
 }
 
 /// Compares a bound of the trail's completions with the best cost. Where they are equal the order of assignments decides.

@@ -3,9 +3,9 @@
 
 mod budgets;
 mod efforts;
-mod instances;
+pub mod instances;
 mod lenders;
-mod listing;
+pub mod listing;
 mod pieces;
 mod shares;
 mod unconstrained;

@@ -1,5 +1,8 @@
 //! Activities of variables, which conflicts bump. No answer depends on them, so nothing is promised.
 
+use super::gains::LearnedGains;
+use pb_inst::{Lit, Magnitude};
+
 /// An activity, scaled up. The greatest one stands for all that are greater.
 pub type Activity = u64;
 
@@ -13,16 +16,38 @@ pub struct VariableActivity {
     pub bump: Activity,
 }
 
-/// The activity of each variable, by its index from 0 on.
+/// The activity of each variable, by its index from 0 on, and what decisions of it gained.
 #[derive(Drop)]
 pub struct Activities {
     entries: Vec<VariableActivity>,
+    gains: LearnedGains,
+    /// Whether gains count too, or activities alone.
+    is_led_by_gains: bool,
 }
 
 impl Activities {
-    /// The activities that these are.
-    pub fn new(entries: Vec<VariableActivity>) -> Activities {
-        Activities { entries }
+    /// These activities, which count alone at first.
+    pub fn new(entries: Vec<VariableActivity>, gains: LearnedGains) -> Activities {
+        Activities {
+            entries,
+            gains,
+            is_led_by_gains: false,
+        }
+    }
+
+    /// Whether gains count too.
+    pub fn is_led_by_gains(&self) -> bool {
+        self.is_led_by_gains
+    }
+
+    /// From now on gains count too, or not.
+    pub fn lead_by_gains(&mut self, is_led: bool) {
+        self.is_led_by_gains = is_led;
+    }
+
+    /// The decision for the literal gained so much.
+    pub fn learn(&mut self, lit: Lit, gain: Magnitude) {
+        self.gains.learn(lit, gain);
     }
 
     /// The activity at the index, 0 where there is none.
@@ -33,10 +58,19 @@ impl Activities {
         }
     }
 
-    /// Whether the first variable comes before the second: by falling activity, and then by index.
+    /// What the variable at the index is ordered by: its activity, and where gains count that times its factor.
+    fn rank(&self, index: u32) -> u128 {
+        let activity = self.activity(index) as u128;
+        if self.is_led_by_gains {
+            return activity.saturating_mul(self.gains.factor(index) as u128);
+        }
+        activity
+    }
+
+    /// Whether the first variable comes before the second: by falling rank, and then by index.
     pub fn precedes(&self, first: u32, second: u32) -> bool {
-        let before = self.activity(first);
-        let after = self.activity(second);
+        let before = self.rank(first);
+        let after = self.rank(second);
         before > after || (before == after && first < second)
     }
 

@@ -81,6 +81,8 @@ fn ordered_decision(
         let lit = order.first()?;
         if is_free(engine, vars, lit) {
             let left = order.left();
+            // The value that the multipliers make the cheaper one is the better guess, where there are any.
+            let lit = engine.cheaper(lit);
             return Some(decision(lit, bound, Hints { left, ..hints }));
         }
         order.pass();

@@ -1,12 +1,14 @@
-//! How much work searches take at most, by how often the share is asked: once at the beginning, and after every 256th
-//! decision.
+//! How much work searches take at most, by their decisions or by how often the share is asked: once at the beginning, and
+//! after every 256th decision.
 
 use super::instances::{
     add_sums, crowd, instance, nothing, pair_rows, ring, ring_costs, search_pieces,
 };
 use super::lenders::InTurn;
+use crate::{Alone, Search};
 use pb_cubes::{Pieces, split};
 use pb_inst::{Cube, Instance, Relation};
+use pb_normal::normalise;
 use std::alloc::Global;
 use std::process::Abort;
 
@@ -21,6 +23,18 @@ fn asked(rt: &impl Abort, alloc: Global, instance: &Instance, cubes: Vec<Cube>) 
         rt, alloc, instance, &pieces, last, end, &mut best, &mut share,
     );
     share.asked
+}
+
+/// How many decisions the search of the whole instance makes.
+fn decisions(rt: &impl Abort, alloc: Global, instance: &Instance) -> u64 {
+    let vars = instance.vars();
+    let pieces = Pieces::new(vars, Vec::new(alloc)).expect(rt, "pieces");
+    assert!(rt; pieces.vars() == vars);
+    let normal = normalise(alloc, instance).expect(rt, "memory");
+    let mut search = Search::new(alloc, instance, &normal, &pieces).expect(rt, "memory");
+    let mut best = nothing(rt, alloc, instance);
+    search.run(0, &mut best, &mut Alone, Some(u64::MAX));
+    search.decisions()
 }
 
 /// Pigeons without room behind a ring whose variables occur more often. After the first conflicts the pigeons come before
@@ -51,6 +65,21 @@ fn costs_and_occurrences_lead_the_search(rt: HostRuntime) {
         count = count.saturating_add(asked(&rt, alloc, &cover, Vec::new(alloc)));
     }
     assert!(rt; count <= 15, "asked {count} times");
+}
+
+/// The same on longer rings. Without the bound of the multipliers it takes over a hundred times as many decisions.
+#[test]
+fn multipliers_keep_long_rings_short(rt: HostRuntime) {
+    let alloc = rt.alloc();
+    let mut count = 0u64;
+    for size in [80, 120, 160, 200, 240i32] {
+        let costs = ring_costs(&rt, alloc, size);
+        let pairs = ring(&rt, alloc, size, &[1, 7]);
+        let rows = pair_rows(&rt, alloc, &pairs);
+        let cover = instance(&rt, alloc, size.unsigned_abs(), &costs, &rows);
+        count = count.saturating_add(decisions(&rt, alloc, &cover));
+    }
+    assert!(rt; count <= 15_900, "{count} decisions");
 }
 
 /// All cubes over nine variables that no constraint names leave nothing: the search sees it at once where it begins with

@@ -9,13 +9,13 @@ use std::process::Abort;
 
 /// A linear congruential generator.
 #[derive(Clone, Copy)]
-struct Random {
-    state: u64,
+pub struct Random {
+    pub state: u64,
 }
 
 impl Random {
     /// A number below the limit, or 0 where that is 0.
-    fn below(&mut self, limit: u32) -> u32 {
+    pub fn below(&mut self, limit: u32) -> u32 {
         self.state = self
             .state
             .wrapping_mul(6364136223846793005)
@@ -24,13 +24,13 @@ impl Random {
     }
 
     /// A number from the least to before the least plus the count.
-    fn from(&mut self, least: i32, count: u32) -> i32 {
+    pub fn from(&mut self, least: i32, count: u32) -> i32 {
         let above = i32::try_from(self.below(count)).unwrap_or(0);
         least.wrapping_add(above)
     }
 
     /// A literal of one of the variables, of which there is one at least.
-    fn literal(&mut self, vars: u32) -> i32 {
+    pub fn literal(&mut self, vars: u32) -> i32 {
         let var = i32::try_from(self.below(vars)).unwrap_or(0).wrapping_add(1);
         if self.below(2) == 0 {
             var
@@ -132,7 +132,7 @@ impl Random {
 }
 
 /// The least assignment, by the listing of all of them.
-fn least(rt: &impl Abort, alloc: Global, instance: &Instance) -> String {
+pub fn least(rt: &impl Abort, alloc: Global, instance: &Instance) -> String {
     let vars = instance.vars();
     let mut candidate = assignment(rt, alloc, vars, &[]);
     let mut held = assignment(rt, alloc, vars, &[]);

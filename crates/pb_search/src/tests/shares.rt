@@ -125,11 +125,11 @@ fn the_share_is_asked_on_the_way(rt: HostRuntime) {
 #[test]
 fn assignments_handed_over_on_the_way(rt: HostRuntime) {
     let alloc = rt.alloc();
-    let costs = ring_costs(&rt, alloc, 80);
-    let pairs = ring(&rt, alloc, 80, &[1, 7]);
+    let costs = ring_costs(&rt, alloc, 200);
+    let pairs = ring(&rt, alloc, 200, &[1, 7]);
     let rows = pair_rows(&rt, alloc, &pairs);
-    let cover = instance(&rt, alloc, 80, &costs, &rows);
-    let pieces = Pieces::new(80, Vec::new(alloc)).expect(&rt, "pieces");
+    let cover = instance(&rt, alloc, 200, &costs, &rows);
+    let pieces = Pieces::new(200, Vec::new(alloc)).expect(&rt, "pieces");
     let mut alone = InTurn::new(Vec::new(alloc));
     let mut best = nothing(&rt, alloc, &cover);
     search_pieces(&rt, alloc, &cover, &pieces, 0, 1, &mut best, &mut alone);
@@ -138,8 +138,8 @@ fn assignments_handed_over_on_the_way(rt: HostRuntime) {
     assert!(rt; alone.asked <= 28);
     let mut lent = Vec::new(alloc);
     for free in 0..12u32 {
-        let mut chosen = assignment(&rt, alloc, 80, &[]);
-        for place in 0..80u32 {
+        let mut chosen = assignment(&rt, alloc, 200, &[]);
+        for place in 0..200u32 {
             assert!(rt; place < chosen.len());
             let is_free = place % 2 == 1 && place < free.saturating_mul(2);
             chosen.set(place + 1, !is_free);

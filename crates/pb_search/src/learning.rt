@@ -1,0 +1,46 @@
+//! What the order of decisions learns at a node: how far the last decision brought it. No answer depends on it, so nothing
+//! is promised.
+
+use crate::order::Order;
+use crate::pruning::Pruning;
+use crate::search_state::SearchState;
+use pb_engine::Engine;
+use pb_inst::{Best, Lit, Magnitude};
+
+/// A decision, and by how much the bound may rise above it before it is over the best cost.
+#[derive(Clone, Copy)]
+pub struct Decided {
+    lit: Lit,
+    gap: Magnitude,
+}
+
+/// The last decision, and by how much the bound of the multipliers above it may rise; none where they were not used there.
+pub fn last_decided(state: &SearchState<'_>, best: &Best<'_>) -> Option<Decided> {
+    // Below a literal that was fixed no bound is asked for, so the one above it is not known.
+    if state.engine.is_fixing() {
+        return None;
+    }
+    let branch = state.branches.last()?;
+    let gap = state.engine.gap(best.cost()?)?;
+    Some(Decided {
+        lit: branch.lit,
+        gap,
+    })
+}
+
+/// By how much the bound of the multipliers may still rise at a node that was judged.
+pub fn gap_left(engine: &Engine<'_>, best: &Best<'_>, pruning: Pruning) -> Option<Magnitude> {
+    if pruning == Pruning::Closed {
+        return Some(0);
+    }
+    engine.gap(best.cost()?)
+}
+
+/// Learns from what a decision left of the gap.
+pub fn learn(order: &mut Order, decided: Option<Decided>, left: Option<Magnitude>) {
+    if let Some(decided) = decided
+        && let Some(left) = left
+    {
+        order.learn(decided.lit, decided.gap.saturating_sub(left));
+    }
+}

@@ -1,0 +1,118 @@
+//! What decisions did to the bound of the multipliers. No answer depends on it, so nothing is promised.
+
+use pb_inst::{Lit, Magnitude, Memory};
+use std::alloc::Global;
+
+/// How much a factor of a variable may be, and how finely it is told.
+pub type Factor = u64;
+
+/// The factor of a variable of which nothing is known: about that of one whose two values gain as much as others do.
+const UNKNOWN: Factor = 1_048_576;
+
+/// By how much quotients of gains are scaled up.
+const SCALE: u128 = 1024;
+
+/// What a value of which nothing is known gains, by the mean gain: a little more than others, so that it is tried.
+const PRIOR: u128 = 1075;
+
+/// The greatest quotient, 1024 times the mean gain.
+const MAX_QUOTIENT: u128 = 1_048_576;
+
+/// Where sums of gains are halved, 2^60.
+const MANY: Magnitude = 1_152_921_504_606_846_976;
+
+/// The sum of some gains, and how many there are.
+#[derive(Clone, Copy)]
+struct Gains {
+    sum: Magnitude,
+    count: u64,
+}
+
+impl Gains {
+    /// No gain yet.
+    fn none() -> Gains {
+        Gains { sum: 0, count: 0 }
+    }
+
+    /// One gain more.
+    fn add(&mut self, gain: Magnitude) {
+        self.sum = self.sum.saturating_add(gain);
+        self.count = self.count.saturating_add(1);
+        if self.sum > MANY {
+            self.sum /= 2;
+            self.count /= 2;
+        }
+    }
+
+    /// The mean gain, at least 1.
+    fn mean(&self) -> u128 {
+        let mean = self.sum / self.count.max(1);
+        mean.max(1) as u128
+    }
+
+    /// The mean of these gains by that of all gains, as if there were one more of a little over the mean.
+    fn quotient(&self, mean: u128) -> Factor {
+        let sum = (self.sum as u128)
+            .saturating_mul(SCALE)
+            .saturating_add(mean.saturating_mul(PRIOR));
+        let count = mean.saturating_mul(self.count as u128 + 1).max(1);
+        (sum / count).max(1).min(MAX_QUOTIENT) as Factor
+    }
+}
+
+/// What decisions of one variable gained.
+#[derive(Clone, Copy)]
+struct VariableGains {
+    factor: Factor,
+    positive: Gains,
+    negative: Gains,
+}
+
+/// For each variable, by its index from 0 on, what decisions of it gained: by how much the bound rose, or all that it had to
+/// rise by where they ended in a conflict.
+#[derive(Drop)]
+pub struct LearnedGains {
+    all: Gains,
+    variables: Vec<VariableGains>,
+}
+
+impl LearnedGains {
+    /// No gains yet, and room for those of so many variables.
+    pub fn new(alloc: Global, vars: usize) -> Result<LearnedGains, Memory> {
+        let unknown = VariableGains {
+            factor: UNKNOWN,
+            positive: Gains::none(),
+            negative: Gains::none(),
+        };
+        let variables = vec![in alloc; unknown; vars]?;
+        Ok(LearnedGains {
+            all: Gains::none(),
+            variables,
+        })
+    }
+
+    /// What the activity of the variable is worth: the product of what its two values gain by the mean gain, for a variable
+    /// is the better the more both of them do.
+    pub fn factor(&self, index: u32) -> Factor {
+        match self.variables.get(index as usize) {
+            Some(variable) => variable.factor,
+            None => UNKNOWN,
+        }
+    }
+
+    /// The decision for the literal gained so much.
+    pub fn learn(&mut self, lit: Lit, gain: Magnitude) {
+        self.all.add(gain);
+        let mean = self.all.mean();
+        let Some(variable) = self.variables.get_mut(lit.var() as usize - 1) else {
+            return;
+        };
+        if lit.positive() {
+            variable.positive.add(gain);
+        } else {
+            variable.negative.add(gain);
+        }
+        let positive = variable.positive.quotient(mean);
+        variable.factor = positive.saturating_mul(variable.negative.quotient(mean));
+    }
+}
