@@ -3,16 +3,17 @@
 
 ghost use Rattle.std.specs.Prelude.{◌≡◌, length, IfOk};
 
-use super::Asked;
+use super::{Asked, assert_report};
 use pb_inst::{Assignment, Instance, Memory, Number, precedes};
 use pb_read::{ReadFault, read_cnf, read_cubes, read_icnf, read_opb};
 use pb_solve::{Format, Status};
 use std::alloc::{AllocError, Global};
 use std::process::Abort;
 use std::test::Fail;
+use std::thread::Threads;
 
 /// The most variables of an instance whose assignments are listed.
-const MOST_VARS: u32 = 3;
+pub const MOST_VARS: u32 = 12;
 
 /// The least cost, and the first assignment of this cost as the bits of its variables, the first variable in the lowest bit.
 #[derive(Clone, Copy)]
@@ -21,8 +22,24 @@ struct Least {
     bits: u64,
 }
 
+/// Runs with each of these numbers of workers, compares the reports with that of the listing, and answers their status.
+pub fn assert_as_listed<R: Abort + Threads + Sync>(
+    rt: &R,
+    alloc: Global,
+    asked: Asked<'_>,
+    workers: &[u32],
+) -> Result<Status, Fail> {
+    let (report, status) = expected_report(rt, alloc, asked)?;
+    for workers in workers {
+        let workers = *workers;
+        let asked = Asked { workers, ..asked };
+        assert_report(rt, alloc, asked, report.as_bytes(), status);
+    }
+    Ok(status)
+}
+
 /// The report and the status of a run.
-pub fn expected_report(
+fn expected_report(
     rt: &impl Abort,
     alloc: Global,
     asked: Asked<'_>,
@@ -80,7 +97,7 @@ fn read(alloc: Global, format: Format, text: &[u8]) -> Result<Instance, ReadFaul
 /// The least of all assignments, where one is feasible.
 fn list_least(alloc: Global, instance: &Instance) -> Result<Option<Least>, Memory> {
     let mut least = None;
-    for bits in 0..1u64 << MOST_VARS {
+    for bits in 0..1u64 << instance.vars().min(MOST_VARS) {
         let values = spelled(alloc, instance.vars(), bits)?;
         let Some(cost) = instance.check(&values) else {
             continue;

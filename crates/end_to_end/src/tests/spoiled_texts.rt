@@ -2,8 +2,8 @@
 //! or that no rule names: the report is that of the oracle.
 
 use super::cases::COVER;
-use super::oracle::expected_report;
-use super::{Asked, WORKERS, assert_report};
+use super::oracle::assert_as_listed;
+use super::{Asked, WORKERS};
 use pb_solve::Format;
 use std::alloc::{AllocError, Global};
 use std::process::Abort;
@@ -18,21 +18,8 @@ const CLAUSE_AND_CUBES: &[u8] = b"p inccnf\n1 2 0\na 1 -1 0\na 0\na 0\n";
 
 const CUBE_FILE: &[u8] = b"c -\na 1 -3 0\n\na 0\n%\na x\n";
 
-/// Runs with each number of workers, and compares the reports with that of the oracle.
-fn assert_as_listed<R: Abort + Threads + Sync>(
-    rt: &R,
-    alloc: Global,
-    asked: Asked<'_>,
-) -> Result<(), Fail> {
-    let (report, status) = expected_report(rt, alloc, asked)?;
-    for workers in WORKERS {
-        let asked = Asked { workers, ..asked };
-        assert_report(rt, alloc, asked, report.as_bytes(), status);
-    }
-    Ok(())
-}
-
-/// The same for this text and cube file, with and without a split.
+/// Runs on this text and cube file, with and without a split and with each number of workers, and compares the reports with
+/// that of the oracle.
 fn assert_text<R: Abort + Threads + Sync>(
     rt: &R,
     alloc: Global,
@@ -49,7 +36,7 @@ fn assert_text<R: Abort + Threads + Sync>(
             split,
             nodes: None,
         };
-        assert_as_listed(rt, alloc, asked)?;
+        assert_as_listed(rt, alloc, asked, &WORKERS)?;
     }
     Ok(())
 }
