@@ -51,34 +51,31 @@ fn conflicts_bring_their_variables_forward(rt: HostRuntime) {
     assert!(rt; count <= 21, "asked {count} times");
 }
 
-/// One of every two neighbours on rings with chords is chosen, at least cost: soon, where the dear and the much needed are
-/// decided first, and first not chosen.
-#[test]
-fn costs_and_occurrences_lead_the_search(rt: HostRuntime) {
-    let alloc = rt.alloc();
+/// How many decisions it takes to choose one of every two neighbours on rings with chords, at least cost, for rings of these
+/// sizes together.
+fn decisions_on_rings(rt: &impl Abort, alloc: Global, sizes: &[i32]) -> u64 {
     let mut count = 0u64;
-    for size in [36, 40, 44, 48i32] {
-        let costs = ring_costs(&rt, alloc, size);
-        let pairs = ring(&rt, alloc, size, &[1, 7]);
-        let rows = pair_rows(&rt, alloc, &pairs);
-        let cover = instance(&rt, alloc, size.unsigned_abs(), &costs, &rows);
-        count = count.saturating_add(asked(&rt, alloc, &cover, Vec::new(alloc)));
+    for size in sizes {
+        let costs = ring_costs(rt, alloc, *size);
+        let pairs = ring(rt, alloc, *size, &[1, 7]);
+        let rows = pair_rows(rt, alloc, &pairs);
+        let cover = instance(rt, alloc, size.unsigned_abs(), &costs, &rows);
+        count = count.saturating_add(decisions(rt, alloc, &cover));
     }
-    assert!(rt; count <= 15, "asked {count} times");
+    count
 }
 
-/// The same on longer rings. Without the bound of the multipliers it takes over a hundred times as many decisions.
+/// Short rings are searched soon, where the dear and the much needed are decided first.
+#[test]
+fn costs_and_occurrences_lead_the_search(rt: HostRuntime) {
+    let count = decisions_on_rings(&rt, rt.alloc(), &[36, 40, 44, 48]);
+    assert!(rt; count <= 450, "{count} decisions");
+}
+
+/// Without the bound of the multipliers five longer rings take over four hundred times as many decisions.
 #[test]
 fn multipliers_keep_long_rings_short(rt: HostRuntime) {
-    let alloc = rt.alloc();
-    let mut count = 0u64;
-    for size in [80, 120, 160, 200, 240i32] {
-        let costs = ring_costs(&rt, alloc, size);
-        let pairs = ring(&rt, alloc, size, &[1, 7]);
-        let rows = pair_rows(&rt, alloc, &pairs);
-        let cover = instance(&rt, alloc, size.unsigned_abs(), &costs, &rows);
-        count = count.saturating_add(decisions(&rt, alloc, &cover));
-    }
+    let count = decisions_on_rings(&rt, rt.alloc(), &[80, 120, 160, 200, 240]);
     assert!(rt; count <= 15_900, "{count} decisions");
 }
 
