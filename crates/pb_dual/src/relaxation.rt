@@ -37,11 +37,12 @@ const SMALL_PART: Magnitude = 8;
 /// How many changes of multipliers can be taken back at least, for each row.
 const CHANGES_OF_A_ROW: usize = 8;
 
-/// The same where there are few rows: a deep search changes each of them at many of its levels.
-const CHANGES_OF_FEW_ROWS: usize = 64;
+/// The same where there are few rows: a deep search changes each of them at many of its levels, and where no more can be
+/// taken back no multiplier is improved.
+const CHANGES_OF_FEW_ROWS: usize = 512;
 
 /// The most changes that few rows have room for.
-const MOST_CHANGES_OF_FEW_ROWS: usize = 65_536;
+const MOST_CHANGES_OF_FEW_ROWS: usize = 262_144;
 
 /// Where the multiplier of a row makes a literal free of cost, and the literal's coefficient.
 #[derive(Clone, Copy, Debug)]
