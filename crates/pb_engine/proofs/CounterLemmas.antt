@@ -1,10 +1,11 @@
 -- The counters stay right when a literal is counted or taken back.
-use Rattle.std.proofs.Common.{◌≡◌, ℕ, ◌+◌, ◌<◌, ◌≤◌, ◌^◌, List, [], ◌∷◌, ◌++◌, length, get_or, take, refl, sym, ◌∙◌, ap, arith, Bool, cond, sum_by, All, None}
+use Rattle.std.proofs.Common.{◌≡◌, ℕ, ◌+◌, ◌<◌, ◌≤◌, ◌*◌, List, [], ◌∷◌, ◌++◌, length, get_or, take, refl, sym, ◌∙◌, ap, arith, Bool, cond, sum_by, All, None}
 use Rattle.std.proofs.lemmas.List.Sums.{sum_by-cons}
 use Rattle.pb_inst.specs.Literal.{Literal}
 use Rattle.pb_normal.specs.declared.terms.PositiveTerm.{PositiveTerm}
-use Rattle.pb_normal.specs.NormalForm.{PositiveRow, NormalForm, HasSmallSums}
+use Rattle.pb_normal.specs.NormalForm.{PositiveRow, NormalForm}
 use Rattle.pb_rows.specs.Constraints.{row_at}
+use Rattle.pb_rows.specs.Fits.{HasSumsBelow}
 use Rattle.pb_engine.specs.DisjointRows.{gain, loss}
 use Rattle.pb_engine.specs.Needs.{wants, IsLackOf, AreCounters}
 use Rattle.pb_normal.specs.Literals.{negation, weight_of}
@@ -14,19 +15,19 @@ use Rattle.pb_engine.proofs.NeedLemmas.{lack-joined, lack-pushed, lack-left, lac
 use Rattle.pb_engine.proofs.SpareLemmas.{reached-push}
 use Rattle.pb_trail.proofs.TrailLemmas.{is_true-nil}
 
-pub counters-push : (form : NormalForm) (rows : List PositiveRow) (trail : List Literal) (paid new_paid : ℕ) (lacks new_lacks : List ℕ) (wanting new_wanting : List Bool) (l : Literal) → AreCounters form rows trail paid lacks wanting → value_on trail l.var ≡ None → new_paid ≡ paid + weight_of l form.objective → length new_lacks ≡ length lacks → ((r : ℕ) → r < length lacks → get_or new_lacks r 0 + gain form.objective l (row_at rows r).terms ≡ get_or lacks r 0 + loss form.objective (negation l) (row_at rows r).terms) → new_wanting ≡ wants new_lacks → AreCounters form rows (trail ++ l ∷ []) new_paid new_lacks new_wanting
-counters-push form rows trail paid new_paid lacks new_lacks wanting new_wanting l are free pays count changed wanting_is = record {
+pub counters-push : {limit : ℕ} (form : NormalForm) (rows : List PositiveRow) (trail : List Literal) (paid new_paid : ℕ) (lacks new_lacks : List ℕ) (wanting new_wanting : List Bool) (l : Literal) → AreCounters limit form rows trail paid lacks wanting → value_on trail l.var ≡ None → new_paid ≡ paid + weight_of l form.objective → length new_lacks ≡ length lacks → ((r : ℕ) → r < length lacks → get_or new_lacks r 0 + gain form.objective l (row_at rows r).terms ≡ get_or lacks r 0 + loss form.objective (negation l) (row_at rows r).terms) → new_wanting ≡ wants limit new_lacks → AreCounters limit form rows (trail ++ l ∷ []) new_paid new_lacks new_wanting
+counters-push {limit} form rows trail paid new_paid lacks new_lacks wanting new_wanting l are free pays count changed wanting_is = record {
   paid_is = omega (arith, are.paid_is, reached-push trail l form.objective free);
   count = count ∙ are.count;
-  each = λ r h. lack-pushed form.objective trail l (row_at rows r) (get_or lacks r 0) (get_or new_lacks r 0) free (are.each r h) (changed r (omega (arith, are.count)));
+  each = λ r h. lack-pushed limit form.objective trail l (row_at rows r) (get_or lacks r 0) (get_or new_lacks r 0) free (are.each r h) (changed r (omega (arith, are.count)));
   wanting_are = wanting_is;
 }
 
-pub counters-pop : (form : NormalForm) (rows : List PositiveRow) (trail : List Literal) (paid new_paid : ℕ) (lacks new_lacks : List ℕ) (wanting new_wanting : List Bool) (l : Literal) → AreCounters form rows (trail ++ l ∷ []) paid lacks wanting → value_on trail l.var ≡ None → new_paid + weight_of l form.objective ≡ paid → length new_lacks ≡ length lacks → ((r : ℕ) → r < length lacks → get_or new_lacks r 0 + loss form.objective (negation l) (row_at rows r).terms ≡ get_or lacks r 0 + gain form.objective l (row_at rows r).terms) → new_wanting ≡ wants new_lacks → AreCounters form rows trail new_paid new_lacks new_wanting
-counters-pop form rows trail paid new_paid lacks new_lacks wanting new_wanting l are free pays count changed wanting_is = record {
+pub counters-pop : {limit : ℕ} (form : NormalForm) (rows : List PositiveRow) (trail : List Literal) (paid new_paid : ℕ) (lacks new_lacks : List ℕ) (wanting new_wanting : List Bool) (l : Literal) → AreCounters limit form rows (trail ++ l ∷ []) paid lacks wanting → value_on trail l.var ≡ None → new_paid + weight_of l form.objective ≡ paid → length new_lacks ≡ length lacks → ((r : ℕ) → r < length lacks → get_or new_lacks r 0 + loss form.objective (negation l) (row_at rows r).terms ≡ get_or lacks r 0 + gain form.objective l (row_at rows r).terms) → new_wanting ≡ wants limit new_lacks → AreCounters limit form rows trail new_paid new_lacks new_wanting
+counters-pop {limit} form rows trail paid new_paid lacks new_lacks wanting new_wanting l are free pays count changed wanting_is = record {
   paid_is = omega (arith, are.paid_is, reached-push trail l form.objective free);
   count = count ∙ are.count;
-  each = λ r h. lack-popped form.objective trail l (row_at rows r) (get_or lacks r 0) (get_or new_lacks r 0) free (are.each r h) (changed r (omega (arith, are.count)));
+  each = λ r h. lack-popped limit form.objective trail l (row_at rows r) (get_or lacks r 0) (get_or new_lacks r 0) free (are.each r h) (changed r (omega (arith, are.count)));
   wanting_are = wanting_is;
 }
 
@@ -38,8 +39,8 @@ reached_nothing (t ∷ terms) =
     omega (arith, reached_nothing terms, sum_by-cons (λ (u : PositiveTerm). cond (is_true [] u.lit) u.coef 0) t terms)
 
 -- before any literal is counted
-pub counters-nil : (form : NormalForm) (rows : List PositiveRow) (lacks : List ℕ) (wanting : List Bool) → length lacks ≡ length rows → ((r : ℕ) → r < length rows → IsLackOf form.objective [] (row_at rows r) (get_or lacks r 0)) → wanting ≡ wants lacks → AreCounters form rows [] 0 lacks wanting
-counters-nil form rows lacks wanting count each is = record {
+pub counters-nil : {limit : ℕ} (form : NormalForm) (rows : List PositiveRow) (lacks : List ℕ) (wanting : List Bool) → length lacks ≡ length rows → ((r : ℕ) → r < length rows → IsLackOf limit form.objective [] (row_at rows r) (get_or lacks r 0)) → wanting ≡ wants limit lacks → AreCounters limit form rows [] 0 lacks wanting
+counters-nil {limit} form rows lacks wanting count each is = record {
   paid_is = sym (reached_nothing form.objective);
   count = count;
   each = each;
@@ -47,15 +48,15 @@ counters-nil form rows lacks wanting count each is = record {
 }
 
 -- the next literal can be counted
-pub can_join : (form : NormalForm) (rows : List PositiveRow) (trail : List Literal) (paid : ℕ) (lacks given : List ℕ) (wanting : List Bool) (l : Literal) → AreCounters form rows trail paid lacks wanting → value_on trail l.var ≡ None → All (λ (row : PositiveRow). HasSmallSums row) rows → given ≡ lacks → (r : ℕ) → r < length given → (gain form.objective l (row_at rows r).terms ≤ get_or given r 0) × (get_or given r 0 + loss form.objective (negation l) (row_at rows r).terms < 2 ^ 64 + gain form.objective l (row_at rows r).terms)
-can_join form rows trail paid lacks given wanting l are free small same r h =
+pub can_join : {limit : ℕ} (form : NormalForm) (rows : List PositiveRow) (trail : List Literal) (paid : ℕ) (lacks given : List ℕ) (wanting : List Bool) (l : Literal) → AreCounters limit form rows trail paid lacks wanting → value_on trail l.var ≡ None → All (λ (row : PositiveRow). HasSumsBelow limit row) rows → given ≡ lacks → (r : ℕ) → r < length given → (gain form.objective l (row_at rows r).terms ≤ get_or given r 0) × (get_or given r 0 + loss form.objective (negation l) (row_at rows r).terms < 2 * limit + gain form.objective l (row_at rows r).terms)
+can_join {limit} form rows trail paid lacks given wanting l are free small same r h =
     let within : r < length rows = omega (arith, ap (λ (xs : List ℕ). length xs) same, are.count) in
     let read = ap (λ (xs : List ℕ). get_or xs r 0) same in
     lack-joined form.objective trail l (row_at rows r) (get_or given r 0) free (small r (record { terms = []; degree = 0 }) within) (omega (arith, are.each r within))
 
 -- the last literal can be taken back
-pub can_leave : (form : NormalForm) (rows : List PositiveRow) (trail : List Literal) (paid : ℕ) (lacks given : List ℕ) (wanting : List Bool) (l : Literal) → AreCounters form rows (trail ++ l ∷ []) paid lacks wanting → value_on trail l.var ≡ None → All (λ (row : PositiveRow). HasSmallSums row) rows → given ≡ lacks → (r : ℕ) → r < length given → (loss form.objective (negation l) (row_at rows r).terms ≤ get_or given r 0) × (get_or given r 0 + gain form.objective l (row_at rows r).terms < 2 ^ 64 + loss form.objective (negation l) (row_at rows r).terms)
-can_leave form rows trail paid lacks given wanting l are free small same r h =
+pub can_leave : {limit : ℕ} (form : NormalForm) (rows : List PositiveRow) (trail : List Literal) (paid : ℕ) (lacks given : List ℕ) (wanting : List Bool) (l : Literal) → AreCounters limit form rows (trail ++ l ∷ []) paid lacks wanting → value_on trail l.var ≡ None → All (λ (row : PositiveRow). HasSumsBelow limit row) rows → given ≡ lacks → (r : ℕ) → r < length given → (loss form.objective (negation l) (row_at rows r).terms ≤ get_or given r 0) × (get_or given r 0 + gain form.objective l (row_at rows r).terms < 2 * limit + loss form.objective (negation l) (row_at rows r).terms)
+can_leave {limit} form rows trail paid lacks given wanting l are free small same r h =
     let within : r < length rows = omega (arith, ap (λ (xs : List ℕ). length xs) same, are.count) in
     let read = ap (λ (xs : List ℕ). get_or xs r 0) same in
     lack-left form.objective trail l (row_at rows r) (get_or given r 0) free (small r (record { terms = []; degree = 0 }) within) (omega (arith, are.each r within))

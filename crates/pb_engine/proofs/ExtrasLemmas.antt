@@ -10,7 +10,6 @@ use Rattle.pb_rows.specs.Constraints.{row_at, AreRowsOver, HaveRisingVariables}
 use Rattle.pb_engine.specs.DisjointRows.{need, costly, extra, extra_of, is_picked, marked_by, extras}
 use Rattle.pb_engine.specs.Needs.{wants, AreCounters}
 use Rattle.pb_bits.specs.RowSet.{HasNoneBetween}
-use Rattle.pb_engine.specs.declared.needs.TheConstants.{MET}
 use Rattle.pb_engine.proofs.DisjointBound.{ArePickable}
 use Rattle.pb_engine.proofs.NeedLemmas.{length-wants}
 use Rattle.pb_engine.proofs.OfferLemmas.{not_picked}
@@ -42,15 +41,15 @@ extras-next objective trail marks rows from to low high none =
     passes objective trail marks rows (to - from) from (omega arith) (λ r above below. none r above (omega arith)) ∙ ap (λ (n : ℕ). extras objective trail marks (drop n rows)) same
 
 -- a row that isn't among those that need costly literals needs none
-pub none-needed : (form : NormalForm) (rows : List PositiveRow) (trail : List Literal) (paid : ℕ) (lacks : List ℕ) (wanting : List Bool) (from to : ℕ) → AreCounters form rows trail paid lacks wanting → to ≤ length rows → HasNoneBetween wanting from to → (r : ℕ) → from ≤ r → r < to → need form.objective trail (row_at rows r) ≡ 0
+pub none-needed : {limit : ℕ} (form : NormalForm) (rows : List PositiveRow) (trail : List Literal) (paid : ℕ) (lacks : List ℕ) (wanting : List Bool) (from to : ℕ) → AreCounters limit form rows trail paid lacks wanting → to ≤ length rows → HasNoneBetween wanting from to → (r : ℕ) → from ≤ r → r < to → need form.objective trail (row_at rows r) ≡ 0
 unfolding wants
-none-needed form rows trail paid lacks wanting from to are high none r low below =
+none-needed {limit} form rows trail paid lacks wanting from to are high none r low below =
     let exists : r < length lacks = omega (arith, are.count) in
-    let off : nat_lt MET (get_or lacks r 0) ≡ false = sym (get_or-map (λ (n : ℕ). nat_lt MET n) lacks r 0 false exists) ∙ (ap (λ (ms : List Bool). get_or ms r false) (sym are.wanting_are) ∙ none r low below) in
-    omega (arith, ltb-false MET (get_or lacks r 0) off, are.each r (omega arith))
+    let off : nat_lt limit (get_or lacks r 0) ≡ false = sym (get_or-map (λ (n : ℕ). nat_lt limit n) lacks r 0 false exists) ∙ (ap (λ (ms : List Bool). get_or ms r false) (sym are.wanting_are) ∙ none r low below) in
+    omega (arith, ltb-false limit (get_or lacks r 0) off, are.each r (omega arith))
 
-pub wanting-count : (form : NormalForm) (rows : List PositiveRow) (trail : List Literal) (paid : ℕ) (lacks : List ℕ) (wanting : List Bool) → AreCounters form rows trail paid lacks wanting → length wanting ≡ length rows
-wanting-count form rows trail paid lacks wanting are = ap (λ (ms : List Bool). length ms) are.wanting_are ∙ (length-wants lacks ∙ are.count)
+pub wanting-count : {limit : ℕ} (form : NormalForm) (rows : List PositiveRow) (trail : List Literal) (paid : ℕ) (lacks : List ℕ) (wanting : List Bool) → AreCounters limit form rows trail paid lacks wanting → length wanting ≡ length rows
+wanting-count {limit} form rows trail paid lacks wanting are = ap (λ (ms : List Bool). length ms) are.wanting_are ∙ (length-wants limit lacks ∙ are.count)
 
 -- what the row adds, and what is left
 pub extras-step : (objective : List PositiveTerm) (trail : List Literal) (marks new : List Bool) (rows : List PositiveRow) (i result : ℕ) → i < length rows → result ≡ cond (is_picked objective trail marks (row_at rows i)) (extra objective trail (row_at rows i)) 0 → new ≡ cond (is_picked objective trail marks (row_at rows i)) (marked_by trail marks (row_at rows i).terms) marks → extras objective trail marks (drop i rows) ≡ result + extras objective trail new (drop (i + 1) rows)

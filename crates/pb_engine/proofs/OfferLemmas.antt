@@ -14,7 +14,6 @@ use Rattle.pb_normal.proofs.LiteralLemmas.{AreRising}
 use Rattle.pb_engine.specs.Offers.{Offer}
 use Rattle.pb_engine.specs.DisjointRows.{has_cost, is_free, is_costly, costly, greatest, cheapest, top_cost, extra, need, is_marked, meets_marks, marked_by, is_picked}
 use Rattle.pb_engine.specs.Needs.{IsLackOf}
-use Rattle.pb_engine.specs.declared.needs.TheConstants.{MET}
 use Rattle.pb_engine.specs.Offers.{no_offer, offer_with, offer_by, offer_of, offer_joined, extra_in}
 use Rattle.pb_normal.specs.Literals.{weight_of}
 use Rattle.pb_engine.proofs.DisjointBound.{one_each, times_one, ones_suffice}
@@ -138,8 +137,8 @@ pub marked_by-none : (trail : List Literal) (marks : List Bool) (terms : List Po
 unfolding marked_by
 marked_by-none trail marks terms = refl
 
-pub need-is : (objective : List PositiveTerm) (trail : List Literal) (row : PositiveRow) (lack : ℕ) → IsLackOf objective trail row lack → lack - MET ≡ need objective trail row
-need-is objective trail row lack is = omega arith
+pub need-is : (limit : ℕ) (objective : List PositiveTerm) (trail : List Literal) (row : PositiveRow) (lack : ℕ) → IsLackOf limit objective trail row lack → lack - limit ≡ need objective trail row
+need-is limit objective trail row lack is = omega arith
 
 one_times : (q n g : ℕ) → 0 < n → n ≤ g → n ≤ q * g → q * g < n + g → q ≡ 1
 one_times zero n g some fits low high = omega (arith, some, low)

@@ -21,11 +21,11 @@ pub fn payment<C: Count>(
     needs: &mut Needs<C>,
     marks: &mut Marks,
 ) -> Magnitude
-    requires needs { AreNeeds slacks.now.form slacks.now.rows slacks.now.trail needs.old }
+    requires needs { AreNeeds C.limit slacks.now.form slacks.now.rows slacks.now.trail needs.old }
     requires marks { length marks.old ≡ slacks.now.vars }
     ensures payment { result ≡ reached slacks.now.trail slacks.now.form.objective + extras slacks.now.form.objective slacks.now.trail (replicate slacks.now.form.vars false) slacks.now.rows }
     ensures small { result ≤ total_coefficient slacks.now.form.objective }
-    ensures needs { AreNeeds slacks.now.form slacks.now.rows slacks.now.trail needs.new }
+    ensures needs { AreNeeds C.limit slacks.now.form slacks.now.rows slacks.now.trail needs.new }
     ensures marks { length marks.new ≡ length marks.old }
 {
     let _vars = slacks.tables().vars();

@@ -1,6 +1,6 @@
 //! What rows that share no variable without a value add to a lower bound.
 
-ghost use Rattle.std.specs.Prelude.{◌≡◌, ℕ, ◌+◌, ◌-◌, ◌^◌, ◌<◌, ◌≤◌, None, true, false, All, length, map, replicate, sum_by, slice_set, if◌then◌else◌};
+ghost use Rattle.std.specs.Prelude.{◌≡◌, ℕ, ◌+◌, ◌-◌, ◌*◌, ◌<◌, ◌≤◌, None, true, false, All, length, map, replicate, sum_by, slice_set, if◌then◌else◌};
 ghost use Rattle.std.specs.Option.{ForSome};
 ghost use Rattle.pb_rows.specs.Constraints.{row_at};
 ghost use Rattle.pb_engine.specs.DisjointRows.{is_free, is_picked, extra, extras, meets_marks, marked_by};
@@ -10,7 +10,7 @@ ghost use Rattle.pb_rows.specs.Tables.{terms_in};
 
 use crate::needs::Needs;
 use pb_bits::Marks;
-use pb_inst::{Lit, Magnitude};
+use pb_inst::Lit;
 use pb_rows::{Count, RowTerms, Tally, Weighs};
 use pb_trail::Slacks;
 use std::marker::Model;
@@ -41,13 +41,13 @@ impl<C: Count> Offer<C> {
         Offer {
             total: Tally::of(0),
             greatest: Tally::of(0),
-            cheapest: Tally::of(Magnitude::MAX),
+            cheapest: Tally::of(u64::MAX),
         }
     }
 
     /// With one more literal.
     fn with(self, coef: Tally<C>, cost: Tally<C>) -> Offer<C>
-        requires { self.total + coef < 2 ^ 64 }
+        requires { self.total + coef < 2 * C.limit }
         ensures { result ≡ offer_with self coef cost }
     {
         Offer {
@@ -67,7 +67,7 @@ impl<C: Count> Offer<C> {
     ) -> Option<Offer<C>>
         requires variable { (1 ≤ lit.var) × (lit.var ≤ slacks.now.vars) }
         requires marks { length marks.now ≡ slacks.now.vars }
-        requires fits { self.total + coef < 2 ^ 64 }
+        requires fits { self.total + coef < 2 * C.limit }
         ensures { result ≡ offer_joined slacks.now.form.objective slacks.now.trail marks.now self (record { coef = coef; lit = lit }) }
     {
         if slacks.value(lit.var()).is_some() {
@@ -86,7 +86,7 @@ impl<C: Count> Offer<C> {
     /// The least number of literals that can reach the need, times the least cost of one.
     fn extra(self, need: Tally<C>) -> Tally<C>
         requires positive { 0 < need → need ≤ self.total → 0 < self.greatest }
-        requires fits { extra_in self need < 2 ^ 64 }
+        requires fits { extra_in self need < 2 * C.limit }
         ensures { result ≡ extra_in self need }
     {
         if need.is_zero() || self.total.is_below(need) {
@@ -108,7 +108,7 @@ fn offer_in<C: Count>(
 ) -> Option<Offer<C>>
     requires variables { All (λ t. (1 ≤ t.lit.var) × (t.lit.var ≤ slacks.now.vars)) (terms_in terms) }
     requires marks { length marks.now ≡ slacks.now.vars }
-    requires fits { sum_by (λ t. t.coef) (terms_in terms) < 2 ^ 64 }
+    requires fits { sum_by (λ t. t.coef) (terms_in terms) < C.limit }
     ensures some { ForSome result (λ offer. (offer ≡ offer_of slacks.now.form.objective slacks.now.trail (terms_in terms.entry)) × (meets_marks slacks.now.trail marks.now (terms_in terms.entry) ≡ false)) }
     ensures none { result ≡ None → meets_marks slacks.now.trail marks.now (terms_in terms.entry) ≡ true }
 {
@@ -126,13 +126,13 @@ fn offer_of_items<C: Count, T: Weighs>(
 ) -> Option<Offer<C>>
     requires variables { All (λ t. (1 ≤ t.lit.var) × (t.lit.var ≤ slacks.now.vars)) (map T.term items.now) }
     requires marks { length marks.now ≡ slacks.now.vars }
-    requires fits { sum_by (λ t. t.coef) (map T.term items.now) < 2 ^ 64 }
+    requires fits { sum_by (λ t. t.coef) (map T.term items.now) < C.limit }
     ensures some { ForSome result (λ offer. (offer ≡ offer_of slacks.now.form.objective slacks.now.trail (map T.term items.now)) × (meets_marks slacks.now.trail marks.now (map T.term items.now) ≡ false)) }
     ensures none { result ≡ None → meets_marks slacks.now.trail marks.now (map T.term items.now) ≡ true }
 {
     let mut offer = Offer::none();
     for item in items {
-        offer = offer.joined(slacks, marks, Tally::of(item.coef()), item.lit())?;
+        offer = offer.joined(slacks, marks, Tally::fitting(item.coef()), item.lit())?;
     }
     Some(offer)
 }
@@ -180,7 +180,7 @@ fn pick<C: Count>(
     row: usize,
 ) -> Tally<C>
     requires row { row < length slacks.now.rows }
-    requires needs { AreNeeds slacks.now.form slacks.now.rows slacks.now.trail needs.now }
+    requires needs { AreNeeds C.limit slacks.now.form slacks.now.rows slacks.now.trail needs.now }
     requires counted { needs.now.counted ≡ length slacks.now.trail }
     requires marks { length marks.old ≡ slacks.now.vars }
     ensures extra { result ≡ (if is_picked slacks.now.form.objective slacks.now.trail marks.old (row_at slacks.now.rows row) then extra slacks.now.form.objective slacks.now.trail (row_at slacks.now.rows row) else 0) }
@@ -204,7 +204,7 @@ fn pick<C: Count>(
 
 /// The extras of the rows that are picked in order.
 pub fn extras<C: Count>(needs: &Needs<C>, marks: &mut Marks, slacks: &Slacks<'_, '_, C>) -> Tally<C>
-    requires needs { AreNeeds slacks.now.form slacks.now.rows slacks.now.trail needs.now }
+    requires needs { AreNeeds C.limit slacks.now.form slacks.now.rows slacks.now.trail needs.now }
     requires counted { needs.now.counted ≡ length slacks.now.trail }
     requires marks { length marks.old ≡ slacks.now.vars }
     ensures extras { result ≡ extras slacks.now.form.objective slacks.now.trail (replicate slacks.now.vars false) slacks.now.rows }

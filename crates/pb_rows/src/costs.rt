@@ -1,6 +1,7 @@
 //! What the objective says of each literal.
 
-ghost use Rattle.std.specs.Prelude.{◌≡◌, ℕ, ◌*◌, ◌^◌, ◌<◌, ◌≤◌, IfOk, All, length, sum_by};
+ghost use Rattle.std.specs.Prelude.{◌≡◌, ◌*◌, ◌<◌, ◌≤◌, IfOk, All};
+ghost use Rattle.pb_normal.specs.NormalForm.{total_coefficient};
 ghost use Rattle.pb_rows.specs.Costs.{AreCosts};
 
 use crate::count::Count;
@@ -17,12 +18,12 @@ pub fn costs_of<C: Count>(
     vars: u32,
 ) -> Result<Vec<Tally<C>>, Memory>
     requires variables { All (λ t. t.lit.var ≤ vars) objective.now }
-    requires fits { sum_by (λ t. t.coef) objective.now < 2 ^ 64 }
+    requires fits { total_coefficient objective.now < C.limit }
     ensures { IfOk result (λ costs. AreCosts vars objective.now costs.items) }
 {
     let mut costs = vec![in alloc; Tally::of(0); 2 * vars as usize]?;
     for term in objective {
-        costs[place_of(term.lit)] += Tally::of(term.coef);
+        costs[place_of(term.lit)] += Tally::fitting(term.coef);
     }
     Ok(costs)
 }

@@ -2,11 +2,13 @@
 
 ghost use Rattle.std.specs.Prelude.{◌≡◌, ℕ, ◌+◌, ◌-◌, ◌*◌, ◌^◌, ◌<◌, ◌≤◌, nat_lt, refl};
 ghost use Rattle.std.specs.Int.{div_ceil};
+ghost use Rattle.std.proofs.Common.{arith};
 
 use pb_inst::Magnitude;
 use std::fmt::Debug;
 
-/// Numbers in which an engine counts: natural numbers, wide enough for all sums of a normal form.
+/// Numbers in which an engine counts: natural numbers below twice some limit. Where the sums of a normal form are below the
+/// limit, they are wide enough for all that an engine adds up.
 pub trait Count: Copy + Debug {
     // The natural number that a value stands for, and the other way round.
     ghost count: { Self → ℕ };
@@ -17,8 +19,22 @@ pub trait Count: Copy + Debug {
 
     ghost count_back: { (n : ℕ) → count (counted n) ≡ n };
 
-    /// The number, as one of these.
-    fn of(number: Magnitude) -> Self
+    // The sums of a form that is counted in these numbers are below it.
+    ghost limit: { ℕ };
+
+    ghost limit_at_least: { 2 ^ 63 ≤ limit };
+
+    /// The limit.
+    fn limit() -> Self
+        ensures { count result ≡ limit };
+
+    /// The number, as one of these. Every one of 64 bits is.
+    fn of(number: u64) -> Self
+        ensures { count result ≡ number };
+
+    /// The number, as one of these, where it is below twice the limit.
+    fn fitting(number: Magnitude) -> Self
+        requires { number < 2 * limit }
         ensures { count result ≡ number };
 
     /// One of these, as a number.
@@ -28,7 +44,7 @@ pub trait Count: Copy + Debug {
 
     /// The sum.
     fn add(self, other: Self) -> Self
-        requires { count self + count other < 2 ^ 64 }
+        requires { count self + count other < 2 * limit }
         ensures { count result ≡ count self + count other };
 
     /// The difference.
@@ -38,7 +54,7 @@ pub trait Count: Copy + Debug {
 
     /// The product.
     fn mul(self, other: Self) -> Self
-        requires { count self * count other < 2 ^ 64 }
+        requires { count self * count other < 2 * limit }
         ensures { count result ≡ count self * count other };
 
     /// The quotient, rounded up.
@@ -60,7 +76,19 @@ impl Count for u64 {
 
     ghost count_back = { λ n. refl };
 
-    fn of(number: Magnitude) -> u64 {
+    ghost limit = { 2 ^ 63 };
+
+    ghost limit_at_least = { omega arith };
+
+    fn limit() -> u64 {
+        1 << 63
+    }
+
+    fn of(number: u64) -> u64 {
+        number
+    }
+
+    fn fitting(number: Magnitude) -> u64 {
         number
     }
 
@@ -98,7 +126,19 @@ impl Count for u128 {
 
     ghost count_back = { λ n. refl };
 
-    fn of(number: Magnitude) -> u128 {
+    ghost limit = { 2 ^ 127 };
+
+    ghost limit_at_least = { omega arith };
+
+    fn limit() -> u128 {
+        1 << 127
+    }
+
+    fn of(number: u64) -> u128 {
+        number as u128
+    }
+
+    fn fitting(number: Magnitude) -> u128 {
         number as u128
     }
 

@@ -130,12 +130,13 @@ pub fn push_entries<C: Count, T: Weighs>(
     row: u32,
     items: &[T],
 ) -> Result<(), Memory>
+    requires fits { All (λ item. (T.term item).coef < 2 * C.limit) items.now }
     ensures entries { OnOk result (entries.new.items ≡ entries.old.items ++ entries_of_row row (map T.term items.now)) }
     ensures from_one { OnOk result (All (λ item. 1 ≤ (T.term item).lit.var) items.now) }
 {
     for item in items {
         let place = place_of(item.lit()) as u32;
-        let coef = Tally::of(item.coef());
+        let coef = Tally::fitting(item.coef());
         entries.push(Entry { place, row, coef })?;
     }
     Ok(())

@@ -3,6 +3,7 @@
 ghost use Rattle.std.specs.Prelude.{◌≡◌, ℕ, ◌+◌, ◌*◌, ◌^◌, ◌<◌, ◌≤◌, length, All, IfOk};
 ghost use Rattle.pb_normal.specs.NormalForm.{IsNormal};
 ghost use Rattle.pb_rows.specs.Constraints.{AreRowsOver, row_at};
+ghost use Rattle.pb_rows.specs.Fits.{Fits};
 ghost use Rattle.pb_rows.specs.Index.{occurrences_of, total_for, entries_from};
 ghost use Rattle.pb_rows.specs.Table.{AreLimits, AreLimitsOf};
 ghost use Rattle.pb_normal.specs.Literals.{weight_of};
@@ -41,12 +42,13 @@ impl<'a, C: Count> Model for Rows<'a, C> {
 
     ghost view = { λ r. record { form = r.form.now; occurrences = r.index.occurrences.items; starts = r.index.starts.items } };
 
-    ghost invariant = { λ r. AreFormRows r.form.now r.limits.items r.index.occurrences.items r.index.starts.items r.costs.items };
+    ghost invariant = { λ r. AreFormRows C.limit r.form.now r.limits.items r.index.occurrences.items r.index.starts.items r.costs.items };
 }
 
 impl<'a, C: Count> Rows<'a, C> {
-    /// The rows of the normal form.
+    /// The rows of the normal form, whose sums are below the limit of the numbers in which they are counted.
     pub fn new(alloc: Global, form: &'a Normal) -> Result<Rows<'a, C>, Memory>
+        requires { Fits C.limit form.now }
         ensures { IfOk result (λ rows. rows.form ≡ form.now) }
     {
         let entries = entries_of(alloc, form)?;
@@ -73,6 +75,7 @@ impl<'a, C: Count> Rows<'a, C> {
     pub fn vars(&self) -> u32
         ensures value { result ≡ self.now.form.vars }
         ensures normal { IsNormal self.now.form }
+        ensures fits { Fits C.limit self.now.form }
     {
         self.form.vars()
     }
@@ -132,8 +135,10 @@ impl<'a, C: Count> Rows<'a, C> {
 
 /// Where each literal of the rows occurs, row by row.
 fn entries_of<C: Count>(alloc: Global, form: &Normal) -> Result<Vec<Entry<C>>, Memory>
+    requires { Fits C.limit form.now }
     ensures { IfOk result (λ entries. entries.items ≡ entries_from 0 form.now.rows (length form.now.rows)) }
 {
+    let _vars = form.vars();
     let mut entries = Vec::with_capacity(alloc, room(form))?;
     for row in 0..form.len() {
         push_entries(&mut entries, row as u32, form.terms(row))?;
@@ -152,6 +157,7 @@ fn room(form: &Normal) -> usize {
 
 /// The limits of each row.
 fn limits_of<C: Count>(alloc: Global, form: &Normal) -> Result<Vec<Limits<C>>, Memory>
+    requires { Fits C.limit form.now }
     ensures { IfOk result (λ limits. AreLimitsOf form.now.rows (length form.now.rows) limits.items) }
 {
     let mut limits = Vec::with_capacity(alloc, form.len())?;
@@ -163,15 +169,16 @@ fn limits_of<C: Count>(alloc: Global, form: &Normal) -> Result<Vec<Limits<C>>, M
 
 /// The limits of one row.
 fn limits_at<C: Count>(form: &Normal, row: usize) -> Limits<C>
-    requires { row < length form.now.rows }
+    requires row { row < length form.now.rows }
+    requires fits { Fits C.limit form.now }
     ensures { AreLimits (row_at form.now.rows row) result }
 {
     let _vars = form.vars();
     let degree = form.degree(row);
     let enough = enough(degree, form.terms(row));
     Limits {
-        degree: Tally::of(degree),
-        enough: Tally::of(enough),
+        degree: Tally::fitting(degree),
+        enough: Tally::fitting(enough),
     }
 }
 
@@ -181,6 +188,7 @@ fn enough(degree: Magnitude, terms: &[PositiveTerm]) -> Magnitude
     requires clipped { All (λ t. t.coef ≤ degree) terms.now }
     ensures degree { degree ≤ result }
     ensures each { All (λ t. degree + t.coef ≤ result) terms.now }
+    ensures most { result ≤ 2 * degree }
 {
     let mut enough = degree;
     for term in terms {

@@ -1,9 +1,10 @@
 //! The rows of a normal form and the clauses of cubes as one list of rows.
 
 ghost use Rattle.std.specs.Prelude.{◌≡◌, ℕ, ◌+◌, ◌^◌, ◌<◌, ◌≤◌, length, take, All};
-ghost use Rattle.pb_normal.specs.NormalForm.{IsNormal, HasSmallSums, total_coefficient};
+ghost use Rattle.pb_normal.specs.NormalForm.{IsNormal, total_coefficient};
 ghost use Rattle.pb_rows.specs.Constraints.{AreRowsOver, row_at, HaveRisingVariables};
 ghost use Rattle.pb_rows.specs.Clauses.{clause_row};
+ghost use Rattle.pb_rows.specs.Fits.{HasSumsBelow};
 ghost use Rattle.pb_rows.specs.Index.{occurrences_of, total_for};
 ghost use Rattle.pb_rows.specs.Table.{AreLimits};
 ghost use Rattle.pb_rows.specs.Tables.{constraints_of, AreBeside, terms_in};
@@ -66,8 +67,9 @@ impl<'t, 'a, C: Count> Tables<'t, 'a, C> {
         ensures first { take (length self.now.form.rows) self.now.rows ≡ self.now.form.rows }
         ensures rows { AreRowsOver self.now.vars self.now.rows }
         ensures rising { HaveRisingVariables self.now.rows }
-        ensures limits { All (λ row. HasSmallSums row) self.now.rows }
+        ensures limits { All (λ row. HasSumsBelow C.limit row) self.now.rows }
         ensures normal { IsNormal self.now.form }
+        ensures objective { total_coefficient self.now.form.objective < C.limit }
     {
         let _clauses = self.clauses.len();
         self.rows.vars()
@@ -116,6 +118,7 @@ impl<'t, 'a, C: Count> Tables<'t, 'a, C> {
         requires { row < length self.now.form.rows }
         ensures terms { result.now ≡ (row_at self.now.rows row).terms }
         ensures variables { All (λ t. (1 ≤ t.lit.var) × (t.lit.var ≤ self.now.vars)) result.now }
+        ensures fit { All (λ t. t.coef < C.limit) result.now }
     {
         let (_vars, _within) = (self.vars(), self.form_len());
         self.rows.terms(row)
@@ -150,11 +153,11 @@ impl<'t, 'a, C: Count> Tables<'t, 'a, C> {
     pub fn total(&self, row: usize) -> Magnitude
         requires { row < length self.now.rows }
         ensures value { result ≡ total_coefficient (row_at self.now.rows row).terms }
-        ensures fits { total_coefficient (row_at self.now.rows row).terms < 2 ^ 64 }
+        ensures fits { total_coefficient (row_at self.now.rows row).terms < C.limit }
     {
+        let _vars = self.vars();
         let rows = self.rows;
         if row < rows.len() {
-            let _vars = rows.vars();
             total(rows.terms(row))
         } else {
             self.clauses.lits(row - rows.len()).len() as Magnitude
@@ -192,7 +195,7 @@ impl<'t, 'a, C: Count> Tables<'t, 'a, C> {
 
 /// The sum of all coefficients.
 fn total(terms: &[PositiveTerm]) -> Magnitude
-    requires { total_coefficient terms.now < 2 ^ 64 }
+    requires { total_coefficient terms.now < 2 ^ 63 }
     ensures { result ≡ total_coefficient terms.now }
 {
     let mut total = 0;

@@ -38,11 +38,29 @@ impl<C: Count> Clone for Tally<C> {
 }
 
 impl<C: Count> Tally<C> {
+    /// The number, which is one of 64 bits.
     #[inline]
-    pub fn of(number: Magnitude) -> Tally<C>
+    pub fn of(number: u64) -> Tally<C>
         ensures { result ≡ number }
     {
         Tally(C::of(number))
+    }
+
+    /// A number that is known to be in range.
+    #[inline]
+    pub fn fitting(number: Magnitude) -> Tally<C>
+        requires { number < 2 * C.limit }
+        ensures { result ≡ number }
+    {
+        Tally(C::fitting(number))
+    }
+
+    /// What the sums of a form are below.
+    #[inline]
+    pub fn limit() -> Tally<C>
+        ensures { result ≡ C.limit }
+    {
+        Tally(C::limit())
     }
 
     #[inline]
@@ -104,7 +122,7 @@ impl<C: Count> Tally<C> {
 impl<C: Count> Add for Tally<C> {
     type Output = Tally<C>;
 
-    ghost can_add = { λ t u. t + u < 2 ^ 64 };
+    ghost can_add = { λ t u. t + u < 2 * C.limit };
 
     ghost add_gives = { λ t u sum. sum ≡ t + u };
 
@@ -115,7 +133,7 @@ impl<C: Count> Add for Tally<C> {
 }
 
 impl<C: Count> AddAssign for Tally<C> {
-    ghost can_add_assign = { λ t u. t + u < 2 ^ 64 };
+    ghost can_add_assign = { λ t u. t + u < 2 * C.limit };
 
     ghost add_assign_gives = { λ t u sum. sum ≡ t + u };
 
@@ -152,7 +170,7 @@ impl<C: Count> SubAssign for Tally<C> {
 impl<C: Count> Mul for Tally<C> {
     type Output = Tally<C>;
 
-    ghost can_mul = { λ t u. t * u < 2 ^ 64 };
+    ghost can_mul = { λ t u. t * u < 2 * C.limit };
 
     ghost mul_gives = { λ t u product. product ≡ t * u };
 

@@ -148,7 +148,6 @@ IsUpToDate-push c old new l is free vars joined count lowered = record {
   sums = λ r h.
       (let now = ap (λ (t : List Literal). reachable t (row_at c.rows r).terms) joined in
       omega (arith, lowered r (omega (arith, is.sum_count)), reachable-push old.lits l (row_at c.rows r).terms free, is.sums r h));
-  fits = is.fits;
 }
 
 -- the sums when the last literal leaves
@@ -160,15 +159,13 @@ IsUpToDate-pop c old new l is free vars whole count raised = record {
   sums = λ r h.
       (let before = ap (λ (t : List Literal). reachable t (row_at c.rows r).terms) whole in
       omega (arith, raised r (omega (arith, is.sum_count)), reachable-push new.lits l (row_at c.rows r).terms free, is.sums r h));
-  fits = is.fits;
 }
 
 -- the sums of the empty trail
-pub IsUpToDate-nil : (c : Constraints) (t : TrailState) → length t.sums ≡ length c.rows → ((r : ℕ) → r < length c.rows → (get_or t.sums r 0 ≡ reachable [] (row_at c.rows r).terms) × (sum_by (λ (t : PositiveTerm). t.coef) (row_at c.rows r).terms < 2 ^ 64)) → t.lits ≡ [] → t.vars ≡ c.vars → AreRowsOver c.vars c.rows → IsUpToDate c t
+pub IsUpToDate-nil : (c : Constraints) (t : TrailState) → length t.sums ≡ length c.rows → ((r : ℕ) → r < length c.rows → get_or t.sums r 0 ≡ reachable [] (row_at c.rows r).terms) → t.lits ≡ [] → t.vars ≡ c.vars → AreRowsOver c.vars c.rows → IsUpToDate c t
 IsUpToDate-nil c t count totals empty vars over = record {
   rows_over = over;
   vars = vars;
   sum_count = count;
-  sums = λ r h. (totals r h).0 ∙ ap (λ (ls : List Literal). reachable ls (row_at c.rows r).terms) (sym empty);
-  fits = λ r h. (totals r h).1;
+  sums = λ r h. totals r h ∙ ap (λ (ls : List Literal). reachable ls (row_at c.rows r).terms) (sym empty);
 }

@@ -46,4 +46,3 @@ pub record IsUpToDate (c : Constraints) (t : TrailState) : Type 0 where
   pub vars : t.vars ≡ c.vars
   pub sum_count : length t.sums ≡ length c.rows
   pub sums : (r : ℕ) → r < length c.rows → slice_index t.sums r ≡ reachable t.lits (row_at c.rows r).terms
-  pub fits : (r : ℕ) → r < length c.rows → sum_by (λ t. t.coef) (row_at c.rows r).terms < 2 ^ 64

@@ -204,7 +204,7 @@ fn add_forced<C: Count>(
     ensures settled { (head : ℕ) → head ≤ length trail.old.lits → IsSettledFrom head trail.new.lits (row_at tables.now.rows row) }
 {
     for term in tables.form_terms(row) {
-        if slack.is_below(Tally::of(term.coef)) && trail.value(term.lit.var()).is_none() {
+        if slack.is_below(Tally::fitting(term.coef)) && trail.value(term.lit.var()).is_none() {
             trail.push(tables, term.lit);
         }
     }

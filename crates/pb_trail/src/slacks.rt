@@ -1,6 +1,6 @@
 //! A trail beside the rows that it is over.
 
-ghost use Rattle.std.specs.Prelude.{◌≡◌, ◌^◌, ◌<◌, ◌≤◌, length, slice_index_or, IfSome};
+ghost use Rattle.std.specs.Prelude.{◌≡◌, ◌<◌, ◌≤◌, length, slice_index_or, IfSome};
 ghost use Rattle.pb_rows.specs.Constraints.{AreRowsOver, row_at};
 ghost use Rattle.pb_trail.specs.Tracked.{tracked_of, IsUpToDate};
 ghost use Rattle.pb_trail.specs.Trail.{value_on, reachable};
@@ -61,8 +61,9 @@ impl<'t, 'a, C: Count> Slacks<'t, 'a, C> {
     pub fn reachable(&self, row: usize) -> Tally<C>
         requires { row < length self.now.rows }
         ensures value { result ≡ reachable self.now.trail (row_at self.now.rows row).terms }
-        ensures fits { result < 2 ^ 64 }
+        ensures fits { result < C.limit }
     {
+        let _vars = self.tables.vars();
         self.trail.sum(row)
     }
 
@@ -94,8 +95,13 @@ impl<'t, 'a, C: Count> Slacks<'t, 'a, C> {
     pub fn broken_row(&self) -> Option<usize>
         ensures { IfSome result (λ row. IsBrokenAt self.now.rows self.now.trail row) }
     {
+        let _vars = self.tables.vars();
         let row = self.trail.blamed();
-        if row < self.rows() && self.reachable(row).is_below(Tally::of(self.degree(row))) {
+        if row < self.rows()
+            && self
+                .reachable(row)
+                .is_below(Tally::fitting(self.degree(row)))
+        {
             Some(row)
         } else {
             None

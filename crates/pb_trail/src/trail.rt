@@ -1,6 +1,6 @@
 //! A trail, with what it leaves each row to reach.
 
-ghost use Rattle.std.specs.Prelude.{◌≡◌, ℕ, ◌+◌, ◌-◌, ◌^◌, ◌<◌, ◌≤◌, [], ◌∷◌, ◌++◌, length, take, All, None, slice_index, slice_index_or, IfOk, sum_by};
+ghost use Rattle.std.specs.Prelude.{◌≡◌, ℕ, ◌+◌, ◌-◌, ◌*◌, ◌<◌, ◌≤◌, [], ◌∷◌, ◌++◌, length, take, All, None, slice_index, slice_index_or, IfOk, sum_by};
 ghost use Rattle.pb_rows.specs.Constraints.{row_at};
 ghost use Rattle.pb_rows.specs.Index.{total_by};
 ghost use Rattle.pb_normal.specs.Literals.{weight_of};
@@ -139,6 +139,7 @@ impl<C: Count> Trail<C> {
         ensures up_to_date { IsUpToDate tables.now self.new }
         ensures popped { self.new.lits ≡ take (length self.old.lits - 1) self.old.lits }
     {
+        let _vars = tables.vars();
         if let Some(lit) = self.lits.pop() {
             self.values[lit.var() as usize - 1] = None;
             raise_rows(&mut self.sums, tables, lit.negate());
@@ -148,11 +149,11 @@ impl<C: Count> Trail<C> {
 
 /// The sum of all coefficients, for each row.
 fn totals<C: Count>(alloc: Global, tables: &Tables<'_, '_, C>) -> Result<Vec<Tally<C>>, Memory>
-    ensures { IfOk result (λ sums. (length sums.items ≡ length tables.now.rows) × ((r : ℕ) → r < length tables.now.rows → (slice_index sums.items r ≡ reachable [] (row_at tables.now.rows r).terms) × (sum_by (λ t. t.coef) (row_at tables.now.rows r).terms < 2 ^ 64))) }
+    ensures { IfOk result (λ sums. (length sums.items ≡ length tables.now.rows) × ((r : ℕ) → r < length tables.now.rows → slice_index sums.items r ≡ reachable [] (row_at tables.now.rows r).terms)) }
 {
     let mut sums = Vec::with_capacity(alloc, tables.len())?;
     for row in 0..tables.len() {
-        sums.push(Tally::of(tables.total(row)))?;
+        sums.push(Tally::fitting(tables.total(row)))?;
     }
     Ok(sums)
 }
@@ -172,7 +173,7 @@ fn lower_rows<C: Count>(sums: &mut [Tally<C>], tables: &Tables<'_, '_, C>, lit: 
 fn raise_rows<C: Count>(sums: &mut [Tally<C>], tables: &Tables<'_, '_, C>, lit: Lit)
     requires variable { lit.var ≤ tables.now.vars }
     requires count { length sums.old ≡ length tables.now.rows }
-    requires fits { (r : ℕ) → r < length sums.old → slice_index sums.old r + weight_of lit (row_at tables.now.rows r).terms < 2 ^ 64 }
+    requires fits { (r : ℕ) → r < length sums.old → slice_index sums.old r + weight_of lit (row_at tables.now.rows r).terms < 2 * C.limit }
     ensures { (r : ℕ) → r < length sums.old → slice_index sums.new r ≡ slice_index sums.old r + weight_of lit (row_at tables.now.rows r).terms }
 {
     raise(sums, tables.occurrences(lit));
@@ -193,7 +194,7 @@ fn lower<C: Count, O: Occurs<C>>(sums: &mut [Tally<C>], occurrences: &[O])
 /// Adds the coefficients of the occurrences to the sums of their rows.
 fn raise<C: Count, O: Occurs<C>>(sums: &mut [Tally<C>], occurrences: &[O])
     requires rows_exist { All (λ o. (O.occurrence o).row < length sums.old) occurrences.now }
-    requires fits { (r : ℕ) → r < length sums.old → slice_index sums.old r + total_by O.occurrence r occurrences.now < 2 ^ 64 }
+    requires fits { (r : ℕ) → r < length sums.old → slice_index sums.old r + total_by O.occurrence r occurrences.now < 2 * C.limit }
     ensures { (r : ℕ) → r < length sums.old → slice_index sums.new r ≡ slice_index sums.old r + total_by O.occurrence r occurrences.now }
 {
     for occurrence in occurrences {

@@ -1,4 +1,4 @@
-use Rattle.std.proofs.Common.{◌≡◌, ◌≤◌, ℕ, List, [], ◌∷◌, refl, false, length, replicate, ap, sym, subst, ◌∙◌, arith, sum_by}
+use Rattle.std.proofs.Common.{◌≡◌, ◌<◌, ◌≤◌, ℕ, List, [], ◌∷◌, refl, false, length, replicate, ap, sym, subst, ◌∙◌, arith, sum_by}
 use Rattle.std.proofs.lemmas.Bool.{eqb-true}
 use Rattle.std.proofs.lemmas.List.{take_all}
 use Rattle.pb_inst.specs.Literal.{Literal}
@@ -37,7 +37,7 @@ add-requires g c =
     let paid : c.paid.result ≡ reached s.trail s.form.objective = c.paid.ensures ∙ (c.count.ensures.needs.counters.paid_is ∙ ap (λ (t : List Literal). reached t s.form.objective) (take_all c.count.new.self.counted s.trail (omega (arith, c.count.ensures.all)))) in
     let vars : s.vars ≡ s.form.vars = subst (λ (k : Tracked). k.vars ≡ k.form.vars) c.tables.ensures c.vars-vars.ensures.form in
     let adds = c.extras-extras.ensures.extras ∙ ap (λ (n : ℕ). extras s.form.objective s.trail (replicate n false) s.rows) vars in
-    let small : sum_by (λ (t : PositiveTerm). t.coef) s.form.objective ≤ SUM_BOUND = subst (λ (k : Tracked). sum_by (λ (t : PositiveTerm). t.coef) k.form.objective ≤ SUM_BOUND) c.tables.ensures c.vars-vars.ensures.normal.limits.coefficients in
+    let small : sum_by (λ (t : PositiveTerm). t.coef) s.form.objective < g.C.Count.limit = subst (λ (k : Tracked). sum_by (λ (t : PositiveTerm). t.coef) k.form.objective < g.C.Count.limit) c.tables.ensures c.vars-vars.ensures.objective in
     omega arith
 
 pub number-requires : goal.number-requires

@@ -1,6 +1,5 @@
-use Rattle.std.proofs.Common.{◌≡◌, ◌≤◌, ℕ, List, Bool, true, false, length, take, replicate, cond, refl, ap, subst, ◌∙◌, arith, sum_by}
+use Rattle.std.proofs.Common.{◌≡◌, ◌<◌, ◌≤◌, ℕ, List, Bool, true, false, length, take, replicate, cond, refl, ap, subst, ◌∙◌, arith, sum_by}
 use Rattle.std.proofs.lemmas.List.{take_all, length-replicate}
-use Rattle.pb_inst.specs.declared.TheConstants.{SUM_BOUND}
 use Rattle.pb_inst.specs.Literal.{Literal}
 use Rattle.pb_normal.specs.declared.terms.PositiveTerm.{PositiveTerm}
 use Rattle.pb_rows.specs.Constraints.{row_at}
@@ -29,7 +28,7 @@ pick-requires-clause-row g c =
     let objective = s.form.objective in
     let needs = c.args.needs.now in
     let full : take needs.counted s.trail ≡ s.trail = take_all needs.counted s.trail (omega (arith, c.requires.counted)) in
-    let counters = subst (λ (t : List Literal). AreCounters s.form s.rows t needs.paid needs.lacks.items needs.wanting) full c.requires.needs.counters in
+    let counters = subst (λ (t : List Literal). AreCounters g.C.Count.limit s.form s.rows t needs.paid needs.lacks.items needs.wanting) full c.requires.needs.counters in
     let count = wanting-count s.form s.rows s.trail needs.paid needs.lacks.items needs.wanting counters in
     let there = c.in-Some.ensures.some c.in-Some.row refl in
     let row = c.in-Some.row in
@@ -42,16 +41,16 @@ add_assign-requires g c =
     let objective = s.form.objective in
     let needs = c.args.needs.now in
     let full : take needs.counted s.trail ≡ s.trail = take_all needs.counted s.trail (omega (arith, c.requires.counted)) in
-    let counters = subst (λ (t : List Literal). AreCounters s.form s.rows t needs.paid needs.lacks.items needs.wanting) full c.requires.needs.counters in
+    let counters = subst (λ (t : List Literal). AreCounters g.C.Count.limit s.form s.rows t needs.paid needs.lacks.items needs.wanting) full c.requires.needs.counters in
     let count = wanting-count s.form s.rows s.trail needs.paid needs.lacks.items needs.wanting counters in
     let there = c.in-Some.ensures.some c.in-Some.row refl in
     let row = c.in-Some.row in
     let marks = c.loop-row.marks in
     let passed = extras-next objective s.trail marks s.rows c.loop-row.from row there.0 (omega arith) (none-needed s.form s.rows s.trail needs.paid needs.lacks.items needs.wanting c.loop-row.from row counters (omega arith) there.2) in
     let step = extras-step objective s.trail marks c.pick.new.marks s.rows row c.pick.result (omega arith) c.pick.ensures.extra c.pick.ensures.marks in
-    let P : Tracked → Type 0 = λ k. ArePickable k.form k.rows × (k.vars ≡ k.form.vars) × (sum_by (λ (t : PositiveTerm). t.coef) k.form.objective ≤ SUM_BOUND) in
+    let P : Tracked → Type 0 = λ k. ArePickable k.form k.rows × (k.vars ≡ k.form.vars) × (sum_by (λ (t : PositiveTerm). t.coef) k.form.objective < g.C.Count.limit) in
     let tables = c.tables.result.now in
-    let facts : P s = subst P c.tables.ensures (pickable tables.form tables.vars tables.rows c.vars-vars.ensures.normal c.vars-vars.ensures.form c.vars-vars.ensures.rising c.vars-vars.ensures.rows, c.vars-vars.ensures.form, c.vars-vars.ensures.normal.limits.coefficients) in
+    let facts : P s = subst P c.tables.ensures (pickable tables.form tables.vars tables.rows c.vars-vars.ensures.normal c.vars-vars.ensures.form c.vars-vars.ensures.rising c.vars-vars.ensures.rows, c.vars-vars.ensures.form, c.vars-vars.ensures.objective) in
     let whole = ap (λ (n : ℕ). extras objective s.trail (replicate n false) s.rows) facts.1 in
     omega (arith, c.loop-row.invariant.left, extras_in_total s.form s.rows s.trail facts.0, facts.2)
 
@@ -61,7 +60,7 @@ overflow_add-from g c =
     let objective = s.form.objective in
     let needs = c.args.needs.now in
     let full : take needs.counted s.trail ≡ s.trail = take_all needs.counted s.trail (omega (arith, c.requires.counted)) in
-    let counters = subst (λ (t : List Literal). AreCounters s.form s.rows t needs.paid needs.lacks.items needs.wanting) full c.requires.needs.counters in
+    let counters = subst (λ (t : List Literal). AreCounters g.C.Count.limit s.form s.rows t needs.paid needs.lacks.items needs.wanting) full c.requires.needs.counters in
     let count = wanting-count s.form s.rows s.trail needs.paid needs.lacks.items needs.wanting counters in
     let there = c.in-Some.ensures.some c.in-Some.row refl in
     let row = c.in-Some.row in
@@ -74,7 +73,7 @@ loop-row-smaller g c =
     let objective = s.form.objective in
     let needs = c.args.needs.now in
     let full : take needs.counted s.trail ≡ s.trail = take_all needs.counted s.trail (omega (arith, c.requires.counted)) in
-    let counters = subst (λ (t : List Literal). AreCounters s.form s.rows t needs.paid needs.lacks.items needs.wanting) full c.requires.needs.counters in
+    let counters = subst (λ (t : List Literal). AreCounters g.C.Count.limit s.form s.rows t needs.paid needs.lacks.items needs.wanting) full c.requires.needs.counters in
     let count = wanting-count s.form s.rows s.trail needs.paid needs.lacks.items needs.wanting counters in
     let there = c.in-Some.ensures.some c.in-Some.row refl in
     let row = c.in-Some.row in
@@ -87,7 +86,7 @@ loop-row-preserved g c =
     let objective = s.form.objective in
     let needs = c.args.needs.now in
     let full : take needs.counted s.trail ≡ s.trail = take_all needs.counted s.trail (omega (arith, c.requires.counted)) in
-    let counters = subst (λ (t : List Literal). AreCounters s.form s.rows t needs.paid needs.lacks.items needs.wanting) full c.requires.needs.counters in
+    let counters = subst (λ (t : List Literal). AreCounters g.C.Count.limit s.form s.rows t needs.paid needs.lacks.items needs.wanting) full c.requires.needs.counters in
     let count = wanting-count s.form s.rows s.trail needs.paid needs.lacks.items needs.wanting counters in
     let there = c.in-Some.ensures.some c.in-Some.row refl in
     let row = c.in-Some.row in
@@ -111,7 +110,7 @@ returns-clause-extras g c =
     let objective = s.form.objective in
     let needs = c.args.needs.now in
     let full : take needs.counted s.trail ≡ s.trail = take_all needs.counted s.trail (omega (arith, c.requires.counted)) in
-    let counters = subst (λ (t : List Literal). AreCounters s.form s.rows t needs.paid needs.lacks.items needs.wanting) full c.requires.needs.counters in
+    let counters = subst (λ (t : List Literal). AreCounters g.C.Count.limit s.form s.rows t needs.paid needs.lacks.items needs.wanting) full c.requires.needs.counters in
     let count = wanting-count s.form s.rows s.trail needs.paid needs.lacks.items needs.wanting counters in
     let none = c.in_default.ensures.none refl in
     let passed = extras-next objective s.trail c.loop-row.marks s.rows c.loop-row.from (length s.rows) c.loop-row.invariant.within (omega arith) (none-needed s.form s.rows s.trail needs.paid needs.lacks.items needs.wanting c.loop-row.from (length s.rows) counters (omega arith) (subst (λ (n : ℕ). HasNoneBetween needs.wanting c.loop-row.from n) count none)) in

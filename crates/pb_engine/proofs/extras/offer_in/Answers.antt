@@ -14,7 +14,7 @@ offer_of_items-requires g c =
     record {
       variables = subst (λ (ts : List PositiveTerm). All (λ (t : PositiveTerm). (1 ≤ t.lit.var) × (t.lit.var ≤ c.args.slacks.now.vars)) ts) back (subst (λ (r : RowTerms). All (λ (t : PositiveTerm). (1 ≤ t.lit.var) × (t.lit.var ≤ c.args.slacks.now.vars)) (terms_in r)) c.in-Weighted.is c.requires.variables);
       marks = c.requires.marks;
-      fits = subst (λ (ts : List PositiveTerm). sum_by (λ (t : PositiveTerm). t.coef) ts < 2 ^ 64) back (subst (λ (r : RowTerms). sum_by (λ (t : PositiveTerm). t.coef) (terms_in r) < 2 ^ 64) c.in-Weighted.is c.requires.fits);
+      fits = subst (λ (ts : List PositiveTerm). sum_by (λ (t : PositiveTerm). t.coef) ts < g.C.Count.limit) back (subst (λ (r : RowTerms). sum_by (λ (t : PositiveTerm). t.coef) (terms_in r) < g.C.Count.limit) c.in-Weighted.is c.requires.fits);
     }
 
 pub returns-in-Weighted : goal.returns-in-Weighted

@@ -1,6 +1,5 @@
-use Rattle.std.proofs.Common.{◌≡◌, ◌≤◌, ℕ, List, Bool, false, [], length, get_or, take, cond, refl, ap, sym, subst, ◌∙◌, arith, sum_by}
+use Rattle.std.proofs.Common.{◌≡◌, ◌<◌, ◌≤◌, ℕ, List, Bool, false, [], length, get_or, take, cond, refl, ap, sym, subst, ◌∙◌, arith, sum_by}
 use Rattle.std.proofs.lemmas.List.{take_all}
-use Rattle.pb_inst.specs.declared.TheConstants.{SUM_BOUND}
 use Rattle.pb_inst.specs.Literal.{Literal}
 use Rattle.pb_normal.specs.declared.terms.PositiveTerm.{PositiveTerm}
 use Rattle.pb_rows.specs.Constraints.{row_at, AreRowsOver, HaveRisingVariables}
@@ -21,8 +20,8 @@ extra-extra-requires-clause-positive g c = λ some reach.
     let row = row_at s.rows c.args.row in
     let counters = c.requires.needs.counters in
     let full : take c.args.needs.now.counted s.trail ≡ s.trail = take_all c.args.needs.now.counted s.trail (omega (arith, c.requires.counted)) in
-    let each = subst (λ (t : List Literal). IsLackOf objective t row (get_or c.args.needs.now.lacks.items c.args.row 0)) full (counters.each c.args.row c.requires.row) in
-    let needed : c.need.result ≡ need objective s.trail row = c.need.ensures ∙ need-is objective s.trail row (get_or c.args.needs.now.lacks.items c.args.row 0) each in
+    let each = subst (λ (t : List Literal). IsLackOf g.C.Count.limit objective t row (get_or c.args.needs.now.lacks.items c.args.row 0)) full (counters.each c.args.row c.requires.row) in
+    let needed : c.need.result ≡ need objective s.trail row = c.need.ensures ∙ need-is g.C.Count.limit objective s.trail row (get_or c.args.needs.now.lacks.items c.args.row 0) each in
     let terms : terms_in c.terms-terms.result ≡ row.terms = c.terms-terms.ensures ∙ ap (λ (k : Tracked). (row_at k.rows c.args.row).terms) c.tables-tables.ensures in
     let told = c.in-Some.ensures.some c.in-Some.offer refl in
     let offer : c.in-Some.offer ≡ offer_of objective s.trail row.terms = told.0 ∙ ap (offer_of objective s.trail) terms in
@@ -39,15 +38,15 @@ extra-extra-requires-clause-fits g c =
     let row = row_at s.rows c.args.row in
     let counters = c.requires.needs.counters in
     let full : take c.args.needs.now.counted s.trail ≡ s.trail = take_all c.args.needs.now.counted s.trail (omega (arith, c.requires.counted)) in
-    let each = subst (λ (t : List Literal). IsLackOf objective t row (get_or c.args.needs.now.lacks.items c.args.row 0)) full (counters.each c.args.row c.requires.row) in
-    let needed : c.need.result ≡ need objective s.trail row = c.need.ensures ∙ need-is objective s.trail row (get_or c.args.needs.now.lacks.items c.args.row 0) each in
+    let each = subst (λ (t : List Literal). IsLackOf g.C.Count.limit objective t row (get_or c.args.needs.now.lacks.items c.args.row 0)) full (counters.each c.args.row c.requires.row) in
+    let needed : c.need.result ≡ need objective s.trail row = c.need.ensures ∙ need-is g.C.Count.limit objective s.trail row (get_or c.args.needs.now.lacks.items c.args.row 0) each in
     let terms : terms_in c.terms-terms.result ≡ row.terms = c.terms-terms.ensures ∙ ap (λ (k : Tracked). (row_at k.rows c.args.row).terms) c.tables-tables.ensures in
     let told = c.in-Some.ensures.some c.in-Some.offer refl in
     let offer : c.in-Some.offer ≡ offer_of objective s.trail row.terms = told.0 ∙ ap (offer_of objective s.trail) terms in
     let unmet : meets_marks s.trail c.args.marks.now row.terms ≡ false = ap (meets_marks s.trail c.args.marks.now) (sym terms) ∙ told.1 in
     let value : extra_in c.in-Some.offer c.need.result ≡ extra objective s.trail row = extra-is objective s.trail row c.in-Some.offer c.need.result offer needed in
-    let P : Tracked → Type 0 = λ k. HaveRisingVariables k.rows × AreRowsOver k.vars k.rows × (sum_by (λ (t : PositiveTerm). t.coef) k.form.objective ≤ SUM_BOUND) in
-    let facts : P s = subst P c.tables-tables.ensures (c.vars-vars.ensures.rising, c.vars-vars.ensures.rows, c.vars-vars.ensures.normal.limits.coefficients) in
+    let P : Tracked → Type 0 = λ k. HaveRisingVariables k.rows × AreRowsOver k.vars k.rows × (sum_by (λ (t : PositiveTerm). t.coef) k.form.objective < g.C.Count.limit) in
+    let facts : P s = subst P c.tables-tables.ensures (c.vars-vars.ensures.rising, c.vars-vars.ensures.rows, c.vars-vars.ensures.objective) in
     let within : AreWithin (length c.args.marks.now) row.terms = subst (λ (n : ℕ). AreWithin n row.terms) (sym c.requires.marks) (facts.1 c.args.row (record { terms = []; degree = 0 }) c.requires.row) in
     omega (arith, facts.2, extra-within objective s.trail c.args.marks.now row (facts.0 c.args.row (record { terms = []; degree = 0 }) c.requires.row) within unmet)
 
@@ -58,8 +57,8 @@ returns-then-is_zero-clause-extra g c =
     let row = row_at s.rows c.args.row in
     let counters = c.requires.needs.counters in
     let full : take c.args.needs.now.counted s.trail ≡ s.trail = take_all c.args.needs.now.counted s.trail (omega (arith, c.requires.counted)) in
-    let each = subst (λ (t : List Literal). IsLackOf objective t row (get_or c.args.needs.now.lacks.items c.args.row 0)) full (counters.each c.args.row c.requires.row) in
-    let needed : c.need.result ≡ need objective s.trail row = c.need.ensures ∙ need-is objective s.trail row (get_or c.args.needs.now.lacks.items c.args.row 0) each in
+    let each = subst (λ (t : List Literal). IsLackOf g.C.Count.limit objective t row (get_or c.args.needs.now.lacks.items c.args.row 0)) full (counters.each c.args.row c.requires.row) in
+    let needed : c.need.result ≡ need objective s.trail row = c.need.ensures ∙ need-is g.C.Count.limit objective s.trail row (get_or c.args.needs.now.lacks.items c.args.row 0) each in
     let terms : terms_in c.terms-terms.result ≡ row.terms = c.terms-terms.ensures ∙ ap (λ (k : Tracked). (row_at k.rows c.args.row).terms) c.tables-tables.ensures in
     let told = c.in-Some.ensures.some c.in-Some.offer refl in
     let offer : c.in-Some.offer ≡ offer_of objective s.trail row.terms = told.0 ∙ ap (offer_of objective s.trail) terms in
@@ -75,8 +74,8 @@ returns-then-is_zero-clause-marks g c =
     let row = row_at s.rows c.args.row in
     let counters = c.requires.needs.counters in
     let full : take c.args.needs.now.counted s.trail ≡ s.trail = take_all c.args.needs.now.counted s.trail (omega (arith, c.requires.counted)) in
-    let each = subst (λ (t : List Literal). IsLackOf objective t row (get_or c.args.needs.now.lacks.items c.args.row 0)) full (counters.each c.args.row c.requires.row) in
-    let needed : c.need.result ≡ need objective s.trail row = c.need.ensures ∙ need-is objective s.trail row (get_or c.args.needs.now.lacks.items c.args.row 0) each in
+    let each = subst (λ (t : List Literal). IsLackOf g.C.Count.limit objective t row (get_or c.args.needs.now.lacks.items c.args.row 0)) full (counters.each c.args.row c.requires.row) in
+    let needed : c.need.result ≡ need objective s.trail row = c.need.ensures ∙ need-is g.C.Count.limit objective s.trail row (get_or c.args.needs.now.lacks.items c.args.row 0) each in
     let terms : terms_in c.terms-terms.result ≡ row.terms = c.terms-terms.ensures ∙ ap (λ (k : Tracked). (row_at k.rows c.args.row).terms) c.tables-tables.ensures in
     let told = c.in-Some.ensures.some c.in-Some.offer refl in
     let offer : c.in-Some.offer ≡ offer_of objective s.trail row.terms = told.0 ∙ ap (offer_of objective s.trail) terms in
@@ -92,8 +91,8 @@ returns-else-is_zero-clause-extra g c =
     let row = row_at s.rows c.args.row in
     let counters = c.requires.needs.counters in
     let full : take c.args.needs.now.counted s.trail ≡ s.trail = take_all c.args.needs.now.counted s.trail (omega (arith, c.requires.counted)) in
-    let each = subst (λ (t : List Literal). IsLackOf objective t row (get_or c.args.needs.now.lacks.items c.args.row 0)) full (counters.each c.args.row c.requires.row) in
-    let needed : c.need.result ≡ need objective s.trail row = c.need.ensures ∙ need-is objective s.trail row (get_or c.args.needs.now.lacks.items c.args.row 0) each in
+    let each = subst (λ (t : List Literal). IsLackOf g.C.Count.limit objective t row (get_or c.args.needs.now.lacks.items c.args.row 0)) full (counters.each c.args.row c.requires.row) in
+    let needed : c.need.result ≡ need objective s.trail row = c.need.ensures ∙ need-is g.C.Count.limit objective s.trail row (get_or c.args.needs.now.lacks.items c.args.row 0) each in
     let terms : terms_in c.terms-terms.result ≡ row.terms = c.terms-terms.ensures ∙ ap (λ (k : Tracked). (row_at k.rows c.args.row).terms) c.tables-tables.ensures in
     let told = c.in-Some.ensures.some c.in-Some.offer refl in
     let offer : c.in-Some.offer ≡ offer_of objective s.trail row.terms = told.0 ∙ ap (offer_of objective s.trail) terms in
@@ -109,8 +108,8 @@ returns-else-is_zero-clause-marks g c =
     let row = row_at s.rows c.args.row in
     let counters = c.requires.needs.counters in
     let full : take c.args.needs.now.counted s.trail ≡ s.trail = take_all c.args.needs.now.counted s.trail (omega (arith, c.requires.counted)) in
-    let each = subst (λ (t : List Literal). IsLackOf objective t row (get_or c.args.needs.now.lacks.items c.args.row 0)) full (counters.each c.args.row c.requires.row) in
-    let needed : c.need.result ≡ need objective s.trail row = c.need.ensures ∙ need-is objective s.trail row (get_or c.args.needs.now.lacks.items c.args.row 0) each in
+    let each = subst (λ (t : List Literal). IsLackOf g.C.Count.limit objective t row (get_or c.args.needs.now.lacks.items c.args.row 0)) full (counters.each c.args.row c.requires.row) in
+    let needed : c.need.result ≡ need objective s.trail row = c.need.ensures ∙ need-is g.C.Count.limit objective s.trail row (get_or c.args.needs.now.lacks.items c.args.row 0) each in
     let terms : terms_in c.terms-terms.result ≡ row.terms = c.terms-terms.ensures ∙ ap (λ (k : Tracked). (row_at k.rows c.args.row).terms) c.tables-tables.ensures in
     let told = c.in-Some.ensures.some c.in-Some.offer refl in
     let offer : c.in-Some.offer ≡ offer_of objective s.trail row.terms = told.0 ∙ ap (offer_of objective s.trail) terms in

@@ -1,4 +1,4 @@
-use Rattle.std.proofs.Common.{◌<◌, ◌≤◌, ◌^◌, [], List, All, ap, sym, subst, ◌∙◌, sum_by}
+use Rattle.std.proofs.Common.{◌<◌, ◌≤◌, [], List, All, ap, sym, subst, ◌∙◌, sum_by}
 use Rattle.std.proofs.lemmas.List.{map-id}
 use Rattle.pb_normal.specs.declared.terms.PositiveTerm.{PositiveTerm}
 use Rattle.pb_rows.specs.declared.tables.RowTerms.{RowTerms}
@@ -11,7 +11,7 @@ costless-requires g c =
     let back = sym (map-id c.in-Weighted.terms.now) in
     record {
       variables = subst (λ (ts : List PositiveTerm). All (λ (t : PositiveTerm). t.lit.var ≤ c.args.tables.now.vars) ts) back (subst (λ (r : RowTerms). All (λ (t : PositiveTerm). t.lit.var ≤ c.args.tables.now.vars) (terms_in r)) c.in-Weighted.is c.requires.variables);
-      fits = subst (λ (ts : List PositiveTerm). sum_by (λ (t : PositiveTerm). t.coef) ts < 2 ^ 64) back (subst (λ (r : RowTerms). sum_by (λ (t : PositiveTerm). t.coef) (terms_in r) < 2 ^ 64) c.in-Weighted.is c.requires.fits);
+      fits = subst (λ (ts : List PositiveTerm). sum_by (λ (t : PositiveTerm). t.coef) ts < g.C.Count.limit) back (subst (λ (r : RowTerms). sum_by (λ (t : PositiveTerm). t.coef) (terms_in r) < g.C.Count.limit) c.in-Weighted.is c.requires.fits);
     }
 
 pub returns-in-Weighted : goal.returns-in-Weighted

@@ -9,7 +9,7 @@ use Rattle.pb_engine.proofs.needs.costless.Goals as goal
 use Rattle.pb_engine.proofs.needs.costless.Goals.{then-is_zero, else-is_zero}
 
 pub loop-item-init : goal.loop-item-init
-loop-item-init g c = sym (spare-none c.args.tables.now.form.objective [])
+loop-item-init g c = c.of-sum.ensures ∙ sym (spare-none c.args.tables.now.form.objective [])
 
 pub cost-requires : goal.cost-requires
 cost-requires g c =
@@ -21,8 +21,8 @@ cost-requires g c =
     let read : f item ≡ get_or (map f items) i (f item) = sym (get_or-map f items i item (f item) c.loop-item-test.true ∙ ap f (sym c.item-item.is)) in
     subst (λ (l : Literal). l.var ≤ c.args.tables.now.vars) (sym (c.lit.ensures ∙ ap (λ (t : PositiveTerm). t.lit) read)) (c.requires.variables i (f item) (omega (arith, c.loop-item-test.true)))
 
-pub overflow_add-sum : goal.overflow_add-sum
-overflow_add-sum g c =
+pub add_assign-requires : goal.add_assign-requires
+add_assign-requires g c =
     let f = g.T.Weighs.term in
     let items = c.args.items.now in
     let i = c.loop-item.item-index in
@@ -31,7 +31,7 @@ overflow_add-sum g c =
     let read : f item ≡ get_or (map f items) i (f item) = sym (get_or-map f items i item (f item) c.loop-item-test.true ∙ ap f (sym c.item-item.is)) in
     let within = spare-within c.args.tables.now.form.objective (map f items) i (f item) (omega (arith, c.loop-item-test.true)) in
     let coef = ap (λ (t : PositiveTerm). t.coef) read in
-    omega (arith, c.loop-item.invariant, c.requires.fits, c.coef-sum.ensures)
+    omega (arith, c.loop-item.invariant, c.requires.fits, c.coef.ensures)
 
 pub loop-item-preserved : goal.loop-item-preserved
 loop-item-preserved g c =
@@ -45,6 +45,6 @@ loop-item-preserved g c =
     let read : f item ≡ get_or (map f items) i (f item) = sym (get_or-map f items i item (f item) c.loop-item-test.true ∙ ap f (sym c.item-item.is)) in
     let cost = c.cost.ensures ∙ ap (λ (l : Literal). weight_of l objective) c.lit.ensures in
     elim c.if-is_zero.branch [
-      | then-is_zero w ↦ omega (arith, w.sum-is, c.loop-item.invariant, w.coef-sum.ensures, spare-more objective (map f items) i (f item) c.cost.result within read cost (is_zero-true c.is_zero.result c.cost.result c.is_zero.ensures w.if-is_zero.true))
+      | then-is_zero w ↦ omega (arith, w.sum-is, c.loop-item.invariant, w.coef.ensures, spare-more objective (map f items) i (f item) c.cost.result within read cost (is_zero-true c.is_zero.result c.cost.result c.is_zero.ensures w.if-is_zero.true))
       | else-is_zero w ↦ omega (arith, w.sum-is, c.loop-item.invariant, spare-same objective (map f items) i (f item) c.cost.result within read cost (is_zero-false c.is_zero.result c.cost.result c.is_zero.ensures w.if-is_zero.false))
     ]

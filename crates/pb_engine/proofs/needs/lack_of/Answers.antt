@@ -4,8 +4,8 @@ use Rattle.pb_engine.specs.DisjointRows.{spare}
 use Rattle.pb_engine.proofs.SpareLemmas.{spare-le-total}
 use Rattle.pb_engine.proofs.needs.lack_of.Goals as goal
 
-pub overflow_sub-result : goal.overflow_sub-result
-overflow_sub-result g c =
+pub sub-requires : goal.sub-requires
+sub-requires g c =
     let row = row_at c.args.tables.now.rows c.args.row in
     let limits = c.vars-vars.ensures.limits c.args.row (record { terms = []; degree = 0 }) c.requires in
     let value : c.at_no_cost.result ≡ spare c.args.tables.now.form.objective [] row.terms = c.at_no_cost.ensures ∙ ap (spare c.args.tables.now.form.objective []) c.terms.ensures in

@@ -6,5 +6,5 @@ use Rattle.pb_engine.proofs.needs.lacks_of.Given as goal
 abbrev pub invariant-loop-row : goal.invariant-loop-row
 invariant-loop-row g l = record {
   count : length l.lacks.items ≡ l.row;
-  each : (r : ℕ) → r < l.row → IsLackOf l.tables.form.objective [] (row_at l.tables.rows r) (get_or l.lacks.items r 0);
+  each : (r : ℕ) → r < l.row → IsLackOf g.C.Count.limit l.tables.form.objective [] (row_at l.tables.rows r) (get_or l.lacks.items r 0);
 }

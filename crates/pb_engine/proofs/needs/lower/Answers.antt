@@ -36,7 +36,7 @@ put-requires g c =
     let row_is : c.row-row.result ≡ (f (get_or list i item)).row = c.row-row.ensures ∙ ap (λ (o : Occurrence). o.row) same in
     let exists : (f (get_or list i item)).row < length c.args.lacks.now = c.requires.rows_exist i item c.loop-occurrence-test.true in
     let here : c.row-row.result < length c.loop-occurrence.lacks = omega arith in
-    omega (arith, wants-room c.loop-occurrence.wanting c.loop-occurrence.lacks c.loop-occurrence.invariant.wanting)
+    omega (arith, wants-room g.C.Count.limit c.loop-occurrence.wanting c.loop-occurrence.lacks c.loop-occurrence.invariant.wanting)
 
 pub loop-occurrence-preserved : goal.loop-occurrence-preserved
 loop-occurrence-preserved g c =
@@ -56,5 +56,5 @@ loop-occurrence-preserved g c =
     let asked = c.requires.enough (f (get_or list i item)).row exists in
     record {
       lowered = λ k h. lower_step f c.args.lacks.now c.loop-occurrence.lacks list i item c.row-row.result c.sub_assign.new.self c.loop-occurrence-test.true row_is here (omega (arith, c.sub_assign.ensures.after)) c.loop-occurrence.invariant.lowered k (omega (arith, length-set {A = ℕ}));
-      wanting = wants-put c.loop-occurrence.wanting c.put.new.self c.loop-occurrence.lacks c.row-row.result c.sub_assign.new.self c.of.result c.index-lacks-row-in-loop-occurrence.result c.is_below.result c.loop-occurrence.invariant.wanting here c.of.ensures c.index-lacks-row-in-loop-occurrence.is c.is_below.ensures c.put.ensures;
+      wanting = wants-put g.C.Count.limit c.loop-occurrence.wanting c.put.new.self c.loop-occurrence.lacks c.row-row.result c.sub_assign.new.self c.limit.result c.index-lacks-row-in-loop-occurrence.result c.is_below.result c.loop-occurrence.invariant.wanting here c.limit.ensures c.index-lacks-row-in-loop-occurrence.is c.is_below.ensures c.put.ensures;
     }

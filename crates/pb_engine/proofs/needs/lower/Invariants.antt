@@ -6,5 +6,5 @@ use Rattle.pb_engine.proofs.needs.lower.Given as goal
 abbrev pub invariant-loop-occurrence : goal.invariant-loop-occurrence
 invariant-loop-occurrence g l = record {
   lowered : (r : ℕ) → r < length l.lacks → get_or l.lacks r 0 + total_by g.O.Occurs.occurrence r (take l.occurrence-index l.occurrences) ≡ get_or l.initial.lacks r 0;
-  wanting : l.wanting ≡ wants l.lacks;
+  wanting : l.wanting ≡ wants g.C.Count.limit l.lacks;
 }

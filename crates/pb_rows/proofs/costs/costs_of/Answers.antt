@@ -33,5 +33,5 @@ loop-term-preserved g c =
     let short : c.place_of.result < length c.loop-term.costs.items = omega (arith, c.place_of.ensures.place, c.loop-term.invariant.count, place_below t.lit c.args.vars c.place_of.ensures.within.0 high) in
     let value : c.index_mut.result.now ≡ get_or c.loop-term.costs.items c.place_of.result 0 = get_or_read c.loop-term.costs.items c.place_of.result c.index_mut.result.now short c.index_mut.ensures.value 0 in
     let P : ℕ → Type 0 = λ n. AreCosts c.args.vars (take (i + 1) c.args.objective.now) (set c.loop-term.costs.items c.place_of.result (n + t.coef)) in
-    let added : c.add_assign.new.self ≡ c.index_mut.result.now + t.coef = c.add_assign.ensures.after ∙ ap (λ (n : ℕ). c.index_mut.result.now + n) c.of-in-loop-term.ensures in
+    let added : c.add_assign.new.self ≡ c.index_mut.result.now + t.coef = c.add_assign.ensures.after ∙ ap (λ (n : ℕ). c.index_mut.result.now + n) c.fitting.ensures in
     rw added (subst P (sym value) (costs_next c.args.vars c.args.objective.now i t c.loop-term.costs.items c.place_of.result c.loop-term.invariant c.loop-term-test.true read c.place_of.ensures.within.0 high c.place_of.ensures.place))

@@ -24,12 +24,12 @@ loop-term-preserved g c =
     elim c.if-is_below.branch [
       | then-is_below+then-is_none w ↦
           (let unset : value_on now.lits t.lit.var ≡ None = value_is_none now.lits t.lit.var w.var.result w.value.result w.is_none.result w.var.ensures.value w.value.ensures w.is_none.ensures w.if-is_none.true in
-          subst P (sym w.trail-is) (looked_at_push tables before now w.push.new.self c.args.row c.args.slack c.loop-term.term-index t c.loop-term.invariant w.push.ensures.up_to_date w.push.ensures.pushed read c.requires.exists within c.requires.slack (omega (arith, is_below-true c.is_below.result c.args.slack c.of.result c.is_below.ensures w.if-is_below.true, c.of.ensures)) unset))
+          subst P (sym w.trail-is) (looked_at_push tables before now w.push.new.self c.args.row c.args.slack c.loop-term.term-index t c.loop-term.invariant w.push.ensures.up_to_date w.push.ensures.pushed read c.requires.exists within c.requires.slack (omega (arith, is_below-true c.is_below.result c.args.slack c.fitting.result c.is_below.ensures w.if-is_below.true, c.fitting.ensures)) unset))
       | else-is_below w ↦ elim w.else-is_below.branch [
         | else-is_below-via-then-is_below+else-is_none w' ↦
             subst P (sym w.trail-is) (looked_at_stays tables before now c.args.row c.args.slack c.loop-term.term-index t c.loop-term.invariant read within (λ unset. absurd (value_is_some now.lits t.lit.var w'.var.result w'.value.result w'.is_none.result w'.var.ensures.value w'.value.ensures w'.is_none.ensures w'.if-is_none.false unset)))
         | else-is_below-via-else-is_below w' ↦
-            subst P (sym w.trail-is) (looked_at_stays tables before now c.args.row c.args.slack c.loop-term.term-index t c.loop-term.invariant read within (λ unset. omega (arith, is_below-false c.is_below.result c.args.slack c.of.result c.is_below.ensures w'.if-is_below.false, c.of.ensures)))
+            subst P (sym w.trail-is) (looked_at_stays tables before now c.args.row c.args.slack c.loop-term.term-index t c.loop-term.invariant read within (λ unset. omega (arith, is_below-false c.is_below.result c.args.slack c.fitting.result c.is_below.ensures w'.if-is_below.false, c.fitting.ensures)))
       ]
     ]
 

@@ -13,18 +13,17 @@ last_number xs x k h = get_or-append_right xs (x ∷ []) (length xs) k 0 refl (o
 pub loop-row-preserved : goal.loop-row-preserved
 loop-row-preserved g c =
     let before = c.loop-row.sums.items in
-    let items : c.push.new.self.items ≡ before ++ c.total.result ∷ [] = c.in_ok-push.ensures.items ∙ ap (λ (n : ℕ). before ++ n ∷ []) c.of.ensures in
-    let total : c.total.result ≡ reachable [] (row_at c.args.tables.now.rows c.loop-row.row).terms = c.total.ensures.value ∙ sym (reachable-nil (row_at c.args.tables.now.rows c.loop-row.row).terms) in
-    let fits : sum_by (λ (t : PositiveTerm). t.coef) (row_at c.args.tables.now.rows c.loop-row.row).terms < 2 ^ 64 = c.total.ensures.fits in (
+    let items : c.push.new.self.items ≡ before ++ c.total.result ∷ [] = c.in_ok-push.ensures.items ∙ ap (λ (n : ℕ). before ++ n ∷ []) c.fitting.ensures in
+    let total : c.total.result ≡ reachable [] (row_at c.args.tables.now.rows c.loop-row.row).terms = c.total.ensures.value ∙ sym (reachable-nil (row_at c.args.tables.now.rows c.loop-row.row).terms) in (
       omega (arith, ap (λ (xs : List ℕ). length xs) items, length-append before (c.total.result ∷ []), c.loop-row.invariant.0),
       λ r h. elim (cases_lt r c.loop-row.row) [
         | inl early ↦
             (let was = c.loop-row.invariant.1 r early in
             let same : get_or c.push.new.self.items r 0 ≡ get_or before r 0 = ap (λ (xs : List ℕ). get_or xs r 0) items ∙ get_or_append_left before (c.total.result ∷ []) 0 r (omega (arith, c.loop-row.invariant.0)) in
-            (same ∙ was.0, was.1))
+            same ∙ was)
         | inr late ↦
             (let here : r ≡ c.loop-row.row = omega arith in
             let last : get_or c.push.new.self.items r 0 ≡ c.total.result = ap (λ (xs : List ℕ). get_or xs r 0) items ∙ last_number before c.total.result r (omega (arith, c.loop-row.invariant.0)) in
-            (last ∙ (total ∙ ap (λ (k : ℕ). reachable [] (row_at c.args.tables.now.rows k).terms) (sym here)), subst (λ (k : ℕ). sum_by (λ (t : PositiveTerm). t.coef) (row_at c.args.tables.now.rows k).terms < 2 ^ 64) (sym here) fits))
+            last ∙ (total ∙ ap (λ (k : ℕ). reachable [] (row_at c.args.tables.now.rows k).terms) (sym here)))
       ],
     )

@@ -18,10 +18,10 @@ leave-requires-clause-enough g c = λ r h.
     let l = c.literal-lit.result in
     let tables = c.tables-tables.result.now in
     let here = at_place s.vars s.trail (old.counted - 1) l c.len-length.ensures.proper (omega (arith, c.requires.some, c.requires.needs.within)) c.literal-lit.ensures.value in
-    let P : Tracked → Type 0 = λ k. AreCounters k.form k.rows (take old.counted s.trail) old.paid old.lacks.items old.wanting in
+    let P : Tracked → Type 0 = λ k. AreCounters g.C.Count.limit k.form k.rows (take old.counted s.trail) old.paid old.lacks.items old.wanting in
     let front = take (old.counted - 1) s.trail in
     let whole : take old.counted s.trail ≡ front ++ l ∷ [] = ap (λ (n : ℕ). take n s.trail) (let back : old.counted ≡ old.counted - 1 + 1 = omega (arith, c.requires.some) in back) ∙ here.1 in
-    let counters = subst (λ (t : List Literal). AreCounters tables.form tables.rows t old.paid old.lacks.items old.wanting) whole (subst P (sym c.tables-tables.ensures) c.requires.needs.counters) in
+    let counters = subst (λ (t : List Literal). AreCounters g.C.Count.limit tables.form tables.rows t old.paid old.lacks.items old.wanting) whole (subst P (sym c.tables-tables.ensures) c.requires.needs.counters) in
     (can_leave tables.form tables.rows front old.paid old.lacks.items c.deref_mut.result.now old.wanting l counters here.0 c.vars-vars.ensures.limits c.deref_mut.ensures.value r h).0
 
 pub leave-requires-clause-fits : goal.leave-requires-clause-fits
@@ -31,10 +31,10 @@ leave-requires-clause-fits g c = λ r h.
     let l = c.literal-lit.result in
     let tables = c.tables-tables.result.now in
     let here = at_place s.vars s.trail (old.counted - 1) l c.len-length.ensures.proper (omega (arith, c.requires.some, c.requires.needs.within)) c.literal-lit.ensures.value in
-    let P : Tracked → Type 0 = λ k. AreCounters k.form k.rows (take old.counted s.trail) old.paid old.lacks.items old.wanting in
+    let P : Tracked → Type 0 = λ k. AreCounters g.C.Count.limit k.form k.rows (take old.counted s.trail) old.paid old.lacks.items old.wanting in
     let front = take (old.counted - 1) s.trail in
     let whole : take old.counted s.trail ≡ front ++ l ∷ [] = ap (λ (n : ℕ). take n s.trail) (let back : old.counted ≡ old.counted - 1 + 1 = omega (arith, c.requires.some) in back) ∙ here.1 in
-    let counters = subst (λ (t : List Literal). AreCounters tables.form tables.rows t old.paid old.lacks.items old.wanting) whole (subst P (sym c.tables-tables.ensures) c.requires.needs.counters) in
+    let counters = subst (λ (t : List Literal). AreCounters g.C.Count.limit tables.form tables.rows t old.paid old.lacks.items old.wanting) whole (subst P (sym c.tables-tables.ensures) c.requires.needs.counters) in
     (can_leave tables.form tables.rows front old.paid old.lacks.items c.deref_mut.result.now old.wanting l counters here.0 c.vars-vars.ensures.limits c.deref_mut.ensures.value r h).1
 
 pub sub_assign-requires : goal.sub_assign-requires
@@ -44,10 +44,10 @@ sub_assign-requires g c =
     let l = c.literal-lit.result in
     let tables = c.tables-tables.result.now in
     let here = at_place s.vars s.trail (old.counted - 1) l c.len-length.ensures.proper (omega (arith, c.requires.some, c.requires.needs.within)) c.literal-lit.ensures.value in
-    let P : Tracked → Type 0 = λ k. AreCounters k.form k.rows (take old.counted s.trail) old.paid old.lacks.items old.wanting in
+    let P : Tracked → Type 0 = λ k. AreCounters g.C.Count.limit k.form k.rows (take old.counted s.trail) old.paid old.lacks.items old.wanting in
     let front = take (old.counted - 1) s.trail in
     let whole : take old.counted s.trail ≡ front ++ l ∷ [] = ap (λ (n : ℕ). take n s.trail) (let back : old.counted ≡ old.counted - 1 + 1 = omega (arith, c.requires.some) in back) ∙ here.1 in
-    let counters = subst (λ (t : List Literal). AreCounters tables.form tables.rows t old.paid old.lacks.items old.wanting) whole (subst P (sym c.tables-tables.ensures) c.requires.needs.counters) in
+    let counters = subst (λ (t : List Literal). AreCounters g.C.Count.limit tables.form tables.rows t old.paid old.lacks.items old.wanting) whole (subst P (sym c.tables-tables.ensures) c.requires.needs.counters) in
     omega (arith, counters.paid_is, c.cost.ensures, reached-push front l tables.form.objective here.0)
 
 pub returns-clause-needs : goal.returns-clause-needs
@@ -57,10 +57,10 @@ returns-clause-needs g c =
     let l = c.literal-lit.result in
     let tables = c.tables-tables.result.now in
     let here = at_place s.vars s.trail (old.counted - 1) l c.len-length.ensures.proper (omega (arith, c.requires.some, c.requires.needs.within)) c.literal-lit.ensures.value in
-    let P : Tracked → Type 0 = λ k. AreCounters k.form k.rows (take old.counted s.trail) old.paid old.lacks.items old.wanting in
+    let P : Tracked → Type 0 = λ k. AreCounters g.C.Count.limit k.form k.rows (take old.counted s.trail) old.paid old.lacks.items old.wanting in
     let front = take (old.counted - 1) s.trail in
     let whole : take old.counted s.trail ≡ front ++ l ∷ [] = ap (λ (n : ℕ). take n s.trail) (let back : old.counted ≡ old.counted - 1 + 1 = omega (arith, c.requires.some) in back) ∙ here.1 in
-    let counters = subst (λ (t : List Literal). AreCounters tables.form tables.rows t old.paid old.lacks.items old.wanting) whole (subst P (sym c.tables-tables.ensures) c.requires.needs.counters) in
+    let counters = subst (λ (t : List Literal). AreCounters g.C.Count.limit tables.form tables.rows t old.paid old.lacks.items old.wanting) whole (subst P (sym c.tables-tables.ensures) c.requires.needs.counters) in
     let value = c.deref_mut.ensures.value in
     let long = ap (λ (xs : List ℕ). length xs) value in
     let count : length c.leave.new.lacks ≡ length old.lacks.items = c.leave.ensures.count ∙ long in
@@ -68,8 +68,8 @@ returns-clause-needs g c =
     let changed : (r : ℕ) → r < length old.lacks.items → get_or c.leave.new.lacks r 0 + loss tables.form.objective (negation l) (row_at tables.rows r).terms ≡ get_or old.lacks.items r 0 + gain tables.form.objective l (row_at tables.rows r).terms = λ r h. (let read = ap (λ (xs : List ℕ). get_or xs r 0) value in omega (arith, c.leave.ensures.changed r (omega arith))) in
     let pays : old.paid - c.cost.result + weight_of l tables.form.objective ≡ old.paid = omega (arith, counters.paid_is, c.cost.ensures, reached-push front l tables.form.objective here.0) in
     let next = counters-pop tables.form tables.rows front old.paid (old.paid - c.cost.result) old.lacks.items c.leave.new.lacks old.wanting c.leave.new.wanting l counters here.0 pays count changed c.leave.ensures.wanting in
-    let Q : List ℕ → Type 0 = λ xs. AreCounters tables.form tables.rows front (old.paid - c.cost.result) xs c.leave.new.wanting in
-    let S : Tracked → Type 0 = λ k. AreCounters k.form k.rows front (old.paid - c.cost.result) (take old.lacks.len (c.leave.new.lacks ++ drop (length c.leave.new.lacks) old.lacks.items)) c.leave.new.wanting in
+    let Q : List ℕ → Type 0 = λ xs. AreCounters g.C.Count.limit tables.form tables.rows front (old.paid - c.cost.result) xs c.leave.new.wanting in
+    let S : Tracked → Type 0 = λ k. AreCounters g.C.Count.limit k.form k.rows front (old.paid - c.cost.result) (take old.lacks.len (c.leave.new.lacks ++ drop (length c.leave.new.lacks) old.lacks.items)) c.leave.new.wanting in
     record {
       within = omega (arith, c.requires.needs.within);
       counters = rw c.sub_assign.ensures.after (subst S c.tables-tables.ensures (subst Q (sym back) next));

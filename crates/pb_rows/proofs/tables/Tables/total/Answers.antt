@@ -17,11 +17,3 @@ returns-else-row-len-clause-value g c =
     let clauses = c.self.inside.clauses.now in
     let here : row_at c.args.self.now.rows c.args.row ≡ clause_row c.lits.result.now = clause_at rows clauses c.args.self.now c.args.row c.len.result c.self.view_is c.len.ensures.value (omega arith) ∙ (ap (λ (n : ℕ). row_at clauses.rows (c.args.row - n)) (omega (arith, c.len.ensures.value, c.len-else-row-len.ensures.value)) ∙ c.lits.ensures) in
     sym (total_units c.lits.result.now) ∙ ap (λ (p : PositiveRow). total_coefficient p.terms) (sym here)
-
-pub returns-else-row-len-clause-fits : goal.returns-else-row-len-clause-fits
-returns-else-row-len-clause-fits g c =
-    let rows = c.self.inside.rows.now in
-    let clauses = c.self.inside.clauses.now in
-    let here : row_at c.args.self.now.rows c.args.row ≡ clause_row c.lits.result.now = clause_at rows clauses c.args.self.now c.args.row c.len.result c.self.view_is c.len.ensures.value (omega arith) ∙ (ap (λ (n : ℕ). row_at clauses.rows (c.args.row - n)) (omega (arith, c.len.ensures.value, c.len-else-row-len.ensures.value)) ∙ c.lits.ensures) in
-    let total = ap (λ (p : PositiveRow). sum_by (λ (t : PositiveTerm). t.coef) p.terms) here in
-    omega (arith, total_units c.lits.result.now)
