@@ -6,7 +6,6 @@ ghost use Rattle.pb_normal.specs.NormalForm.{PositiveRow};
 ghost use Rattle.pb_rows.specs.declared.TheConstants.{MAX_CLAUSES};
 ghost use Rattle.pb_rows.specs.Clauses.{AreClausesOf};
 ghost use Rattle.pb_rows.specs.Constraints.{row_at};
-ghost use Rattle.pb_rows.specs.Fits.{Fits};
 ghost use Rattle.pb_rows.specs.Tables.{AreBeside, terms_in};
 ghost use Rattle.pb_trail.specs.Trail.{value_on};
 ghost use Rattle.pb_trail.specs.Completion.{HasNoCompletion, IsLowerBound, IsSettled};
@@ -64,7 +63,6 @@ impl<'a, C: Count> CountingEngine<'a, C> {
         negated: &'a [Cube],
     ) -> Result<CountingEngine<'a, C>, Memory>
         requires few { length negated.now ≤ MAX_CLAUSES }
-        requires fits { Fits C.limit form.now }
         requires variables { All (λ cube. All (λ l. l.var ≤ form.now.vars) cube) negated.now }
         ensures form { IfOk result (λ e. (e.form ≡ form.now) × (e.vars ≡ form.now.vars)) }
         ensures rows { IfOk result (λ e. (clauses : List PositiveRow) × (e.rows ≡ form.now.rows ++ clauses) × AreClausesOf negated.now clauses) }

@@ -37,10 +37,9 @@ pub trait Count: Copy + Debug {
         requires { number < 2 * limit }
         ensures { count result ≡ number };
 
-    /// One of these, as a number.
+    /// One of these, as a number, where it is one of 64 bits.
     fn number(self) -> Magnitude
-        requires { count self < 2 ^ 64 }
-        ensures { result ≡ count self };
+        ensures { count self < 2 ^ 64 → result ≡ count self };
 
     /// The sum.
     fn add(self, other: Self) -> Self
@@ -143,7 +142,7 @@ impl Count for u128 {
     }
 
     fn number(self) -> Magnitude {
-        self as Magnitude
+        self.min(Magnitude::MAX as u128) as Magnitude
     }
 
     fn add(self, other: u128) -> u128 {

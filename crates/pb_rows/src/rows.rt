@@ -46,16 +46,16 @@ impl<'a, C: Count> Model for Rows<'a, C> {
 }
 
 impl<'a, C: Count> Rows<'a, C> {
-    /// The rows of the normal form, whose sums are below the limit of the numbers in which they are counted.
+    /// The rows of the normal form.
     pub fn new(alloc: Global, form: &'a Normal) -> Result<Rows<'a, C>, Memory>
-        requires { Fits C.limit form.now }
         ensures { IfOk result (λ rows. rows.form ≡ form.now) }
     {
+        let vars = form.vars();
         let entries = entries_of(alloc, form)?;
-        let index = Index::new(alloc, &entries, 2 * form.vars() as usize)?;
+        let index = Index::new(alloc, &entries, 2 * vars as usize)?;
         drop(entries);
         let limits = limits_of(alloc, form)?;
-        let costs = costs_of(alloc, form.objective(), form.vars())?;
+        let costs = costs_of(alloc, form.objective(), vars)?;
         Ok(Rows {
             form,
             limits,

@@ -4,7 +4,6 @@ ghost use Rattle.std.specs.Prelude.{◌≡◌, ◌≤◌, ◌++◌, List, length
 ghost use Rattle.pb_normal.specs.NormalForm.{PositiveRow};
 ghost use Rattle.pb_rows.specs.declared.TheConstants.{MAX_CLAUSES};
 ghost use Rattle.pb_rows.specs.Clauses.{AreClausesOf};
-ghost use Rattle.pb_rows.specs.Fits.{Fits};
 ghost use Rattle.pb_rows.specs.Tables.{rows_of, clauses_of, constraints_of, AreBeside};
 
 use crate::clauses::Clauses;
@@ -79,7 +78,6 @@ impl<'a, C: Count> TablesSource<'a, C> {
         negated: &[Cube],
     ) -> Result<TablesSource<'a, C>, Memory>
         requires few { length negated.now ≤ MAX_CLAUSES }
-        requires fits { Fits C.limit form.now }
         requires variables { All (λ cube. All (λ l. l.var ≤ form.now.vars) cube) negated.now }
         ensures form { IfOk result (λ tables. tables.form ≡ form.now) }
         ensures vars { IfOk result (λ tables. tables.vars ≡ form.now.vars) }

@@ -63,10 +63,10 @@ impl<C: Count> Tally<C> {
         Tally(C::limit())
     }
 
+    /// The number, where it is one of 64 bits.
     #[inline]
     pub fn number(self) -> Magnitude
-        requires { self < 2 ^ 64 }
-        ensures { result ≡ self }
+        ensures { self < 2 ^ 64 → result ≡ self }
     {
         self.0.number()
     }

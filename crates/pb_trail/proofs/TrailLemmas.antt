@@ -1,13 +1,13 @@
 -- How what a trail makes true, its values and its sums change when a literal joins it.
-use Rattle.std.proofs.Common.{◌≡◌, ◌≢◌, ℕ, ◌+◌, ◌≤◌, List, [], ◌∷◌, ◌++◌, refl, sym, ◌∙◌, ap, arith, Some, None, Bool, true, false, not, cond, ◌||◌, eqb, sum_by, sum, map, inl, inr}
-use Rattle.std.proofs.lemmas.Bool.{eqb-true, eqb-false, eq-eqb, ne_eqb, and_parts, cases_Bool, cases_eq}
+use Rattle.std.proofs.Common.{◌≡◌, ◌≢◌, ℕ, ◌+◌, ◌≤◌, List, [], ◌∷◌, ◌++◌, refl, sym, ◌∙◌, ap, arith, Some, None, Bool, true, false, not, cond, ◌||◌, eqb, sum_by, inl, inr}
+use Rattle.std.proofs.lemmas.Bool.{eqb-true, eqb-false, eq-eqb, ne_eqb, cases_Bool, cases_eq}
 use Rattle.std.proofs.lemmas.List.Folds.{list_any-append}
-use Rattle.std.proofs.lemmas.List.Sums.{sum_by-cons, sum_by-le-sum_by, sum-map}
+use Rattle.std.proofs.lemmas.List.Sums.{sum_by-cons, sum_by-le-sum_by}
 use Rattle.std.specs.List.{list_any}
 use Rattle.pb_inst.specs.Literal.{Literal}
 use Rattle.pb_normal.specs.declared.terms.PositiveTerm.{PositiveTerm}
 use Rattle.pb_normal.specs.Literals.{negation, same_sign, same_literal, weight_of}
-use Rattle.pb_normal.proofs.LiteralLemmas.{same_literal-itself, same_literal-is, same_literal-other}
+use Rattle.pb_normal.proofs.LiteralLemmas.{same_literal-is, same_literal-other}
 use Rattle.pb_trail.specs.Trail.{is_true, is_false, value_on, reachable}
 
 abbrev lit : ℕ → Bool → Literal

@@ -1,5 +1,5 @@
 -- A trail with the sums and values that are kept up to date beside it.
-use Rattle.std.specs.Prelude.{◌≡◌, ℕ, ◌-◌, ◌<◌, ◌≤◌, ◌^◌, Bool, List, length, take, All, Option, None, is_some, count_by, slice_index, slice_index_or, sum_by}
+use Rattle.std.specs.Prelude.{◌≡◌, ℕ, ◌-◌, ◌<◌, ◌≤◌, ◌^◌, Bool, List, length, take, All, Option, None, is_some, count_by, slice_index, slice_index_or}
 use Rattle.pb_inst.specs.Literal.{Literal}
 use Rattle.pb_rows.specs.Occurrences.{Occurrence}
 use Rattle.pb_normal.specs.NormalForm.{PositiveRow, NormalForm}

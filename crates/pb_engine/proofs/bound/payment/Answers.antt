@@ -40,8 +40,8 @@ add-requires g c =
     let small : sum_by (λ (t : PositiveTerm). t.coef) s.form.objective < g.C.Count.limit = subst (λ (k : Tracked). sum_by (λ (t : PositiveTerm). t.coef) k.form.objective < g.C.Count.limit) c.tables.ensures c.vars-vars.ensures.objective in
     omega arith
 
-pub number-requires : goal.number-requires
-number-requires g c =
+pub returns-clause-payment : goal.returns-clause-payment
+returns-clause-payment g c =
     let s = c.args.slacks.now in
     let P : Tracked → Type 0 = λ k. ArePickable k.form k.rows in
     let tables = c.tables.result.now in
@@ -51,7 +51,8 @@ number-requires g c =
     let vars : s.vars ≡ s.form.vars = subst (λ (k : Tracked). k.vars ≡ k.form.vars) c.tables.ensures c.vars-vars.ensures.form in
     let adds = c.extras-extras.ensures.extras ∙ ap (λ (n : ℕ). extras s.form.objective s.trail (replicate n false) s.rows) vars in
     let small : sum_by (λ (t : PositiveTerm). t.coef) s.form.objective ≤ SUM_BOUND = subst (λ (k : Tracked). sum_by (λ (t : PositiveTerm). t.coef) k.form.objective ≤ SUM_BOUND) c.tables.ensures c.vars-vars.ensures.normal.limits.coefficients in
-    omega (arith, c.add.ensures)
+    let value : c.number.result ≡ c.add.result = c.number.ensures (omega (arith, c.add.ensures)) in
+    value ∙ (c.add.ensures ∙ omega arith)
 
 pub returns-clause-small : goal.returns-clause-small
 returns-clause-small g c =
@@ -63,4 +64,6 @@ returns-clause-small g c =
     let paid : c.paid.result ≡ reached s.trail s.form.objective = c.paid.ensures ∙ (c.count.ensures.needs.counters.paid_is ∙ ap (λ (t : List Literal). reached t s.form.objective) (take_all c.count.new.self.counted s.trail (omega (arith, c.count.ensures.all)))) in
     let vars : s.vars ≡ s.form.vars = subst (λ (k : Tracked). k.vars ≡ k.form.vars) c.tables.ensures c.vars-vars.ensures.form in
     let adds = c.extras-extras.ensures.extras ∙ ap (λ (n : ℕ). extras s.form.objective s.trail (replicate n false) s.rows) vars in
-    omega arith
+    let small : sum_by (λ (t : PositiveTerm). t.coef) s.form.objective ≤ SUM_BOUND = subst (λ (k : Tracked). sum_by (λ (t : PositiveTerm). t.coef) k.form.objective ≤ SUM_BOUND) c.tables.ensures c.vars-vars.ensures.normal.limits.coefficients in
+    let value : c.number.result ≡ c.add.result = c.number.ensures (omega (arith, c.add.ensures)) in
+    omega (arith, c.add.ensures)

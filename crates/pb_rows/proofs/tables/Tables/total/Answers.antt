@@ -1,5 +1,4 @@
-use Rattle.std.proofs.Common.{◌≡◌, ℕ, ◌-◌, ap, sym, ◌∙◌, arith, sum_by}
-use Rattle.pb_normal.specs.declared.terms.PositiveTerm.{PositiveTerm}
+use Rattle.std.proofs.Common.{◌≡◌, ℕ, ◌-◌, ap, sym, ◌∙◌, arith}
 use Rattle.pb_normal.specs.NormalForm.{PositiveRow, total_coefficient}
 use Rattle.pb_rows.specs.Clauses.{clause_row}
 use Rattle.pb_rows.specs.Constraints.{row_at}
