@@ -134,7 +134,7 @@ impl Count for u128 {
     }
 
     fn of(number: u64) -> u128 {
-        number as u128
+        u128::from(number)
     }
 
     fn fitting(number: Magnitude) -> u128 {
