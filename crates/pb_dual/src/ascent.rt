@@ -6,8 +6,9 @@ ghost use Rattle.std.specs.Prelude.{◌<◌, length};
 ghost use Rattle.pb_dual.specs.Relaxation.{IsSameButShifted};
 
 use crate::multipliers::{Multipliers, number_of};
+use pb_count::Count;
 use pb_inst::{Magnitude, Memory, Number};
-use pb_normal::PositiveTerm;
+use pb_normal::FormTerm;
 use std::alloc::Global;
 
 /// How many steps there are to a round, after which the reach is adapted.
@@ -49,7 +50,12 @@ impl Ascent {
     }
 
     /// Climbs from the multipliers as they are, towards a bound that is over the limit, and keeps the best for good.
-    pub fn climb(&mut self, multipliers: &mut Multipliers<'_>, terms: u64, limit: Number)
+    pub fn climb<C: Count>(
+        &mut self,
+        multipliers: &mut Multipliers<'_, C>,
+        terms: u64,
+        limit: Number,
+    )
         ensures { IsSameButShifted multipliers.old multipliers.new }
     {
         self.begin(multipliers);
@@ -63,7 +69,7 @@ impl Ascent {
     }
 
     /// Begins at the multipliers as they are.
-    fn begin(&mut self, multipliers: &Multipliers<'_>) {
+    fn begin<C: Count>(&mut self, multipliers: &Multipliers<'_, C>) {
         let form = multipliers.form();
         self.means.clear();
         for row in 0..form.len() {
@@ -77,7 +83,7 @@ impl Ascent {
 
     /// One round of steps towards a bound that is higher by the reach. The best multipliers stay, and the reach grows where
     /// they gained most of it, and falls where they gained next to nothing.
-    fn round(&mut self, multipliers: &mut Multipliers<'_>, limit: Number)
+    fn round<C: Count>(&mut self, multipliers: &mut Multipliers<'_, C>, limit: Number)
         ensures { IsSameButShifted multipliers.old multipliers.new }
     {
         let start = self.top;
@@ -98,7 +104,7 @@ impl Ascent {
     }
 
     /// Shifts all rows along their directions, so far that the bound would come to the target if no value changed.
-    fn step(&mut self, multipliers: &mut Multipliers<'_>, target: Magnitude)
+    fn step<C: Count>(&mut self, multipliers: &mut Multipliers<'_, C>, target: Magnitude)
         ensures { IsSameButShifted multipliers.old multipliers.new }
     {
         let norm = self.aim(multipliers).max(1);
@@ -113,7 +119,7 @@ impl Ascent {
     }
 
     /// Finds the direction of each row, and gives the sum of their squares.
-    fn aim(&mut self, multipliers: &Multipliers<'_>) -> i128 {
+    fn aim<C: Count>(&mut self, multipliers: &Multipliers<'_, C>) -> i128 {
         let mut norm: i128 = 0;
         self.directions.clear();
         for row in 0..multipliers.form().len() {
@@ -132,7 +138,7 @@ impl Ascent {
     }
 
     /// Remembers the multipliers as the best.
-    fn remember(&mut self, multipliers: &Multipliers<'_>) {
+    fn remember<C: Count>(&mut self, multipliers: &Multipliers<'_, C>) {
         self.top = multipliers.height();
         self.best.clear();
         for row in 0..multipliers.form().len() {
@@ -143,7 +149,7 @@ impl Ascent {
     }
 
     /// Goes back to the best multipliers.
-    fn restore(&self, multipliers: &mut Multipliers<'_>)
+    fn restore<C: Count>(&self, multipliers: &mut Multipliers<'_, C>)
         ensures { IsSameButShifted multipliers.old multipliers.new }
     {
         for row in 0..multipliers.form().len() {
@@ -155,7 +161,7 @@ impl Ascent {
 }
 
 /// Shifts the multiplier of the row, and keeps it so.
-fn shift_for_good(multipliers: &mut Multipliers<'_>, row: usize, amount: Number)
+fn shift_for_good<C: Count>(multipliers: &mut Multipliers<'_, C>, row: usize, amount: Number)
     requires { row < length multipliers.old.form.rows }
     ensures { IsSameButShifted multipliers.old multipliers.new }
 {
@@ -166,13 +172,14 @@ fn shift_for_good(multipliers: &mut Multipliers<'_>, row: usize, amount: Number)
 }
 
 /// What the cheapest values of all variables lack to meet the row; below 0 what they have too much.
-fn lack(multipliers: &Multipliers<'_>, row: usize) -> i128
+fn lack<C: Count>(multipliers: &Multipliers<'_, C>, row: usize) -> i128
     requires { row < length multipliers.now.form.rows }
 {
     let form = multipliers.form();
     let _vars = form.vars();
-    let mut lack = form.degree(row) as i128;
+    let mut lack = form.degree(row).number() as i128;
     for term in form.terms(row) {
+        let term = term.positive();
         let difference = multipliers.difference(term.lit);
         if difference < 0 || (difference == 0 && !term.lit.positive()) {
             lack = lack.saturating_sub(term.coef as i128);
@@ -182,10 +189,10 @@ fn lack(multipliers: &Multipliers<'_>, row: usize) -> i128
 }
 
 /// The mean coefficient, at least 1.
-fn mean_coefficient(terms: &[PositiveTerm]) -> Magnitude {
+fn mean_coefficient<C: Count>(terms: &[FormTerm<C>]) -> Magnitude {
     let mut total: Magnitude = 0;
     for term in terms {
-        total = total.saturating_add(term.coef);
+        total = total.saturating_add(term.positive().coef);
     }
     (total / (terms.len() as Magnitude).max(1)).max(1)
 }

@@ -11,8 +11,9 @@ ghost use Rattle.pb_dual.specs.declared.TheConstants.{ZERO};
 use crate::ZERO;
 use crate::changes::Change;
 use crate::reduced_costs::{initial_costs, part, reprice, revalue};
+use pb_count::Count;
 use pb_inst::{Lit, Magnitude, Memory, Number};
-use pb_normal::{Normal, PositiveTerm};
+use pb_normal::{Form, total_of};
 use pb_rows::place_of;
 use std::alloc::Global;
 use std::marker::Model;
@@ -20,8 +21,8 @@ use std::marker::Model;
 /// A multiplier for each row of a normal form, a trail over its variables, and a lower bound of what the completions of the
 /// trail cost.
 #[derive(Debug, Drop)]
-pub struct Multipliers<'a> {
-    form: &'a Normal,
+pub struct Multipliers<'a, C: Count = u64> {
+    form: &'a Form<C>,
     scale: Magnitude,
     /// The sum of all costs.
     total: Magnitude,
@@ -38,7 +39,7 @@ pub struct Multipliers<'a> {
     changes: Vec<Change>,
 }
 
-impl<'a> Model for Multipliers<'a> {
+impl<'a, C: Count> Model for Multipliers<'a, C> {
     ghost use Rattle.std.specs.Vec.{vec_capacity};
     ghost use Rattle.pb_dual.specs.Multipliers.{MultipliersState, AreKept};
 
@@ -49,10 +50,10 @@ impl<'a> Model for Multipliers<'a> {
     ghost invariant = { λ m. AreKept m.form.now m.multipliers.items m.lits.items m.changes.items m.scale m.total m.share m.costs.items m.values.items m.degrees m.sum (vec_capacity m.lits) };
 }
 
-impl<'a> Multipliers<'a> {
+impl<'a, C: Count> Multipliers<'a, C> {
     /// A multiplier of 0 for each row, the empty trail, and room for so many changes. Nothing after it takes memory. Costs
     /// are scaled up, so that multipliers are fractions of a cost.
-    pub fn new(alloc: Global, form: &'a Normal, room: usize) -> Result<Multipliers<'a>, Memory>
+    pub fn new(alloc: Global, form: &'a Form<C>, room: usize) -> Result<Multipliers<'a, C>, Memory>
         ensures form { IfOk result (λ m. m.form ≡ form.now) }
         ensures multipliers { IfOk result (λ m. m.multipliers ≡ replicate (length form.now.rows) 0) }
         ensures empty { IfOk result (λ m. (m.trail ≡ []) × (m.changes ≡ [])) }
@@ -60,7 +61,7 @@ impl<'a> Multipliers<'a> {
         ensures scale { IfOk result (λ m. 1 ≤ m.scale) }
     {
         let vars = form.vars() as usize;
-        let total = total_of(form.objective());
+        let total = total_of(form.objective()).number();
         let scale = scale_for(total);
         let costs = initial_costs(alloc, form, scale)?;
         let values = vec![in alloc; None; vars]?;
@@ -83,7 +84,7 @@ impl<'a> Multipliers<'a> {
     }
 
     /// The normal form.
-    pub fn form(&self) -> &'a Normal
+    pub fn form(&self) -> &'a Form<C>
         ensures { result.now ≡ self.now.form }
     {
         self.form
@@ -299,9 +300,16 @@ impl<'a> Multipliers<'a> {
         if amount < 0 {
             return before.saturating_sub(by);
         }
-        before
-            .saturating_add(by)
-            .min(self.share / self.form.degree(row))
+        before.saturating_add(by).min(self.share / self.degree(row))
+    }
+
+    /// The degree of the row.
+    fn degree(&self, row: usize) -> Magnitude
+        requires { row < length self.now.form.rows }
+        ensures { result ≡ (row_at self.now.form.rows row).degree }
+    {
+        let _vars = self.form.vars();
+        self.form.degree(row).number()
     }
 
     /// How many changes can be taken back.
@@ -357,7 +365,7 @@ impl<'a> Multipliers<'a> {
     {
         let _vars = self.form.vars();
         let from = self.multipliers[row];
-        let degree = self.form.degree(row);
+        let degree = self.form.degree(row).number();
         reprice(
             &mut self.costs,
             &mut self.sum,
@@ -379,18 +387,6 @@ const MAX_SCALE: Magnitude = 65_536;
 
 /// The sum of all costs is scaled up to no more than this, 2^52, where that is more than their sum.
 const SCALED: Magnitude = 4_503_599_627_370_496;
-
-/// The sum of the coefficients.
-fn total_of(terms: &[PositiveTerm]) -> Magnitude
-    requires { total_coefficient terms.now < 2 ^ 63 }
-    ensures { result ≡ total_coefficient terms.now }
-{
-    let mut total = 0;
-    for term in terms {
-        total += term.coef;
-    }
-    total
-}
 
 /// By how much costs of this sum are scaled up.
 fn scale_for(total: Magnitude) -> Magnitude

@@ -8,8 +8,9 @@ ghost use Rattle.pb_normal.specs.NormalForm.{total_coefficient};
 ghost use Rattle.pb_dual.specs.ReducedCosts.{AreReducedCosts, part, parts};
 
 use crate::ZERO;
+use pb_count::Count;
 use pb_inst::{Lit, Magnitude, Memory};
-use pb_normal::{Normal, PositiveTerm};
+use pb_normal::{Form, FormTerm, PositiveTerm};
 use pb_rows::place_of;
 use std::alloc::Global;
 
@@ -56,15 +57,16 @@ pub fn revalue(
 }
 
 /// Changes what a row with these terms takes off the costs of their literals: its multiplier is `to`, and was `from`.
-pub fn reprice(
+pub fn reprice<C: Count>(
     costs: &mut [Magnitude],
     sum: &mut u128,
     values: &[Option<bool>],
-    terms: &[PositiveTerm],
+    terms: &[FormTerm<C>],
     from: Magnitude,
     to: Magnitude,
 )
     requires variables { All (λ t. (1 ≤ t.lit.var) × (t.lit.var ≤ length values.now)) terms.now }
+    requires numbers { All (λ t. t.coef < 2 ^ 64) terms.now }
     requires count { length costs.old ≡ 2 * length values.now }
     requires few { length values.now < 2 ^ 32 }
     requires enough { (l : Literal) → 1 ≤ l.var → l.var ≤ length values.now → to * weight_of l terms.now ≤ slice_index costs.old (literal_place l) + from * weight_of l terms.now }
@@ -75,7 +77,7 @@ pub fn reprice(
     ensures sum { sum.new ≡ parts costs.new values.now }
 {
     for term in terms {
-        reprice_term(costs, sum, values, *term, from, to);
+        reprice_term(costs, sum, values, term.positive(), from, to);
     }
 }
 
@@ -106,9 +108,9 @@ fn reprice_term(
 }
 
 /// The reduced costs where all multipliers are 0.
-pub fn initial_costs(
+pub fn initial_costs<C: Count>(
     alloc: Global,
-    form: &Normal,
+    form: &Form<C>,
     scale: Magnitude,
 ) -> Result<Vec<Magnitude>, Memory>
     requires { scale * total_coefficient form.now.objective < 2 ^ 63 }
@@ -116,6 +118,7 @@ pub fn initial_costs(
 {
     let mut costs = vec![in alloc; ZERO; 2 * form.vars() as usize]?;
     for term in form.objective() {
+        let term = term.positive();
         costs[place_of(term.lit)] += scale * term.coef;
     }
     Ok(costs)

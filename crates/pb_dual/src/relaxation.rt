@@ -9,9 +9,10 @@ use crate::account::Account;
 use crate::ascent::Ascent;
 use crate::multipliers::{FIXING_WINDOW, Multipliers, number_of};
 use pb_bits::RowSet;
+use pb_count::Count;
 use pb_inst::{Lit, Magnitude, Memory, Number};
-use pb_normal::Normal;
-use pb_rows::{Count, Occurs, Tables};
+use pb_normal::Form;
+use pb_rows::{Occurs, Tables};
 use pb_trail::Slacks;
 use std::alloc::Global;
 use std::marker::Model;
@@ -54,8 +55,8 @@ struct Breakpoint {
 /// Multipliers beside the trail of a search. Where they are used they follow the trail, and are shifted at the rows that it
 /// touches. What was shifted below an assumption is taken back with it. An account tells where they are used.
 #[derive(Debug, Drop)]
-pub struct Relaxation<'a> {
-    multipliers: Multipliers<'a>,
+pub struct Relaxation<'a, C: Count = u64> {
+    multipliers: Multipliers<'a, C>,
     /// The rows to step next: those of variables that joined the trail, those whose multipliers were taken back, and those
     /// of variables whose reduced costs changed.
     touched: RowSet,
@@ -86,7 +87,7 @@ pub struct Relaxation<'a> {
     is_fixing: bool,
 }
 
-impl<'a> Model for Relaxation<'a> {
+impl<'a, C: Count> Model for Relaxation<'a, C> {
     ghost use Rattle.std.specs.Prelude.{◌≡◌, length};
     ghost use Rattle.pb_dual.specs.Multipliers.{MultipliersState};
 
@@ -97,9 +98,9 @@ impl<'a> Model for Relaxation<'a> {
     ghost invariant = { λ r. length r.touched ≡ length r.multipliers.form.rows };
 }
 
-impl<'a> Relaxation<'a> {
+impl<'a, C: Count> Relaxation<'a, C> {
     /// No multipliers, beside an empty trail. Nothing after it takes memory.
-    pub fn new(alloc: Global, form: &'a Normal) -> Result<Relaxation<'a>, Memory>
+    pub fn new(alloc: Global, form: &'a Form<C>) -> Result<Relaxation<'a, C>, Memory>
         ensures form { IfOk result (λ r. r.form ≡ form.now) }
         ensures empty { IfOk result (λ r. r.trail ≡ []) }
     {
@@ -132,12 +133,7 @@ impl<'a> Relaxation<'a> {
     /// The bound, or that of the multipliers where they are used and it is greater. Where the latter is below the goal, the
     /// rows that the trail touched since the last time are stepped at first. Where it alone would reach the goal it is left
     /// out now and then, to see what it saves.
-    pub fn raise<C: Count>(
-        &mut self,
-        slacks: &Slacks<'_, '_, C>,
-        bound: Number,
-        goal: Number,
-    ) -> Number
+    pub fn raise(&mut self, slacks: &Slacks<'_, '_, C>, bound: Number, goal: Number) -> Number
         requires { IsBeside slacks.now.form slacks.now.trail self.old }
         ensures bound { (result ≡ bound) ⊎ ((bound ≤ℤ result) × IsBelowCosts slacks.now.form slacks.now.trail result) }
         ensures beside { IsBeside slacks.now.form slacks.now.trail self.new }
@@ -154,7 +150,7 @@ impl<'a> Relaxation<'a> {
     }
 
     /// Follows the trail and improves the multipliers, where they are used, as `raise` does; no bound is asked for.
-    pub fn adjust<C: Count>(&mut self, slacks: &Slacks<'_, '_, C>)
+    pub fn adjust(&mut self, slacks: &Slacks<'_, '_, C>)
         requires { IsBeside slacks.now.form slacks.now.trail self.old }
         ensures { IsBeside slacks.now.form slacks.now.trail self.new }
     {
@@ -163,7 +159,7 @@ impl<'a> Relaxation<'a> {
 
     /// Uses the multipliers at the node, if they pay: they follow the trail to its end, and are improved where their bound is
     /// below the goal. Answers whether they are used.
-    fn use_at<C: Count>(&mut self, slacks: &Slacks<'_, '_, C>, goal: Number) -> bool
+    fn use_at(&mut self, slacks: &Slacks<'_, '_, C>, goal: Number) -> bool
         requires { IsBeside slacks.now.form slacks.now.trail self.old }
         ensures followed { result ≡ true → self.new.trail ≡ slacks.now.trail }
         ensures beside { IsBeside slacks.now.form slacks.now.trail self.new }
@@ -208,11 +204,7 @@ impl<'a> Relaxation<'a> {
 
     /// A literal that every completion of the trail that costs no more than the limit makes true, and that has no value yet; or
     /// none. None also where the multipliers are not used at the node.
-    pub fn fixed_literal<C: Count>(
-        &mut self,
-        slacks: &Slacks<'_, '_, C>,
-        limit: Number,
-    ) -> Option<Lit>
+    pub fn fixed_literal(&mut self, slacks: &Slacks<'_, '_, C>, limit: Number) -> Option<Lit>
         requires { IsBeside slacks.now.form slacks.now.trail self.old }
         ensures fixed { IfSome result (IsFixed slacks.now.form slacks.now.trail limit) }
         ensures beside { IsBeside slacks.now.form slacks.now.trail self.new }
@@ -296,7 +288,7 @@ impl<'a> Relaxation<'a> {
     }
 
     /// Improves the bound where it is below the goal.
-    fn improve<C: Count>(&mut self, tables: &Tables<'_, '_, C>, goal: Number)
+    fn improve(&mut self, tables: &Tables<'_, '_, C>, goal: Number)
         requires { tables.now.form ≡ self.old.form }
         ensures { IsSameButShifted self.old self.new }
     {
@@ -306,7 +298,7 @@ impl<'a> Relaxation<'a> {
     }
 
     /// Shifts the multipliers of the touched rows, each to where the bound is greatest.
-    fn tighten<C: Count>(&mut self, tables: &Tables<'_, '_, C>)
+    fn tighten(&mut self, tables: &Tables<'_, '_, C>)
         requires { tables.now.form ≡ self.old.form }
         ensures { IsSameButShifted self.old self.new }
     {
@@ -324,7 +316,7 @@ impl<'a> Relaxation<'a> {
     }
 
     /// Touches the rows of the row's variables without a value whose reduced costs the step changed by more than a little.
-    fn spread<C: Count>(&mut self, tables: &Tables<'_, '_, C>, row: usize, amount: Number)
+    fn spread(&mut self, tables: &Tables<'_, '_, C>, row: usize, amount: Number)
         requires row { row < length self.old.form.rows }
         requires form { tables.now.form ≡ self.old.form }
         ensures { self.new ≡ self.old }
@@ -333,6 +325,7 @@ impl<'a> Relaxation<'a> {
         let terms = self.multipliers.form().terms(row);
         self.work = self.work.saturating_add(terms.len());
         for term in terms {
+            let term = term.positive();
             let changed = amount.unsigned_abs().saturating_mul(term.coef);
             if changed > little && self.multipliers.is_free(term.lit) {
                 self.touch(tables, term.lit);
@@ -469,7 +462,7 @@ impl<'a> Relaxation<'a> {
     }
 
     /// Follows the trail to its end.
-    fn catch_up<C: Count>(&mut self, slacks: &Slacks<'_, '_, C>)
+    fn catch_up(&mut self, slacks: &Slacks<'_, '_, C>)
         requires { IsBeside slacks.now.form slacks.now.trail self.old }
         ensures form { self.new.form ≡ self.old.form }
         ensures trail { self.new.trail ≡ slacks.now.trail }
@@ -480,7 +473,7 @@ impl<'a> Relaxation<'a> {
     }
 
     /// Follows the trail for one literal, and notes the rows of its variable.
-    fn follow<C: Count>(&mut self, slacks: &Slacks<'_, '_, C>)
+    fn follow(&mut self, slacks: &Slacks<'_, '_, C>)
         requires beside { IsBeside slacks.now.form slacks.now.trail self.old }
         requires more { length self.old.trail < length slacks.now.trail }
         ensures form { self.new.form ≡ self.old.form }
@@ -494,7 +487,7 @@ impl<'a> Relaxation<'a> {
     }
 
     /// Touches the rows of the literal's variable.
-    fn touch<C: Count>(&mut self, tables: &Tables<'_, '_, C>, lit: Lit)
+    fn touch(&mut self, tables: &Tables<'_, '_, C>, lit: Lit)
         requires { lit.var ≤ tables.now.vars }
         ensures { self.new ≡ self.old }
     {
@@ -503,7 +496,7 @@ impl<'a> Relaxation<'a> {
     }
 
     /// Touches the rows in which the literal occurs.
-    fn touch_rows_of<C: Count>(&mut self, tables: &Tables<'_, '_, C>, lit: Lit)
+    fn touch_rows_of(&mut self, tables: &Tables<'_, '_, C>, lit: Lit)
         requires { lit.var ≤ tables.now.vars }
         ensures { self.new ≡ self.old }
     {
@@ -524,7 +517,7 @@ impl<'a> Relaxation<'a> {
         if !self.multipliers.has_room() {
             return 0;
         }
-        let amount = if self.multipliers.form().degree(row) == 1 {
+        let amount = if self.multipliers.form().degree(row).number() == 1 {
             clause_amount(&self.multipliers, row)
         } else {
             row_amount(&self.multipliers, &mut self.breakpoints, row)
@@ -537,13 +530,14 @@ impl<'a> Relaxation<'a> {
 }
 
 /// How far to shift the multiplier of a row that one literal meets: its least reduced cost becomes 0 or less.
-fn clause_amount(multipliers: &Multipliers<'_>, row: usize) -> Number
+fn clause_amount<C: Count>(multipliers: &Multipliers<'_, C>, row: usize) -> Number
     requires { row < length multipliers.now.form.rows }
 {
     let (mut least, mut next) = (Number::MAX, Number::MAX);
     let form = multipliers.form();
     let _vars = form.vars();
     for term in form.terms(row) {
+        let term = term.positive();
         match multipliers.value(term.lit) {
             Some(true) => return -number_of(multipliers.multiplier(row)),
             Some(false) => {}
@@ -558,8 +552,8 @@ fn clause_amount(multipliers: &Multipliers<'_>, row: usize) -> Number
 }
 
 /// The same for any row.
-fn row_amount(
-    multipliers: &Multipliers<'_>,
+fn row_amount<C: Count>(
+    multipliers: &Multipliers<'_, C>,
     breakpoints: &mut Vec<Breakpoint>,
     row: usize,
 ) -> Number
@@ -568,9 +562,10 @@ fn row_amount(
     let form = multipliers.form();
     let _vars = form.vars();
     let multiplier = multipliers.multiplier(row);
-    let mut need = number_of(form.degree(row));
+    let mut need = number_of(form.degree(row).number());
     breakpoints.clear();
     for term in form.terms(row) {
+        let term = term.positive();
         match multipliers.value(term.lit) {
             Some(true) => need = need.saturating_sub(number_of(term.coef)),
             Some(false) => {}
@@ -648,7 +643,7 @@ fn changes_for(rows: usize) -> usize {
 }
 
 /// The number of terms of all rows.
-fn all_terms(form: &Normal) -> u64 {
+fn all_terms<C: Count>(form: &Form<C>) -> u64 {
     let mut count = 0_u64;
     for row in 0..form.len() {
         count = count.saturating_add(form.terms(row).len() as u64);
@@ -657,7 +652,7 @@ fn all_terms(form: &Normal) -> u64 {
 }
 
 /// The number of terms of the longest row.
-fn longest_row(form: &Normal) -> usize {
+fn longest_row<C: Count>(form: &Form<C>) -> usize {
     let mut longest = 0;
     for row in 0..form.len() {
         longest = longest.max(form.terms(row).len());

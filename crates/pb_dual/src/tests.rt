@@ -4,7 +4,7 @@ ghost use Rattle.std.specs.Prelude.{◌≡◌};
 
 use crate::Multipliers;
 use pb_inst::{Instance, InstanceBuilder, Lit, Magnitude, Number, Relation, Term};
-use pb_normal::{Normal, PositiveTerm, normalise};
+use pb_normal::{FormTerm, Normal, normalise};
 use std::alloc::Global;
 use std::process::Abort;
 
@@ -98,11 +98,11 @@ fn makes_true(bits: u64, lit: Lit) -> bool {
 }
 
 /// The sum of the terms under the bits.
-fn value_of(terms: &[PositiveTerm], bits: u64) -> Magnitude {
+fn value_of(terms: &[FormTerm], bits: u64) -> Magnitude {
     let mut sum: Magnitude = 0;
     for term in terms {
-        if makes_true(bits, term.lit) {
-            sum = sum.saturating_add(term.coef);
+        if makes_true(bits, term.lit()) {
+            sum = sum.saturating_add(term.coef().number());
         }
     }
     sum
@@ -111,7 +111,7 @@ fn value_of(terms: &[PositiveTerm], bits: u64) -> Magnitude {
 /// Whether the bits meet all rows.
 fn meets(form: &Normal, bits: u64) -> bool {
     for row in 0..form.len() {
-        if value_of(form.terms(row), bits) < form.degree(row) {
+        if value_of(form.terms(row), bits) < form.degree(row).number() {
             return false;
         }
     }

@@ -1,11 +1,11 @@
 -- The counters stay right when a literal is counted or taken back.
-use Rattle.std.proofs.Common.{◌≡◌, ℕ, ◌+◌, ◌<◌, ◌≤◌, ◌*◌, List, [], ◌∷◌, ◌++◌, length, get_or, take, refl, sym, ◌∙◌, ap, arith, Bool, cond, sum_by, All, None}
+use Rattle.std.proofs.Common.{◌≡◌, ℕ, ◌+◌, ◌<◌, ◌≤◌, ◌*◌, List, [], ◌∷◌, ◌++◌, length, get_or, refl, sym, ◌∙◌, ap, arith, Bool, cond, sum_by, All, None}
 use Rattle.std.proofs.lemmas.List.Sums.{sum_by-cons}
 use Rattle.pb_inst.specs.Literal.{Literal}
 use Rattle.pb_normal.specs.declared.terms.PositiveTerm.{PositiveTerm}
 use Rattle.pb_normal.specs.NormalForm.{PositiveRow, NormalForm}
 use Rattle.pb_rows.specs.Constraints.{row_at}
-use Rattle.pb_rows.specs.Fits.{HasSumsBelow}
+use Rattle.pb_normal.specs.Fits.{HasSumsBelow}
 use Rattle.pb_engine.specs.DisjointRows.{gain, loss}
 use Rattle.pb_engine.specs.Needs.{wants, IsLackOf, AreCounters}
 use Rattle.pb_normal.specs.Literals.{negation, weight_of}

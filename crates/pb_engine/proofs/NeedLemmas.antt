@@ -5,7 +5,7 @@ use Rattle.std.proofs.lemmas.List.{map-set, length-map, take_more, take_all, map
 use Rattle.pb_inst.specs.Literal.{Literal}
 use Rattle.pb_normal.specs.declared.terms.PositiveTerm.{PositiveTerm}
 use Rattle.pb_normal.specs.NormalForm.{PositiveRow}
-use Rattle.pb_rows.specs.Fits.{HasSumsBelow}
+use Rattle.pb_normal.specs.Fits.{HasSumsBelow}
 use Rattle.pb_engine.specs.DisjointRows.{gain, loss}
 use Rattle.pb_normal.specs.Literals.{negation}
 use Rattle.pb_trail.specs.Trail.{value_on}

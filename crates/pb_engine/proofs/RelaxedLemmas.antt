@@ -1,5 +1,5 @@
 -- The multipliers beside an engine's trail.
-use Rattle.std.proofs.Common.{◌≡◌, ℕ, ◌+◌, ◌≤◌, ◌++◌, List, length, take, min, refl, sym, ◌∙◌, ap, subst, arith, All, Bool, inl, inr, ◌⊎◌}
+use Rattle.std.proofs.Common.{◌≡◌, ◌≤◌, ◌++◌, List, length, take, sym, ◌∙◌, ap, subst, arith, All, Bool, inl, inr, ◌⊎◌}
 use Rattle.std.specs.Prelude.{ℤ, ◌≤ℤ◌, IfSome, Option, Some, None}
 use Rattle.std.proofs.lemmas.Int.{ints}
 use Rattle.std.proofs.lemmas.List.{take-append-le, length-take}

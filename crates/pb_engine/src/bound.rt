@@ -11,8 +11,8 @@ ghost use Rattle.pb_engine.specs.Needs.{AreNeeds};
 use crate::extras::extras;
 use crate::needs::Needs;
 use pb_bits::Marks;
+use pb_count::Count;
 use pb_inst::{Magnitude, Number};
-use pb_rows::Count;
 use pb_trail::Slacks;
 
 /// What the trail pays and the extras of the picked rows.

@@ -18,10 +18,11 @@ ghost use Rattle.pb_engine.specs.Fixing.{IsForcedWithin};
 use crate::bound::{bound_with, payment};
 use crate::needs::Needs;
 use pb_bits::Marks;
+use pb_count::Count;
 use pb_dual::Relaxation;
 use pb_inst::{Cube, Lit, Magnitude, Memory, Number};
-use pb_normal::Normal;
-use pb_rows::{Clauses, Count, RowTerms, Rows, TablesSource};
+use pb_normal::Form;
+use pb_rows::{Clauses, RowTerms, Rows, TablesSource};
 use pb_trail::{Propagator, Step};
 use std::alloc::Global;
 use std::marker::Model;
@@ -37,7 +38,7 @@ pub struct CountingEngine<'a, C: Count> {
     needs: Needs<C>,
     marks: Marks,
     /// Multipliers for a second lower bound, where there is an objective. The view leaves them out.
-    relaxation: Option<Relaxation<'a>>,
+    relaxation: Option<Relaxation<'a, C>>,
 }
 
 impl<'a, C: Count> Model for CountingEngine<'a, C> {
@@ -59,7 +60,7 @@ impl<'a, C: Count> CountingEngine<'a, C> {
     /// among engines. Nothing after it takes memory.
     pub fn new(
         alloc: Global,
-        form: &'a Normal,
+        form: &'a Form<C>,
         negated: &'a [Cube],
     ) -> Result<CountingEngine<'a, C>, Memory>
         requires few { length negated.now ≤ MAX_CLAUSES }
@@ -159,7 +160,7 @@ impl<'a, C: Count> CountingEngine<'a, C> {
     }
 
     /// The terms of a row.
-    pub fn row_terms(&self, row: usize) -> RowTerms<'_>
+    pub fn row_terms(&self, row: usize) -> RowTerms<'_, C>
         requires { row < length self.now.rows }
         ensures { terms_in result ≡ (row_at self.now.rows row).terms }
     {
@@ -317,7 +318,10 @@ impl<'a, C: Count> CountingEngine<'a, C> {
 }
 
 /// Multipliers for the rows of the form, where it has an objective.
-fn relaxation_over<'a>(alloc: Global, form: &'a Normal) -> Result<Option<Relaxation<'a>>, Memory>
+fn relaxation_over<'a, C: Count>(
+    alloc: Global,
+    form: &'a Form<C>,
+) -> Result<Option<Relaxation<'a, C>>, Memory>
     ensures { IfOk result (λ relaxation. IfSome relaxation (λ r. (r.form ≡ form.now) × (r.trail ≡ []))) }
 {
     if form.objective().is_empty() {

@@ -10,8 +10,9 @@ ghost use Rattle.pb_rows.specs.Tables.{terms_in};
 
 use crate::needs::Needs;
 use pb_bits::Marks;
+use pb_count::{Count, Tally};
 use pb_inst::Lit;
-use pb_rows::{Count, RowTerms, Tally, Weighs};
+use pb_rows::{RowTerms, Weighs};
 use pb_trail::Slacks;
 use std::marker::Model;
 
@@ -104,7 +105,7 @@ impl<C: Count> Offer<C> {
 fn offer_in<C: Count>(
     slacks: &Slacks<'_, '_, C>,
     marks: &Marks,
-    terms: RowTerms<'_>,
+    terms: RowTerms<'_, C>,
 ) -> Option<Offer<C>>
     requires variables { All (λ t. (1 ≤ t.lit.var) × (t.lit.var ≤ slacks.now.vars)) (terms_in terms) }
     requires marks { length marks.now ≡ slacks.now.vars }
@@ -119,7 +120,7 @@ fn offer_in<C: Count>(
 }
 
 /// What the costly literals of the items are.
-fn offer_of_items<C: Count, T: Weighs>(
+fn offer_of_items<C: Count, T: Weighs<C>>(
     slacks: &Slacks<'_, '_, C>,
     marks: &Marks,
     items: &[T],
@@ -132,13 +133,13 @@ fn offer_of_items<C: Count, T: Weighs>(
 {
     let mut offer = Offer::none();
     for item in items {
-        offer = offer.joined(slacks, marks, Tally::fitting(item.coef()), item.lit())?;
+        offer = offer.joined(slacks, marks, item.coef(), item.lit())?;
     }
     Some(offer)
 }
 
 /// Marks the row's variables that have no value.
-fn mark<C: Count>(marks: &mut Marks, slacks: &Slacks<'_, '_, C>, terms: RowTerms<'_>)
+fn mark<C: Count>(marks: &mut Marks, slacks: &Slacks<'_, '_, C>, terms: RowTerms<'_, C>)
     requires variables { All (λ t. (1 ≤ t.lit.var) × (t.lit.var ≤ slacks.now.vars)) (terms_in terms) }
     requires marks { length marks.old ≡ slacks.now.vars }
     ensures { marks.new ≡ marked_by slacks.now.trail marks.old (terms_in terms.entry) }
@@ -150,7 +151,7 @@ fn mark<C: Count>(marks: &mut Marks, slacks: &Slacks<'_, '_, C>, terms: RowTerms
 }
 
 /// Marks the variables of the items that have no value.
-fn mark_items<C: Count, T: Weighs>(marks: &mut Marks, slacks: &Slacks<'_, '_, C>, items: &[T])
+fn mark_items<C: Count, T: Weighs<C>>(marks: &mut Marks, slacks: &Slacks<'_, '_, C>, items: &[T])
     requires variables { All (λ t. (1 ≤ t.lit.var) × (t.lit.var ≤ slacks.now.vars)) (map T.term items.now) }
     requires marks { length marks.old ≡ slacks.now.vars }
     ensures { marks.new ≡ marked_by slacks.now.trail marks.old (map T.term items.now) }

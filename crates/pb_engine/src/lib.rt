@@ -9,5 +9,6 @@ mod needs;
 
 pub use engine::{CountingEngine, Engine};
 pub use laws::clause_laws;
-pub use pb_rows::{Clauses, Count, MAX_CLAUSES, RowTerms, Rows};
+pub use pb_count::Count;
+pub use pb_rows::{Clauses, MAX_CLAUSES, RowTerms, Rows};
 pub use pb_trail::Step;

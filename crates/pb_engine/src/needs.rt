@@ -11,8 +11,9 @@ ghost use Rattle.pb_rows.specs.Tables.{terms_in};
 ghost use Rattle.pb_normal.specs.Literals.{negation, weight_of};
 
 use pb_bits::RowSet;
+use pb_count::{Count, Tally};
 use pb_inst::{Lit, Memory};
-use pb_rows::{Count, Occurs, RowTerms, Tables, Tally, Weighs};
+use pb_rows::{Occurs, RowTerms, Tables, Weighs};
 use pb_trail::Slacks;
 use std::alloc::Global;
 
@@ -265,11 +266,11 @@ fn lack_of<C: Count>(tables: &Tables<'_, '_, C>, row: usize) -> Tally<C>
     ensures { IsLackOf C.limit tables.now.form.objective [] (row_at tables.now.rows row) result }
 {
     let _vars = tables.vars();
-    Tally::limit() - at_no_cost(tables, tables.terms(row)) + Tally::fitting(tables.degree(row))
+    Tally::limit() - at_no_cost(tables, tables.terms(row)) + tables.degree(row)
 }
 
 /// What the row has at no cost before any literal is counted.
-fn at_no_cost<C: Count>(tables: &Tables<'_, '_, C>, terms: RowTerms<'_>) -> Tally<C>
+fn at_no_cost<C: Count>(tables: &Tables<'_, '_, C>, terms: RowTerms<'_, C>) -> Tally<C>
     requires variables { All (λ t. t.lit.var ≤ tables.now.vars) (terms_in terms) }
     requires fits { sum_by (λ t. t.coef) (terms_in terms) < C.limit }
     ensures { result ≡ spare tables.now.form.objective [] (terms_in terms.entry) }
@@ -281,7 +282,7 @@ fn at_no_cost<C: Count>(tables: &Tables<'_, '_, C>, terms: RowTerms<'_>) -> Tall
 }
 
 /// The sum of the coefficients of literals without cost.
-fn costless<C: Count, T: Weighs>(tables: &Tables<'_, '_, C>, items: &[T]) -> Tally<C>
+fn costless<C: Count, T: Weighs<C>>(tables: &Tables<'_, '_, C>, items: &[T]) -> Tally<C>
     requires variables { All (λ t. t.lit.var ≤ tables.now.vars) (map T.term items.now) }
     requires fits { sum_by (λ t. t.coef) (map T.term items.now) < C.limit }
     ensures { result ≡ spare tables.now.form.objective [] (map T.term items.now) }
@@ -289,7 +290,7 @@ fn costless<C: Count, T: Weighs>(tables: &Tables<'_, '_, C>, items: &[T]) -> Tal
     let mut sum = Tally::of(0);
     for item in items {
         if tables.cost(item.lit()).is_zero() {
-            sum += Tally::fitting(item.coef());
+            sum += item.coef();
         }
     }
     sum

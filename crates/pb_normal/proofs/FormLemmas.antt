@@ -1,10 +1,11 @@
 -- What the calls that add rows promise, from what they were told.
-use Rattle.std.proofs.Common.{◌≡◌, ℕ, ℤ, ◌≤◌, List, [], ◌∷◌, ◌++◌, length, map, refl, sym, ◌∙◌, subst, arith, Bool, Option, Some, None, Result}
+use Rattle.std.proofs.Common.{◌≡◌, ℕ, ℤ, ◌≤◌, List, [], ◌∷◌, ◌++◌, length, map, min, sum_by, refl, sym, ◌∙◌, subst, arith, Bool, Option, Some, None, Result}
 use Rattle.std.specs.Prelude.{OnOk, pos, ◌+ℤ◌, ◌-ℤ◌, ◌≤ℤ◌, neg_ℤ}
 use Rattle.std.specs.List.{flat_map}
 use Rattle.std.specs.Option.{option_map_or}
 use Rattle.std.proofs.lemmas.Int.{ints}
 use Rattle.std.proofs.lemmas.List.{append-nil}
+use Rattle.std.proofs.lemmas.List.Sums.{sum_by-cons}
 use Rattle.std.proofs.lemmas.Result.{on_ok_weaker}
 use Rattle.pb_inst.specs.declared.TheConstants.{MAX_CONSTRAINTS, SUM_BOUND}
 use Rattle.pb_inst.specs.declared.constraints.Term.{Term}
@@ -15,10 +16,10 @@ use Rattle.pb_inst.specs.Meaning.{sum_value}
 use Rattle.pb_inst.specs.Problem.{LinearConstraint, Problem}
 use Rattle.pb_normal.specs.declared.terms.PositiveTerm.{PositiveTerm}
 use Rattle.pb_normal.specs.Exact.{Inequality, negated, inequalities_of, inequalities, objective_terms, IsNormalFormOf}
-use Rattle.pb_normal.specs.Merging.{opposite, HasValueOf, IsSumOf, AreNormalRows, AddsRows}
+use Rattle.pb_normal.specs.Merging.{clipped, clipped_row, opposite, HasValueOf, IsSumOf, AreNormalRows, AddsRows}
 use Rattle.pb_normal.specs.NormalForm.{PositiveRow, total_coefficient, ArePositiveTerms, IsNormal, KeepsCost}
 use Rattle.pb_normal.proofs.ExactLemmas.{least_is, surplus_is}
-use Rattle.pb_normal.proofs.RowLemmas.{clipped_row, one_normal_row, no_normal_row, IsSumOf-negated, AddsRows-append, row_count_is}
+use Rattle.pb_normal.proofs.RowLemmas.{total_coefficient-clipped, one_normal_row, no_normal_row, IsSumOf-negated, AddsRows-append, row_count_is}
 
 -- the sum is at least the bound
 abbrev pub at_least : List Term → ℤ → Inequality
@@ -27,11 +28,10 @@ at_least terms bound = record { terms = terms; bound = bound }
 pub adds_no_row : (n : ℕ) (terms : List Term) (base bound : ℤ) (positive : List PositiveTerm) (rows : List PositiveRow) → IsSumOf n terms base positive → bound ≤ℤ base → AddsRows n (at_least terms bound ∷ []) rows rows
 adds_no_row n terms base bound positive rows sum low = record { own = []; added = sym (append-nil rows); rows = no_normal_row n (at_least terms bound) base positive sum low }
 
-pub adds_one_row : {T E : Type 0} (r : Result T E) (old new : List PositiveRow) (degree : ℕ) (seen positive : List PositiveTerm) (base bound : ℤ) → OnOk r (new ≡ old ++ clipped_row degree seen ∷ []) → seen ≡ positive → pos degree ≡ bound -ℤ base → 1 ≤ degree → degree ≤ SUM_BOUND → total_coefficient positive ≤ SUM_BOUND → OnOk r ((n : ℕ) (terms : List Term) → IsSumOf n terms base positive → AddsRows n (at_least terms bound ∷ []) old new)
-adds_one_row r old new degree seen positive base bound added same is one low total =
-    let here : OnOk r (new ≡ old ++ clipped_row degree positive ∷ []) = subst (λ (ts : List PositiveTerm). OnOk r (new ≡ old ++ clipped_row degree ts ∷ [])) same added in
-    on_ok_weaker r (λ (h : new ≡ old ++ clipped_row degree positive ∷ []). λ (n : ℕ) (terms : List Term) (sum : IsSumOf n terms base positive).
-    let added : AddsRows n (at_least terms bound ∷ []) old new = record { own = clipped_row degree positive ∷ []; added = h; rows = one_normal_row n (at_least terms bound) base positive degree sum is one low total } in added) here
+pub adds_one_row : (old new : List PositiveRow) (degree : ℕ) (seen positive : List PositiveTerm) (base bound : ℤ) → new ≡ old ++ clipped_row degree seen ∷ [] → seen ≡ positive → pos degree ≡ bound -ℤ base → 1 ≤ degree → degree ≤ SUM_BOUND → total_coefficient positive ≤ SUM_BOUND → (n : ℕ) (terms : List Term) → IsSumOf n terms base positive → AddsRows n (at_least terms bound ∷ []) old new
+adds_one_row old new degree seen positive base bound added same is one low total n terms sum =
+    let here : new ≡ old ++ clipped_row degree positive ∷ [] = subst (λ (ts : List PositiveTerm). new ≡ old ++ clipped_row degree ts ∷ []) same added in
+    record { own = clipped_row degree positive ∷ []; added = here; rows = one_normal_row n (at_least terms bound) base positive degree sum is one low total }
 
 pub adds_negated : {T E : Type 0} (r : Result T E) (old new : List PositiveRow) (base bound turned negated_base : ℤ) (positive negatives : List PositiveTerm) → OnOk r ((n : ℕ) (terms : List Term) → IsSumOf n terms negated_base negatives → AddsRows n (at_least terms turned ∷ []) old new) → turned ≡ neg_ℤ bound → negated_base ≡ neg_ℤ (base +ℤ pos (total_coefficient positive)) → negatives ≡ map opposite positive → OnOk r ((n : ℕ) (terms : List Term) → IsSumOf n terms base positive → AddsRows n (at_least (map negated terms) (neg_ℤ bound) ∷ []) old new)
 adds_negated r old new base bound turned negated_base positive negatives rows turn base_is terms_are =
@@ -67,6 +67,15 @@ pub equal_rows : {T E : Type 0} (r : Result T E) (old middle new : List Positive
 equal_rows r old middle new terms base bound positive value shape least most = on_ok_weaker r (λ (f : AddsAtMost bound base positive middle new). λ (n : ℕ) (h : AllVariablesWithin n terms).
     let sum = sum_of n terms base positive value shape h in
     AddsRows-append n (at_least terms bound ∷ []) (at_least (map negated terms) (neg_ℤ bound) ∷ []) old middle new (least n terms sum) (f n terms sum)) most
+
+-- the coefficients cut down to the degree
+pub clipped_total-is : (degree : ℕ) (terms : List PositiveTerm) → total_coefficient (map (clipped degree) terms) ≡ sum_by (λ t. min t.coef degree) terms
+clipped_total-is degree [] = refl
+clipped_total-is degree (t ∷ terms) =
+    let rest = clipped_total-is degree terms in
+    let here = sum_by-cons (λ (u : PositiveTerm). u.coef) (clipped degree t) (map (clipped degree) terms) in
+    let cut = sum_by-cons (λ (u : PositiveTerm). min u.coef degree) t terms in
+    omega arith
 
 -- the whole form
 pub form_is : (p : Problem) (vars : ℕ) (rows : List PositiveRow) (base stored : ℤ) (merged objective seen : List PositiveTerm) → vars ≡ p.vars → AreNormalRows p.vars (flat_map inequalities p.constraints) rows → IsSumOf p.vars (objective_terms p) base merged → stored ≡ base → seen ≡ merged → objective ≡ [] ++ seen → IsNormalFormOf p (record { vars = vars; rows = rows; base = stored; objective = objective })

@@ -20,7 +20,7 @@ use Rattle.pb_normal.specs.declared.terms.PositiveTerm.{PositiveTerm}
 use Rattle.pb_normal.specs.Exact.{Inequality, Holds, AlwaysHolds, negated, inequalities_of, inequalities, IsLeastValue, IsRowOf, AreRowsOf, none, no_row, one_row}
 use Rattle.pb_normal.specs.Layout.{row_terms}
 use Rattle.pb_normal.specs.NormalForm.{PositiveRow, positive_value, total_coefficient, MeetsRow, MeetsRows, ArePositiveTerms, IsPositiveRow, HasSmallSums}
-use Rattle.pb_normal.specs.Merging.{clipped, opposite, IsSumOf, AreNormalRows, AddsRows}
+use Rattle.pb_normal.specs.Merging.{clipped, clipped_row, opposite, IsSumOf, AreNormalRows, AddsRows}
 use Rattle.pb_inst.proofs.SumProofs.{sum_value-cons}
 use Rattle.pb_normal.proofs.NormalLemmas.{clip_keeps, value-le-one}
 use Rattle.pb_normal.proofs.MergeLemmas.{IsWithin, HasCoefficient, opposite_values}
@@ -66,10 +66,6 @@ positive_value-opposite a (t ∷ terms) =
     let all = sum_by-cons (λ (u : PositiveTerm). u.coef) t terms in
     let one = both_signs t.coef (literal_value a t.lit) (literal_value a (opposite t).lit) (opposite_values a t.lit (opposite t).lit refl refl) in
     omega arith
-
--- the row of a sum that is at least a bound
-abbrev pub clipped_row : ℕ → List PositiveTerm → PositiveRow
-clipped_row degree terms = record { terms = map (clipped degree) terms; degree = degree }
 
 meets_clipped : (a : List Bool) (degree : ℕ) (terms : List PositiveTerm) → (MeetsRow a (clipped_row degree terms) → degree ≤ positive_value a terms) × (degree ≤ positive_value a terms → MeetsRow a (clipped_row degree terms))
 meets_clipped a degree terms =

@@ -1,4 +1,5 @@
 pub mod NormalForm
+pub mod Fits
 pub mod Literals
 pub mod Exact
 pub mod Merging

@@ -1,5 +1,5 @@
 -- The steps by which a sum of terms becomes a base and positive terms.
-use Rattle.std.specs.Prelude.{◌≡◌, ℕ, ◌+◌, ◌*◌, ◌<◌, ◌≤◌, Bool, List, ◌++◌, length, All, min, ℤ, pos, ◌+ℤ◌, ◌≤ℤ◌, ◌↔◌, not, unsigned_abs}
+use Rattle.std.specs.Prelude.{◌≡◌, ℕ, ◌+◌, ◌*◌, ◌<◌, ◌≤◌, Bool, List, ◌++◌, length, map, All, min, ℤ, pos, ◌+ℤ◌, ◌≤ℤ◌, ◌↔◌, not, unsigned_abs}
 use Rattle.pb_inst.specs.Limits.{total_magnitude, AllVariablesWithin}
 use Rattle.pb_inst.specs.Meaning.{literal_value, term_value, sum_value}
 use Rattle.pb_inst.specs.declared.constraints.Term.{Term}
@@ -79,3 +79,7 @@ pub record AddsRows (n : ℕ) (inequalities : List Inequality) (old new : List P
   pub own : List PositiveRow
   pub added : new ≡ old ++ own
   pub rows : AreNormalRows n inequalities own
+
+-- the row of terms that are at least a degree
+abbrev pub clipped_row : ℕ → List PositiveTerm → PositiveRow
+clipped_row degree terms = record { terms = map (clipped degree) terms; degree = degree }

@@ -1,6 +1,6 @@
 //! The normal form of an instance.
 
-ghost use Rattle.std.specs.Prelude.{◌≡◌, ℕ, ◌+◌, ◌*◌, ◌<◌, ◌≤◌, List, [], ◌∷◌, All, length, map, slice_get, sum_by, unsigned_abs, IfOk, OnOk, IsSomeAnd, pos, ◌+ℤ◌, ◌≤ℤ◌, neg_ℤ};
+ghost use Rattle.std.specs.Prelude.{◌≡◌, true, false, Err, ℕ, ◌+◌, ◌*◌, ◌<◌, ◌≤◌, List, [], ◌∷◌, All, length, map, slice_get, sum_by, unsigned_abs, IfOk, OnOk, IsSomeAnd, pos, ◌+ℤ◌, ◌≤ℤ◌, neg_ℤ};
 ghost use Rattle.pb_inst.specs.declared.TheConstants.{SUM_BOUND};
 ghost use Rattle.pb_inst.specs.declared.constraints.Term.{Term};
 ghost use Rattle.pb_inst.specs.Constraints.{linear};
@@ -9,40 +9,48 @@ ghost use Rattle.pb_normal.specs.declared.TheConstants.{MAX_ROW_TERMS};
 ghost use Rattle.pb_normal.specs.Exact.{negated, inequalities, objective_terms, IsNormalFormOf};
 ghost use Rattle.pb_normal.specs.Layout.{row_terms};
 ghost use Rattle.pb_normal.specs.NormalForm.{total_coefficient, KeepsFeasible, KeepsCost, IsNormal};
-ghost use Rattle.pb_normal.specs.Merging.{AddsRows, IsSumOf, HasValueOf};
+ghost use Rattle.pb_normal.specs.Fits.{HasSumsBelow, Fits};
+ghost use Rattle.pb_normal.specs.Merging.{clipped_row, AddsRows, IsSumOf, HasValueOf};
+ghost use Rattle.pb_normal.specs.declared.unbuilt.Unbuilt.TheVariants.{TooWide};
 
-use crate::PositiveTerm;
-use crate::merging::PositiveSum;
+use crate::merging::{PositiveSum, clipped_total, total};
 use crate::rows::RowList;
+use crate::terms::{FormTerm, PositiveTerm};
+use crate::unbuilt::Unbuilt;
+use pb_count::{Count, Tally};
 use pb_inst::{Constraint, Instance, Magnitude, Memory, Number, Relation};
-use std::alloc::Global;
+use std::alloc::{AllocError, Global};
 use std::marker::Model;
 
 /// Rows of positive terms, and the cost as a base and positive terms. The terms of a row add up to at least its degree,
-/// and the terms of the objective are what the cost is above its base. Contracts see a `NormalForm`.
+/// and the terms of the objective are what the cost is above its base. The degree of each row, the coefficients of a row
+/// together and those of the objective are below the limit of the numbers in which engines over the form count. Contracts
+/// see a `NormalForm`.
 #[derive(Debug, Drop)]
-pub struct Normal {
+pub struct Form<C: Count = u64> {
     vars: u32,
-    rows: RowList,
+    rows: RowList<C>,
     base: Number,
-    objective: Vec<PositiveTerm>,
+    objective: Vec<FormTerm<C>>,
 }
 
-impl Model for Normal {
-    ghost use Rattle.pb_normal.specs.NormalForm.{NormalForm, IsNormal};
+impl<C: Count> Model for Form<C> {
+    ghost use Rattle.pb_normal.specs.NormalForm.{NormalForm};
+    ghost use Rattle.pb_normal.specs.Fits.{IsNormalWithin};
 
     ghost Value = { NormalForm };
 
     ghost view = { λ f. record { vars = f.vars; rows = f.rows; base = f.base; objective = f.objective.items } };
 
-    ghost invariant = { λ f. IsNormal (record { vars = f.vars; rows = f.rows; base = f.base; objective = f.objective.items }) };
+    ghost invariant = { λ f. IsNormalWithin C.limit (record { vars = f.vars; rows = f.rows; base = f.base; objective = f.objective.items }) };
 }
 
-impl Normal {
+impl<C: Count> Form<C> {
     /// The number of variables: they are 1 to `vars`, as in the instance.
     pub fn vars(&self) -> u32
         ensures value { result ≡ self.now.vars }
         ensures normal { IsNormal self.now }
+        ensures fits { Fits C.limit self.now }
     {
         self.vars
     }
@@ -56,7 +64,7 @@ impl Normal {
     }
 
     /// The terms of row i, from 0, by rising variable: coefficients of 1 up to the degree. There may be none.
-    pub fn terms(&self, i: usize) -> &[PositiveTerm]
+    pub fn terms(&self, i: usize) -> &[FormTerm<C>]
         requires { i < length self.now.rows }
         ensures { IsSomeAnd (slice_get self.now.rows i) (λ row. row.terms ≡ result.now) }
     {
@@ -64,7 +72,7 @@ impl Normal {
     }
 
     /// What the terms of row i, from 0, must add up to: at least 1, and at most `SUM_BOUND`.
-    pub fn degree(&self, i: usize) -> Magnitude
+    pub fn degree(&self, i: usize) -> Tally<C>
         requires { i < length self.now.rows }
         ensures { IsSomeAnd (slice_get self.now.rows i) (λ row. row.degree ≡ result) }
     {
@@ -80,13 +88,16 @@ impl Normal {
     }
 
     /// The terms that the cost adds to the base, by rising variable. The base and all of them are at most `SUM_BOUND`.
-    pub fn objective(&self) -> &[PositiveTerm]
+    pub fn objective(&self) -> &[FormTerm<C>]
         ensures value { result.now ≡ self.now.objective }
         ensures normal { IsNormal self.now }
     {
         &self.objective
     }
 }
+
+/// The normal form of an instance, for engines that count in 64 bits.
+pub type Normal = Form;
 
 /// The normal form of the instance. The rows stand in the order of their constraints, an equality's `>=` before its `<=`;
 /// a constraint that always holds has no row. Takes time in proportion to the terms, but for sorting those of a constraint.
@@ -98,20 +109,66 @@ pub fn normalise(alloc: Global, instance: &Instance) -> Result<Normal, Memory>
     ensures cost { IfOk result (λ form. KeepsCost instance.now form) }
     ensures normal { IfOk result (λ form. IsNormal form) }
 {
+    match form_of(alloc, instance) {
+        Ok(form) => Ok(form),
+        Err(Unbuilt::Memory) => Err(AllocError),
+        Err(Unbuilt::TooWide) => unreachable!(),
+    }
+}
+
+/// The normal form of the instance for engines that count in these numbers. `TooWide` says that a sum is not below their
+/// limit, which none is where that is above `SUM_BOUND`; `Memory` that a growth of memory was refused.
+pub fn form_of<C: Count>(alloc: Global, instance: &Instance) -> Result<Form<C>, Unbuilt>
+    ensures exact { IfOk result (λ form. IsNormalFormOf instance.now form) }
+    ensures variables { IfOk result (λ form. form.vars ≡ instance.now.vars) }
+    ensures feasible { IfOk result (λ form. KeepsFeasible instance.now form) }
+    ensures cost { IfOk result (λ form. KeepsCost instance.now form) }
+    ensures normal { IfOk result (λ form. IsNormal form) }
+    ensures too_wide { result ≡ Err TooWide → C.limit ≤ SUM_BOUND }
+{
     let mut sum = PositiveSum::new(alloc);
     let mut rows = RowList::new(alloc);
     for i in 0..instance.len() {
         add_constraint(&mut rows, &mut sum, instance.constraint(i))?;
     }
     merge_objective(&mut sum, instance)?;
-    let mut objective = Vec::new(alloc);
-    objective.extend_from_slice(&sum.terms)?;
-    Ok(Normal {
+    let objective = objective_of(alloc, &sum.terms)?;
+    let _fits = rows.len();
+    Ok(Form {
         vars: instance.vars(),
         rows,
         base: sum.base,
         objective,
     })
+}
+
+/// The terms of an objective, where their sum is below the limit.
+fn objective_of<C: Count>(
+    alloc: Global,
+    terms: &[PositiveTerm],
+) -> Result<Vec<FormTerm<C>>, Unbuilt>
+    requires coefficients { total_coefficient terms.now ≤ SUM_BOUND }
+    ensures terms { IfOk result (λ objective. objective.items ≡ terms.now) }
+    ensures fits { IfOk result (λ objective. total_coefficient objective.items < C.limit) }
+    ensures too_wide { result ≡ Err TooWide → C.limit ≤ SUM_BOUND }
+{
+    if !C::fits(total(terms)) {
+        return Err(Unbuilt::TooWide);
+    }
+    Ok(fitted(alloc, terms)?)
+}
+
+/// The terms at the width of a form.
+fn fitted<C: Count>(alloc: Global, terms: &[PositiveTerm]) -> Result<Vec<FormTerm<C>>, Memory>
+    requires fits { total_coefficient terms.now < C.limit }
+    ensures { IfOk result (λ fitted. fitted.items ≡ terms.now) }
+{
+    let mut fitted = Vec::with_capacity(alloc, terms.len())?;
+    for term in terms {
+        let coef = Tally::fitting(term.coef);
+        fitted.push(FormTerm::new(coef, term.lit))?;
+    }
+    Ok(fitted)
 }
 
 /// The sum becomes the objective's.
@@ -127,15 +184,16 @@ fn merge_objective(sum: &mut PositiveSum, instance: &Instance) -> Result<(), Mem
 }
 
 /// Adds the rows of the constraint, by way of the sum. An equality gives the row of `>=` before that of `<=`.
-fn add_constraint(
-    rows: &mut RowList,
+fn add_constraint<C: Count>(
+    rows: &mut RowList<C>,
     sum: &mut PositiveSum,
     constraint: Constraint<'_>,
-) -> Result<(), Memory>
+) -> Result<(), Unbuilt>
     requires bounded { constraint_magnitude (linear constraint) ≤ SUM_BOUND }
     requires room { row_terms rows.old + 2 * length constraint.terms.now ≤ MAX_ROW_TERMS }
     ensures rows { OnOk result ((n : ℕ) → AllVariablesWithin n constraint.entry.terms.now → AddsRows n (inequalities (linear constraint.entry)) rows.old rows.new) }
     ensures room { OnOk result (row_terms rows.new ≤ row_terms rows.old + 2 * length constraint.entry.terms.now) }
+    ensures too_wide { result ≡ Err TooWide → C.limit ≤ SUM_BOUND }
 {
     sum.merge(constraint.terms)?;
     match constraint.relation {
@@ -149,28 +207,53 @@ fn add_constraint(
 }
 
 /// Adds the row that the sum is at least the bound, unless it always is.
-fn add_at_least(rows: &mut RowList, sum: &PositiveSum, bound: Number) -> Result<(), Memory>
+fn add_at_least<C: Count>(
+    rows: &mut RowList<C>,
+    sum: &PositiveSum,
+    bound: Number,
+) -> Result<(), Unbuilt>
     requires bounded { unsigned_abs sum.now.base + unsigned_abs bound ≤ SUM_BOUND }
     requires coefficients { total_coefficient sum.now.terms.items ≤ SUM_BOUND }
     requires room { row_terms rows.old + length sum.now.terms.items ≤ MAX_ROW_TERMS }
     ensures rows { OnOk result ((n : ℕ) (terms : List Term) → IsSumOf n terms sum.now.base sum.now.terms.items → AddsRows n (record { terms = terms; bound = bound } ∷ []) rows.old rows.new) }
     ensures room { OnOk result (row_terms rows.new ≤ row_terms rows.old + length sum.now.terms.items) }
+    ensures too_wide { result ≡ Err TooWide → C.limit ≤ SUM_BOUND }
 {
     let degree = bound - sum.base;
     if degree <= 0 {
         return Ok(());
     }
-    rows.push(&sum.terms, degree as Magnitude)
+    let degree = degree as Magnitude;
+    if !has_sums_below::<C>(&sum.terms, degree) {
+        return Err(Unbuilt::TooWide);
+    }
+    rows.push(&sum.terms, degree)?;
+    Ok(())
+}
+
+/// Whether the degree, and the coefficients cut down to it together, are below the limit.
+fn has_sums_below<C: Count>(terms: &[PositiveTerm], degree: Magnitude) -> bool
+    requires degree { degree ≤ SUM_BOUND }
+    requires coefficients { total_coefficient terms.now ≤ SUM_BOUND }
+    ensures fits { result ≡ true → HasSumsBelow C.limit (clipped_row degree terms.now) }
+    ensures too_wide { result ≡ false → C.limit ≤ SUM_BOUND }
+{
+    C::fits(degree) && C::fits(clipped_total(terms, degree))
 }
 
 /// Adds the row that the sum is at most the bound, unless it always is, and leaves the sum negated.
-fn add_at_most(rows: &mut RowList, sum: &mut PositiveSum, bound: Number) -> Result<(), Memory>
+fn add_at_most<C: Count>(
+    rows: &mut RowList<C>,
+    sum: &mut PositiveSum,
+    bound: Number,
+) -> Result<(), Unbuilt>
     requires bounded { unsigned_abs sum.old.base + unsigned_abs bound ≤ SUM_BOUND }
     requires coefficients { total_coefficient sum.old.terms.items ≤ SUM_BOUND }
     requires highest { ((sum.old.base +ℤ pos (total_coefficient sum.old.terms.items)) +ℤ pos (unsigned_abs bound)) ≤ℤ pos SUM_BOUND }
     requires room { row_terms rows.old + length sum.old.terms.items ≤ MAX_ROW_TERMS }
     ensures rows { OnOk result ((n : ℕ) (terms : List Term) → IsSumOf n terms sum.old.base sum.old.terms.items → AddsRows n (record { terms = map negated terms; bound = neg_ℤ bound } ∷ []) rows.old rows.new) }
     ensures room { OnOk result (row_terms rows.new ≤ row_terms rows.old + length sum.old.terms.items) }
+    ensures too_wide { result ≡ Err TooWide → C.limit ≤ SUM_BOUND }
 {
     sum.negate();
     add_at_least(rows, sum, -bound)

@@ -1,6 +1,6 @@
 //! A sum of terms as a base and positive terms by rising variable.
 
-ghost use Rattle.std.specs.Prelude.{◌≡◌, ℕ, ◌+◌, ◌≤◌, List, [], Bool, map, sum_by, unsigned_abs, IfOk, OnOk, pos, ◌+ℤ◌, ◌≤ℤ◌, neg_ℤ};
+ghost use Rattle.std.specs.Prelude.{◌≡◌, ℕ, ◌+◌, ◌≤◌, List, [], Bool, map, min, sum_by, unsigned_abs, IfOk, OnOk, pos, ◌+ℤ◌, ◌≤ℤ◌, neg_ℤ};
 ghost use Rattle.std.specs.List.Sorted.{IsNonDecreasingBy};
 ghost use Rattle.pb_inst.specs.declared.TheConstants.{SUM_BOUND};
 ghost use Rattle.pb_inst.specs.Limits.{total_magnitude, AllVariablesWithin};
@@ -162,7 +162,7 @@ fn merge_sorted(terms: &[Term], merged: &mut Vec<PositiveTerm>) -> Result<Number
 }
 
 /// The sum of the coefficients.
-fn total(terms: &[PositiveTerm]) -> Magnitude
+pub fn total(terms: &[PositiveTerm]) -> Magnitude
     requires { total_coefficient terms.now ≤ SUM_BOUND }
     ensures { result ≡ total_coefficient terms.now }
 {
@@ -180,4 +180,16 @@ fn negate_literals(terms: &mut [PositiveTerm])
     for term in terms.iter_mut() {
         term.lit = term.lit.negate();
     }
+}
+
+/// The sum of the coefficients, each cut down to the degree.
+pub fn clipped_total(terms: &[PositiveTerm], degree: Magnitude) -> Magnitude
+    requires { sum_by (λ t. min t.coef degree) terms.now ≤ SUM_BOUND }
+    ensures { result ≡ sum_by (λ t. min t.coef degree) terms.now }
+{
+    let mut total = 0;
+    for term in terms {
+        total += term.coef.min(degree);
+    }
+    total
 }

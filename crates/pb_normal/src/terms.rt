@@ -1,6 +1,11 @@
 //! Terms with positive coefficients.
 
+ghost use Rattle.std.specs.Prelude.{◌≡◌, ◌<◌, ◌^◌};
+ghost use Rattle.pb_normal.specs.NormalForm.{total_coefficient};
+
+use pb_count::{Count, Tally};
 use pb_inst::{Lit, Magnitude};
+use std::marker::Model;
 
 /// A coefficient and the literal that it counts.
 #[derive(Clone, Copy, Debug, PartialEq, Eq)]
@@ -9,4 +14,70 @@ pub struct PositiveTerm {
     pub coef: Magnitude,
     /// In a normal form over one of its variables, and later terms are over later variables.
     pub lit: Lit,
+}
+
+/// A term of a form, whose coefficient is of the width in which an engine over the form counts. Contracts see a `PositiveTerm`.
+#[derive(Clone, Copy, Debug)]
+pub struct FormTerm<C: Count = u64> {
+    coef: Tally<C>,
+    lit: Lit,
+}
+
+const _: () = prove!(size_of::<FormTerm<u64>>() == 16);
+
+impl<C: Count> Model for FormTerm<C> {
+    ghost use Rattle.pb_normal.specs.declared.terms.PositiveTerm.{PositiveTerm as Term};
+
+    ghost Value = { Term };
+
+    ghost view = { λ t. record { coef = t.coef; lit = t.lit } };
+
+    ghost inverse = { λ t. record { coef = t.coef; lit = t.lit } };
+}
+
+impl<C: Count> FormTerm<C> {
+    #[inline]
+    pub(crate) fn new(coef: Tally<C>, lit: Lit) -> FormTerm<C>
+        ensures { result ≡ record { coef = coef; lit = lit } }
+    {
+        FormTerm { coef, lit }
+    }
+
+    #[inline]
+    pub fn coef(self) -> Tally<C>
+        ensures { result ≡ self.coef }
+    {
+        self.coef
+    }
+
+    /// The term as contracts see it, where its coefficient is a number.
+    #[inline]
+    pub fn positive(self) -> PositiveTerm
+        ensures literal { result.lit ≡ self.lit }
+        ensures value { self.coef < 2 ^ 64 → result ≡ self }
+    {
+        PositiveTerm {
+            coef: self.coef.number(),
+            lit: self.lit,
+        }
+    }
+
+    #[inline]
+    pub fn lit(self) -> Lit
+        ensures { result ≡ self.lit }
+    {
+        self.lit
+    }
+}
+
+/// The sum of all coefficients.
+pub fn total_of<C: Count>(terms: &[FormTerm<C>]) -> Tally<C>
+    requires { total_coefficient terms.now < C.limit }
+    ensures { result ≡ total_coefficient terms.now }
+{
+    let mut total = Tally::of(0);
+    for term in terms {
+        total += term.coef();
+    }
+    total
 }

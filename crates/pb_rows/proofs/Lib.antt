@@ -3,9 +3,7 @@ pub mod EntryLemmas
 pub mod ClauseEntryLemmas
 pub mod CostLemmas
 pub mod LimitLemmas
-pub mod FitsLemmas
 pub mod LiteralListLemmas
 pub mod NegatedLemmas
 pub mod TablesLemmas
-pub mod TallyLemmas
 pub mod TableLemmas

@@ -6,7 +6,8 @@ use Rattle.std.proofs.lemmas.List.Elements.{All-map}
 use Rattle.std.proofs.lemmas.List.Sums.{sum_by-cons}
 use Rattle.pb_inst.specs.Literal.{Literal}
 use Rattle.pb_normal.specs.declared.terms.PositiveTerm.{PositiveTerm}
-use Rattle.pb_normal.specs.NormalForm.{PositiveRow, HasSmallSums}
+use Rattle.pb_normal.specs.NormalForm.{PositiveRow}
+use Rattle.pb_normal.specs.Fits.{HasSumsBelow}
 use Rattle.pb_rows.specs.Clauses.{unit_term, clause_row}
 use Rattle.pb_rows.specs.Constraints.{AreRowsOver, Constraints, row_at}
 use Rattle.pb_rows.specs.Index.{occurrences_of, total_for}
@@ -69,5 +70,5 @@ pub clause_term : (row : PositiveRow) (lits : List Literal) (i : ℕ) (l : Liter
 clause_term row lits i l is h read = ap unit_term read ∙ (sym (get_or-map unit_term lits i l (unit_term l) h) ∙ ap (λ (p : PositiveRow). get_or p.terms i (unit_term l)) (sym is))
 
 -- the sums of clauses are within the bound
-pub small_clauses : (clauses : List (List Literal)) → All (λ (lits : List Literal). length lits < 2 ^ 63) clauses → All (λ (row : PositiveRow). HasSmallSums row) (map clause_row clauses)
-small_clauses clauses short = All-map (λ (row : PositiveRow). HasSmallSums row) clause_row clauses (λ k d h. (omega arith, omega (arith, short k d h, total_units (get_or clauses k d))))
+pub small_clauses : (clauses : List (List Literal)) → All (λ (lits : List Literal). length lits < 2 ^ 63) clauses → All (λ (row : PositiveRow). HasSumsBelow (2 ^ 63) row) (map clause_row clauses)
+small_clauses clauses short = All-map (λ (row : PositiveRow). HasSumsBelow (2 ^ 63) row) clause_row clauses (λ k d h. (omega arith, omega (arith, short k d h, total_units (get_or clauses k d))))

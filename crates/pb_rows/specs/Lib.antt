@@ -1,7 +1,6 @@
 pub mod Occurrences
 pub mod Index
 pub mod Constraints
-pub mod Fits
 pub mod Costs
 pub mod Table
 pub mod Tables

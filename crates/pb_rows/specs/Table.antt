@@ -5,7 +5,6 @@ use Rattle.pb_normal.specs.NormalForm.{PositiveRow, NormalForm}
 use Rattle.pb_rows.specs.declared.rows.Limits.{Limits}
 use Rattle.pb_rows.specs.Occurrences.{Occurrence}
 use Rattle.pb_rows.specs.Costs.{AreCosts}
-use Rattle.pb_rows.specs.Fits.{Fits}
 use Rattle.pb_rows.specs.Constraints.{AreRowsOver, HaveRisingVariables, row_at}
 
 -- the degree of the row, and at least what it and any coefficient of the row add up to
@@ -25,11 +24,10 @@ pub record FormRows : Type 0 where
   pub occurrences : List Occurrence
   pub starts : List ℕ
 
-pub record AreFormRows {C : Type 0} (limit : ℕ) (form : NormalForm) (limits : List (Limits C)) (occurrences : List Occurrence) (starts costs : List ℕ) : Type 0 where
+pub record AreFormRows {C : Type 0} (form : NormalForm) (limits : List (Limits C)) (occurrences : List Occurrence) (starts costs : List ℕ) : Type 0 where
   pub limited : AreLimitsOf form.rows (length form.rows) limits
   pub index : IsIndexOf form.vars 0 form.rows occurrences starts
   pub costs_are : AreCosts form.vars form.objective costs
-  pub fits : Fits limit form
 
 -- the clauses of cubes, numbered from `first` on, and the occurrences of their literals with where each literal's begin
 pub record ClauseRows : Type 0 where

@@ -35,6 +35,6 @@ pub record AreBeside (rows : FormRows) (clauses : ClauseRows) : Type 0 where
   pub numbers : clauses.first ≡ length rows.form.rows
 
 -- the terms of a row, and those of a clause's literals
-abbrev pub terms_in : RowTerms → List PositiveTerm
+abbrev pub terms_in : {C : Type 0} → RowTerms C → List PositiveTerm
 terms_in (Weighted terms) = terms.now
 terms_in (Units lits) = map unit_term lits.now

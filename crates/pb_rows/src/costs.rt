@@ -4,17 +4,16 @@ ghost use Rattle.std.specs.Prelude.{◌≡◌, ◌*◌, ◌<◌, ◌≤◌, IfOk
 ghost use Rattle.pb_normal.specs.NormalForm.{total_coefficient};
 ghost use Rattle.pb_rows.specs.Costs.{AreCosts};
 
-use crate::count::Count;
 use crate::occurrences::place_of;
-use crate::tally::Tally;
+use pb_count::{Count, Tally};
 use pb_inst::Memory;
-use pb_normal::PositiveTerm;
+use pb_normal::FormTerm;
 use std::alloc::Global;
 
 /// The objective's coefficient of each literal, at the literal's place, and 0 where it has none.
 pub fn costs_of<C: Count>(
     alloc: Global,
-    objective: &[PositiveTerm],
+    objective: &[FormTerm<C>],
     vars: u32,
 ) -> Result<Vec<Tally<C>>, Memory>
     requires variables { All (λ t. t.lit.var ≤ vars) objective.now }
@@ -23,7 +22,7 @@ pub fn costs_of<C: Count>(
 {
     let mut costs = vec![in alloc; Tally::of(0); 2 * vars as usize]?;
     for term in objective {
-        costs[place_of(term.lit)] += Tally::fitting(term.coef);
+        costs[place_of(term.lit())] += term.coef();
     }
     Ok(costs)
 }

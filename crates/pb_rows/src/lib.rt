@@ -3,7 +3,6 @@
 
 mod clauses;
 mod costs;
-mod count;
 mod index;
 mod literal_lists;
 mod negated;
@@ -11,17 +10,15 @@ mod occurrences;
 mod rows;
 mod tables;
 mod tables_source;
-mod tally;
 mod weighs;
 
 pub use clauses::Clauses;
-pub use count::Count;
 pub use occurrences::{Occurrence, Occurs, UnitOccurrence, place_of};
+pub use pb_count::{Count, Tally};
 use pb_inst::MAX_CONSTRAINTS;
 pub use rows::{Limits, Rows};
 pub use tables::{RowTerms, Tables};
 pub use tables_source::TablesSource;
-pub use tally::Tally;
 pub use weighs::Weighs;
 
 /// How many clauses of cubes there may be at most beside the rows of a normal form.

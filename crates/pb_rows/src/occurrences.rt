@@ -3,9 +3,8 @@
 ghost use Rattle.std.specs.Prelude.{◌≡◌, ◌+◌, ◌*◌, ◌^◌, ◌<◌, ◌≤◌, ◌++◌, All, OnOk, map};
 ghost use Rattle.pb_rows.specs.Index.{literal_place, entries_of_row};
 
-use crate::count::Count;
-use crate::tally::Tally;
 use crate::weighs::Weighs;
+use pb_count::{Count, Tally};
 use pb_inst::{Lit, Memory};
 use std::marker::Model;
 
@@ -125,18 +124,17 @@ pub fn place_of(lit: Lit) -> usize
 }
 
 /// Adds where the literals of a row occur.
-pub fn push_entries<C: Count, T: Weighs>(
+pub fn push_entries<C: Count, T: Weighs<C>>(
     entries: &mut Vec<Entry<C>>,
     row: u32,
     items: &[T],
 ) -> Result<(), Memory>
-    requires fits { All (λ item. (T.term item).coef < 2 * C.limit) items.now }
     ensures entries { OnOk result (entries.new.items ≡ entries.old.items ++ entries_of_row row (map T.term items.now)) }
     ensures from_one { OnOk result (All (λ item. 1 ≤ (T.term item).lit.var) items.now) }
 {
     for item in items {
         let place = place_of(item.lit()) as u32;
-        let coef = Tally::fitting(item.coef());
+        let coef = item.coef();
         entries.push(Entry { place, row, coef })?;
     }
     Ok(())

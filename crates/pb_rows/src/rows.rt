@@ -3,18 +3,17 @@
 ghost use Rattle.std.specs.Prelude.{◌≡◌, ℕ, ◌+◌, ◌*◌, ◌^◌, ◌<◌, ◌≤◌, length, All, IfOk};
 ghost use Rattle.pb_normal.specs.NormalForm.{IsNormal};
 ghost use Rattle.pb_rows.specs.Constraints.{AreRowsOver, row_at};
-ghost use Rattle.pb_rows.specs.Fits.{Fits};
+ghost use Rattle.pb_normal.specs.Fits.{Fits};
 ghost use Rattle.pb_rows.specs.Index.{occurrences_of, total_for, entries_from};
 ghost use Rattle.pb_rows.specs.Table.{AreLimits, AreLimitsOf};
 ghost use Rattle.pb_normal.specs.Literals.{weight_of};
 
 use crate::costs::costs_of;
-use crate::count::Count;
 use crate::index::{Index, part};
 use crate::occurrences::{Entry, Occurrence, place_of, push_entries};
-use crate::tally::Tally;
-use pb_inst::{Lit, Magnitude, Memory};
-use pb_normal::{Normal, PositiveTerm};
+use pb_count::{Count, Tally};
+use pb_inst::{Lit, Memory};
+use pb_normal::{Form, FormTerm};
 use std::alloc::Global;
 use std::marker::Model;
 
@@ -29,7 +28,7 @@ pub struct Limits<C: Count> {
 /// once and lent to engines.
 #[derive(Debug, Drop)]
 pub struct Rows<'a, C: Count = u64> {
-    form: &'a Normal,
+    form: &'a Form<C>,
     limits: Vec<Limits<C>>,
     index: Index<C>,
     costs: Vec<Tally<C>>,
@@ -42,12 +41,12 @@ impl<'a, C: Count> Model for Rows<'a, C> {
 
     ghost view = { λ r. record { form = r.form.now; occurrences = r.index.occurrences.items; starts = r.index.starts.items } };
 
-    ghost invariant = { λ r. AreFormRows C.limit r.form.now r.limits.items r.index.occurrences.items r.index.starts.items r.costs.items };
+    ghost invariant = { λ r. AreFormRows r.form.now r.limits.items r.index.occurrences.items r.index.starts.items r.costs.items };
 }
 
 impl<'a, C: Count> Rows<'a, C> {
     /// The rows of the normal form.
-    pub fn new(alloc: Global, form: &'a Normal) -> Result<Rows<'a, C>, Memory>
+    pub fn new(alloc: Global, form: &'a Form<C>) -> Result<Rows<'a, C>, Memory>
         ensures { IfOk result (λ rows. rows.form ≡ form.now) }
     {
         let vars = form.vars();
@@ -65,7 +64,7 @@ impl<'a, C: Count> Rows<'a, C> {
     }
 
     /// The normal form.
-    pub fn form(&self) -> &'a Normal
+    pub fn form(&self) -> &'a Form<C>
         ensures { result.now ≡ self.now.form }
     {
         self.form
@@ -89,7 +88,7 @@ impl<'a, C: Count> Rows<'a, C> {
     }
 
     /// The degree of the row.
-    pub fn degree(&self, row: usize) -> Magnitude
+    pub fn degree(&self, row: usize) -> Tally<C>
         requires { row < length self.now.form.rows }
         ensures { result ≡ (row_at self.now.form.rows row).degree }
     {
@@ -105,7 +104,7 @@ impl<'a, C: Count> Rows<'a, C> {
     }
 
     /// The terms of the row.
-    pub fn terms(&self, row: usize) -> &'a [PositiveTerm]
+    pub fn terms(&self, row: usize) -> &'a [FormTerm<C>]
         requires { row < length self.now.form.rows }
         ensures { result.now ≡ (row_at self.now.form.rows row).terms }
     {
@@ -134,8 +133,7 @@ impl<'a, C: Count> Rows<'a, C> {
 }
 
 /// Where each literal of the rows occurs, row by row.
-fn entries_of<C: Count>(alloc: Global, form: &Normal) -> Result<Vec<Entry<C>>, Memory>
-    requires { Fits C.limit form.now }
+fn entries_of<C: Count>(alloc: Global, form: &Form<C>) -> Result<Vec<Entry<C>>, Memory>
     ensures { IfOk result (λ entries. entries.items ≡ entries_from 0 form.now.rows (length form.now.rows)) }
 {
     let _vars = form.vars();
@@ -147,7 +145,7 @@ fn entries_of<C: Count>(alloc: Global, form: &Normal) -> Result<Vec<Entry<C>>, M
 }
 
 /// How many entries the rows need: with that room the list never grows.
-fn room(form: &Normal) -> usize {
+fn room<C: Count>(form: &Form<C>) -> usize {
     let mut room = 0_usize;
     for row in 0..form.len() {
         room = room.saturating_add(form.terms(row).len());
@@ -156,8 +154,7 @@ fn room(form: &Normal) -> usize {
 }
 
 /// The limits of each row.
-fn limits_of<C: Count>(alloc: Global, form: &Normal) -> Result<Vec<Limits<C>>, Memory>
-    requires { Fits C.limit form.now }
+fn limits_of<C: Count>(alloc: Global, form: &Form<C>) -> Result<Vec<Limits<C>>, Memory>
     ensures { IfOk result (λ limits. AreLimitsOf form.now.rows (length form.now.rows) limits.items) }
 {
     let mut limits = Vec::with_capacity(alloc, form.len())?;
@@ -168,23 +165,19 @@ fn limits_of<C: Count>(alloc: Global, form: &Normal) -> Result<Vec<Limits<C>>, M
 }
 
 /// The limits of one row.
-fn limits_at<C: Count>(form: &Normal, row: usize) -> Limits<C>
-    requires row { row < length form.now.rows }
-    requires fits { Fits C.limit form.now }
+fn limits_at<C: Count>(form: &Form<C>, row: usize) -> Limits<C>
+    requires { row < length form.now.rows }
     ensures { AreLimits (row_at form.now.rows row) result }
 {
     let _vars = form.vars();
     let degree = form.degree(row);
     let enough = enough(degree, form.terms(row));
-    Limits {
-        degree: Tally::fitting(degree),
-        enough: Tally::fitting(enough),
-    }
+    Limits { degree, enough }
 }
 
 /// The degree and the greatest coefficient together.
-fn enough(degree: Magnitude, terms: &[PositiveTerm]) -> Magnitude
-    requires small { degree < 2 ^ 63 }
+fn enough<C: Count>(degree: Tally<C>, terms: &[FormTerm<C>]) -> Tally<C>
+    requires small { degree < C.limit }
     requires clipped { All (λ t. t.coef ≤ degree) terms.now }
     ensures degree { degree ≤ result }
     ensures each { All (λ t. degree + t.coef ≤ result) terms.now }
@@ -192,7 +185,7 @@ fn enough(degree: Magnitude, terms: &[PositiveTerm]) -> Magnitude
 {
     let mut enough = degree;
     for term in terms {
-        enough = enough.max(degree + term.coef);
+        enough = enough.max(degree + term.coef());
     }
     enough
 }

@@ -4,25 +4,24 @@ ghost use Rattle.std.specs.Prelude.{◌≡◌, ℕ, ◌+◌, ◌^◌, ◌<◌, �
 ghost use Rattle.pb_normal.specs.NormalForm.{IsNormal, total_coefficient};
 ghost use Rattle.pb_rows.specs.Constraints.{AreRowsOver, row_at, HaveRisingVariables};
 ghost use Rattle.pb_rows.specs.Clauses.{clause_row};
-ghost use Rattle.pb_rows.specs.Fits.{HasSumsBelow};
+ghost use Rattle.pb_normal.specs.Fits.{HasSumsBelow};
 ghost use Rattle.pb_rows.specs.Index.{occurrences_of, total_for};
 ghost use Rattle.pb_rows.specs.Table.{AreLimits};
 ghost use Rattle.pb_rows.specs.Tables.{constraints_of, AreBeside, terms_in};
 ghost use Rattle.pb_normal.specs.Literals.{weight_of};
 
 use crate::clauses::Clauses;
-use crate::count::Count;
 use crate::occurrences::{Occurrence, UnitOccurrence};
 use crate::rows::{Limits, Rows};
-use crate::tally::Tally;
-use pb_inst::{Lit, Magnitude};
-use pb_normal::{Normal, PositiveTerm};
+use pb_count::{Count, Tally};
+use pb_inst::Lit;
+use pb_normal::{Form, FormTerm, total_of};
 use std::marker::Model;
 
 /// The terms of a row of the form, or the literals of a clause, whose coefficients are 1.
 #[derive(Clone, Copy, Debug)]
-pub enum RowTerms<'a> {
-    Weighted(&'a [PositiveTerm]),
+pub enum RowTerms<'a, C: Count> {
+    Weighted(&'a [FormTerm<C>]),
     Units(&'a [Lit]),
 }
 
@@ -54,7 +53,7 @@ impl<'t, 'a, C: Count> Tables<'t, 'a, C> {
     }
 
     /// The normal form.
-    pub fn form(&self) -> &'a Normal
+    pub fn form(&self) -> &'a Form<C>
         ensures { result.now ≡ self.now.form }
     {
         self.rows.form()
@@ -83,7 +82,7 @@ impl<'t, 'a, C: Count> Tables<'t, 'a, C> {
     }
 
     /// The degree of the row, which is 1 for a clause.
-    pub fn degree(&self, row: usize) -> Magnitude
+    pub fn degree(&self, row: usize) -> Tally<C>
         requires { row < length self.now.rows }
         ensures { result ≡ (row_at self.now.rows row).degree }
     {
@@ -92,7 +91,7 @@ impl<'t, 'a, C: Count> Tables<'t, 'a, C> {
             rows.degree(row)
         } else {
             let _lits = self.clauses.lits(row - rows.len());
-            1
+            Tally::of(1)
         }
     }
 
@@ -114,7 +113,7 @@ impl<'t, 'a, C: Count> Tables<'t, 'a, C> {
     }
 
     /// The terms of a row of the form.
-    pub fn form_terms(&self, row: usize) -> &'a [PositiveTerm]
+    pub fn form_terms(&self, row: usize) -> &'a [FormTerm<C>]
         requires { row < length self.now.form.rows }
         ensures terms { result.now ≡ (row_at self.now.rows row).terms }
         ensures variables { All (λ t. (1 ≤ t.lit.var) × (t.lit.var ≤ self.now.vars)) result.now }
@@ -137,7 +136,7 @@ impl<'t, 'a, C: Count> Tables<'t, 'a, C> {
     }
 
     /// The terms of the row.
-    pub fn terms(&self, row: usize) -> RowTerms<'t>
+    pub fn terms(&self, row: usize) -> RowTerms<'t, C>
         requires { row < length self.now.rows }
         ensures { terms_in result ≡ (row_at self.now.rows row).terms }
     {
@@ -150,7 +149,7 @@ impl<'t, 'a, C: Count> Tables<'t, 'a, C> {
     }
 
     /// The sum of the row's coefficients.
-    pub fn total(&self, row: usize) -> Magnitude
+    pub fn total(&self, row: usize) -> Tally<C>
         requires { row < length self.now.rows }
         ensures value { result ≡ total_coefficient (row_at self.now.rows row).terms }
         ensures fits { total_coefficient (row_at self.now.rows row).terms < C.limit }
@@ -158,9 +157,9 @@ impl<'t, 'a, C: Count> Tables<'t, 'a, C> {
         let _vars = self.vars();
         let rows = self.rows;
         if row < rows.len() {
-            total(rows.terms(row))
+            total_of(rows.terms(row))
         } else {
-            self.clauses.lits(row - rows.len()).len() as Magnitude
+            Tally::of(self.clauses.lits(row - rows.len()).len() as u64)
         }
     }
 
@@ -191,16 +190,4 @@ impl<'t, 'a, C: Count> Tables<'t, 'a, C> {
     {
         self.clauses.occurrences(lit)
     }
-}
-
-/// The sum of all coefficients.
-fn total(terms: &[PositiveTerm]) -> Magnitude
-    requires { total_coefficient terms.now < 2 ^ 63 }
-    ensures { result ≡ total_coefficient terms.now }
-{
-    let mut total = 0;
-    for term in terms {
-        total += term.coef;
-    }
-    total
 }

@@ -7,11 +7,11 @@ ghost use Rattle.pb_rows.specs.Clauses.{AreClausesOf};
 ghost use Rattle.pb_rows.specs.Tables.{rows_of, clauses_of, constraints_of, AreBeside};
 
 use crate::clauses::Clauses;
-use crate::count::Count;
 use crate::rows::Rows;
 use crate::tables::Tables;
+use pb_count::Count;
 use pb_inst::{Cube, Memory};
-use pb_normal::Normal;
+use pb_normal::Form;
 use std::alloc::Global;
 use std::marker::Model;
 
@@ -74,7 +74,7 @@ impl<'a, C: Count> TablesSource<'a, C> {
     /// The rows of the form, and the clauses of at most `MAX_CLAUSES` cubes that are to be false.
     pub fn new(
         alloc: Global,
-        form: &'a Normal,
+        form: &'a Form<C>,
         negated: &[Cube],
     ) -> Result<TablesSource<'a, C>, Memory>
         requires few { length negated.now ≤ MAX_CLAUSES }

@@ -80,7 +80,7 @@ impl Order {
         match engine.row_terms(row) {
             RowTerms::Weighted(terms) => {
                 for term in terms {
-                    self.bump(term.lit);
+                    self.bump(term.lit());
                 }
             }
             RowTerms::Units(lits) => {

@@ -12,8 +12,9 @@ ghost use Rattle.std.specs.Option.{ForSome};
 ghost use Rattle.pb_trail.specs.Levels.{AllSettled, AllSettledFrom};
 
 use crate::trail::Trail;
+use pb_count::{Count, Tally};
 use pb_inst::Lit;
-use pb_rows::{Count, Occurs, Tables, Tally};
+use pb_rows::{Occurs, Tables};
 
 /// What a step of the engine found.
 #[derive(Clone, Copy, Debug, PartialEq, Eq)]
@@ -204,8 +205,9 @@ fn add_forced<C: Count>(
     ensures settled { (head : ℕ) → head ≤ length trail.old.lits → IsSettledFrom head trail.new.lits (row_at tables.now.rows row) }
 {
     for term in tables.form_terms(row) {
-        if slack.is_below(Tally::fitting(term.coef)) && trail.value(term.lit.var()).is_none() {
-            trail.push(tables, term.lit);
+        let lit = term.lit();
+        if slack.is_below(term.coef()) && trail.value(lit.var()).is_none() {
+            trail.push(tables, lit);
         }
     }
 }

@@ -13,8 +13,9 @@ ghost use Rattle.pb_trail.specs.Soundness.{IsFull, IsSolved, IsSoundTrail};
 use crate::propagation::{Step, propagate_all};
 use crate::slacks::Slacks;
 use crate::trail::Trail;
+use pb_count::Count;
 use pb_inst::{Lit, Memory};
-use pb_rows::{Count, RowTerms, TablesSource};
+use pb_rows::{RowTerms, TablesSource};
 use std::alloc::Global;
 use std::marker::Model;
 
@@ -151,7 +152,7 @@ impl<'a, C: Count> Propagator<'a, C> {
     }
 
     /// The terms of a row.
-    pub fn row_terms(&self, row: usize) -> RowTerms<'_>
+    pub fn row_terms(&self, row: usize) -> RowTerms<'_, C>
         requires { row < length self.now.rows }
         ensures { terms_in result ≡ (row_at self.now.rows row).terms }
     {

@@ -8,9 +8,10 @@ ghost use Rattle.pb_trail.specs.Soundness.{IsProperTrail};
 ghost use Rattle.pb_trail.specs.Propagation.{IsBrokenAt};
 
 use crate::trail::Trail;
-use pb_inst::{Lit, Magnitude};
-use pb_normal::Normal;
-use pb_rows::{Count, Tables, Tally};
+use pb_count::{Count, Tally};
+use pb_inst::Lit;
+use pb_normal::Form;
+use pb_rows::Tables;
 use std::marker::Model;
 
 /// A trail over the variables of rows, with the sum that each row can still reach and the value of each variable.
@@ -84,7 +85,7 @@ impl<'t, 'a, C: Count> Slacks<'t, 'a, C> {
     }
 
     /// The degree of the row.
-    pub fn degree(&self, row: usize) -> Magnitude
+    pub fn degree(&self, row: usize) -> Tally<C>
         requires { row < length self.now.rows }
         ensures { result ≡ (row_at self.now.rows row).degree }
     {
@@ -97,11 +98,7 @@ impl<'t, 'a, C: Count> Slacks<'t, 'a, C> {
     {
         let _vars = self.tables.vars();
         let row = self.trail.blamed();
-        if row < self.rows()
-            && self
-                .reachable(row)
-                .is_below(Tally::fitting(self.degree(row)))
-        {
+        if row < self.rows() && self.reachable(row).is_below(self.degree(row)) {
             Some(row)
         } else {
             None
@@ -109,7 +106,7 @@ impl<'t, 'a, C: Count> Slacks<'t, 'a, C> {
     }
 
     /// The normal form.
-    pub fn form(&self) -> &'a Normal
+    pub fn form(&self) -> &'a Form<C>
         ensures { result.now ≡ self.now.form }
     {
         self.tables.form()

@@ -8,8 +8,9 @@ ghost use Rattle.pb_trail.specs.Soundness.{IsProperTrail};
 ghost use Rattle.pb_trail.specs.Tracked.{IsUpToDate};
 ghost use Rattle.pb_trail.specs.Trail.{value_on, reachable};
 
+use pb_count::{Count, Tally};
 use pb_inst::{Lit, Memory};
-use pb_rows::{Count, Occurs, Tables, Tally};
+use pb_rows::{Occurs, Tables};
 use std::alloc::Global;
 use std::marker::Model;
 
@@ -153,7 +154,7 @@ fn totals<C: Count>(alloc: Global, tables: &Tables<'_, '_, C>) -> Result<Vec<Tal
 {
     let mut sums = Vec::with_capacity(alloc, tables.len())?;
     for row in 0..tables.len() {
-        sums.push(Tally::fitting(tables.total(row)))?;
+        sums.push(tables.total(row))?;
     }
     Ok(sums)
 }

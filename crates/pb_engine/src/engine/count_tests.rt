@@ -3,7 +3,6 @@
 use crate::engine::courses::{form, rows, slack};
 use crate::{Count, CountingEngine, Engine, Step};
 use pb_inst::{Lit, Magnitude, Number};
-use pb_normal::Normal;
 use std::alloc::Global;
 use std::process::Abort;
 
@@ -53,9 +52,17 @@ fn course<C: Count>(
     looks
 }
 
-fn compare(rt: &impl Abort, alloc: Global, form: &Normal) {
-    let mut narrow = Engine::new(alloc, form, &[]).expect(rt, "memory");
-    let mut wide = WideEngine::new(alloc, form, &[]).expect(rt, "memory");
+fn compare(
+    rt: &impl Abort,
+    alloc: Global,
+    vars: u32,
+    costs: &[(Number, i32)],
+    rows: &[(&[(Number, i32)], Number)],
+) {
+    let narrow_form = form(rt, alloc, vars, costs, rows);
+    let wide_form = form(rt, alloc, vars, costs, rows);
+    let mut narrow = Engine::new(alloc, &narrow_form, &[]).expect(rt, "memory");
+    let mut wide = WideEngine::new(alloc, &wide_form, &[]).expect(rt, "memory");
     for positive in [false, true] {
         let expected = course(rt, alloc, &mut narrow, positive);
         let found = course(rt, alloc, &mut wide, positive);
@@ -71,7 +78,7 @@ fn wide_counters_say_the_same(rt: HostRuntime) {
         (&[(4, -3), (3, -4), (2, -5), (1, 6)], 5),
     ];
     let costs: &[(Number, i32)] = &[(2, 1), (3, -2), (1, 3), (5, 4), (7, 6)];
-    compare(&rt, rt.alloc(), &form(&rt, rt.alloc(), 6, costs, rows));
+    compare(&rt, rt.alloc(), 6, costs, rows);
 }
 
 #[test]
@@ -82,5 +89,5 @@ fn wide_counters_say_the_same_of_great_sums(rt: HostRuntime) {
         (&[(great, -1), (great, 3)], 1),
     ];
     let costs: &[(Number, i32)] = &[(great, 1), (great, 2)];
-    compare(&rt, rt.alloc(), &form(&rt, rt.alloc(), 3, costs, rows));
+    compare(&rt, rt.alloc(), 3, costs, rows);
 }

@@ -4,7 +4,7 @@ ghost use Rattle.std.specs.Prelude.{◌≡◌, ◌≤◌, true, All};
 
 use crate::{Count, CountingEngine, Engine, MAX_CLAUSES, RowTerms, Step};
 use pb_inst::{Cube, InstanceBuilder, Lit, Magnitude, Number, Relation, Term};
-use pb_normal::{Normal, normalise};
+use pb_normal::{Form, form_of};
 use std::alloc::Global;
 use std::process::Abort;
 
@@ -122,7 +122,7 @@ pub fn slack<C: Count>(
     slacks
         .reachable(row)
         .number()
-        .checked_sub(slacks.degree(row))
+        .checked_sub(slacks.degree(row).number())
 }
 
 /// Whether the row has just these literals, in this order.
@@ -134,7 +134,7 @@ fn has_lits(rt: &impl Abort, engine: &Engine<'_>, row: usize, expected: &[i32]) 
                 && terms
                     .iter()
                     .zip(expected)
-                    .all(|(term, number)| is_lit(term.lit, *number))
+                    .all(|(term, number)| is_lit(term.lit(), *number))
         }
         RowTerms::Units(units) => {
             units.len() == expected.len()
@@ -167,13 +167,13 @@ fn terms_of(rt: &impl Abort, alloc: Global, terms: &[(Number, i32)]) -> Vec<Term
 }
 
 /// The normal form of an objective and constraints of `>=`, each a list of coefficients and literals and a bound.
-pub fn form(
+pub fn form<C: Count>(
     rt: &impl Abort,
     alloc: Global,
     vars: u32,
     objective: &[(Number, i32)],
     rows: &[(&[(Number, i32)], Number)],
-) -> Normal {
+) -> Form<C> {
     let mut builder = InstanceBuilder::new(alloc);
     builder
         .set_objective(&terms_of(rt, alloc, objective))
@@ -184,7 +184,7 @@ pub fn form(
             .expect(rt, "a constraint");
     }
     let instance = builder.finish(vars).ok().expect(rt, "an instance");
-    normalise(alloc, &instance).expect(rt, "memory")
+    form_of(alloc, &instance).expect(rt, "memory")
 }
 
 fn cubes(rt: &impl Abort, alloc: Global, cubes: &[&[i32]]) -> Vec<Cube> {

@@ -58,20 +58,21 @@ impl Activities {
         }
     }
 
-    /// What the variable at the index is ordered by: its activity, and where gains count that times its factor.
+    /// The activity of the variable at the index, times what its decisions gained.
     fn rank(&self, index: u32) -> u128 {
-        let activity = self.activity(index) as u128;
-        if self.is_led_by_gains {
-            return activity.saturating_mul(self.gains.factor(index) as u128);
-        }
-        activity
+        (self.activity(index) as u128).saturating_mul(self.gains.factor(index) as u128)
     }
 
-    /// Whether the first variable comes before the second: by falling rank, and then by index.
+    /// Whether the first variable comes before the second: by falling activity, or rank where gains count too, and then by
+    /// index.
     pub fn precedes(&self, first: u32, second: u32) -> bool {
-        let before = self.rank(first);
-        let after = self.rank(second);
-        before > after || (before == after && first < second)
+        // Asked at each step in the heap: activities alone are compared in 64 bits.
+        let order = if self.is_led_by_gains {
+            self.rank(second).cmp(&self.rank(first))
+        } else {
+            self.activity(second).cmp(&self.activity(first))
+        };
+        order.then(first.cmp(&second)).is_lt()
     }
 
     /// Adds to the activity what a conflict adds. Nothing ever decays.

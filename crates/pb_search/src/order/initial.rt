@@ -3,7 +3,7 @@
 
 use super::activity::{Activity, BUMP, VariableActivity};
 use pb_inst::{Cube, Lit, Magnitude, Memory};
-use pb_normal::{Normal, PositiveTerm};
+use pb_normal::{FormTerm, Normal};
 use std::alloc::Global;
 
 /// By how much quotients are scaled up.
@@ -38,8 +38,9 @@ pub fn initial_phases(alloc: Global, normal: &Normal) -> Result<Vec<Lit>, Memory
         }
     }
     for term in normal.objective() {
-        if let Some(lit) = phases.get_mut(term.lit.var() as usize - 1) {
-            *lit = term.lit.negate();
+        let costly = term.lit();
+        if let Some(lit) = phases.get_mut(costly.var() as usize - 1) {
+            *lit = costly.negate();
         }
     }
     Ok(phases)
@@ -70,9 +71,10 @@ fn greatest(scores: &[Magnitude]) -> Magnitude {
 }
 
 /// Adds to each variable's bump its cost by the mean cost.
-fn add_costs(activities: &mut [VariableActivity], objective: &[PositiveTerm]) {
+fn add_costs(activities: &mut [VariableActivity], objective: &[FormTerm]) {
     let mean = mean_cost(objective);
     for term in objective {
+        let term = term.positive();
         if let Some(entry) = activities.get_mut(term.lit.var() as usize - 1) {
             entry.bump = entry.bump.saturating_add(ratio(term.coef, mean));
         }
@@ -97,15 +99,16 @@ fn static_scores(alloc: Global, normal: &Normal) -> Result<Vec<Magnitude>, Memor
     let vars = normal.vars() as usize;
     let mut scores = vec![in alloc; 0; vars]?;
     for row in 0..normal.len() {
-        add_row(&mut scores, normal.terms(row), normal.degree(row));
+        add_row(&mut scores, normal.terms(row), normal.degree(row).number());
     }
     raise_by_cost(&mut scores, normal.objective());
     Ok(scores)
 }
 
 /// Adds coefficient / degree to the score of each variable of the row.
-fn add_row(scores: &mut [Magnitude], terms: &[PositiveTerm], degree: Magnitude) {
+fn add_row(scores: &mut [Magnitude], terms: &[FormTerm], degree: Magnitude) {
     for term in terms {
+        let term = term.positive();
         if let Some(score) = scores.get_mut(term.lit.var() as usize - 1) {
             *score = score.saturating_add(ratio(term.coef, degree));
         }
@@ -113,9 +116,10 @@ fn add_row(scores: &mut [Magnitude], terms: &[PositiveTerm], degree: Magnitude) 
 }
 
 /// Multiplies the score of each variable by 1 + cost / mean cost.
-fn raise_by_cost(scores: &mut [Magnitude], objective: &[PositiveTerm]) {
+fn raise_by_cost(scores: &mut [Magnitude], objective: &[FormTerm]) {
     let mean = mean_cost(objective);
     for term in objective {
+        let term = term.positive();
         if let Some(score) = scores.get_mut(term.lit.var() as usize - 1) {
             let share = ratio(term.coef, mean) / HALF_SCALE;
             *score = score.saturating_add((*score / HALF_SCALE).saturating_mul(share));
@@ -124,10 +128,10 @@ fn raise_by_cost(scores: &mut [Magnitude], objective: &[PositiveTerm]) {
 }
 
 /// The mean coefficient, at least 1.
-fn mean_cost(objective: &[PositiveTerm]) -> Magnitude {
+fn mean_cost(objective: &[FormTerm]) -> Magnitude {
     let mut total: Magnitude = 0;
     for term in objective {
-        total = total.saturating_add(term.coef);
+        total = total.saturating_add(term.coef().number());
     }
     let count = objective.len() as Magnitude;
     (total / count.max(1)).max(1)

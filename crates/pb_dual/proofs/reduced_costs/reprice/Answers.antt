@@ -1,4 +1,4 @@
-use Rattle.std.proofs.Common.{◌≡◌, ℕ, ◌+◌, ◌-◌, ◌*◌, ◌<◌, ◌≤◌, List, length, get_or, set, take, arith, ap, sym, subst, ◌∙◌, length-set}
+use Rattle.std.proofs.Common.{◌≡◌, ℕ, ◌+◌, ◌-◌, ◌*◌, ◌^◌, ◌<◌, ◌≤◌, List, length, get_or, set, take, arith, ap, sym, subst, ◌∙◌, length-set}
 use Rattle.pb_normal.specs.declared.terms.PositiveTerm.{PositiveTerm}
 use Rattle.pb_normal.specs.Literals.{weight_of}
 use Rattle.pb_normal.proofs.LiteralLemmas.{weight_of-nil}
@@ -8,7 +8,7 @@ use Rattle.pb_dual.proofs.ChangeLemmas.{can-reprice, repriced-next}
 use Rattle.pb_dual.proofs.reduced_costs.reprice.Goals as goal
 
 pub loop-term-init : goal.loop-term-init
-loop-term-init c = record {
+loop-term-init g c = record {
   count = (let same : length c.args.costs.now ≡ length c.args.costs.now = omega arith in same);
   small = λ k. omega (arith, c.type_inv.costs k);
   each = λ m low high. (let none = weight_of-nil m in let taken = ap (λ (n : ℕ). c.args.to * n) none in let given = ap (λ (n : ℕ). c.args.from * n) none in omega arith);
@@ -16,28 +16,34 @@ loop-term-init c = record {
 }
 
 pub reprice_term-requires-clause-enough : goal.reprice_term-requires-clause-enough
-reprice_term-requires-clause-enough c =
-    let t = c.term-item.result in
+reprice_term-requires-clause-enough g c =
+    let item = c.term-item.result in
+    let t = c.positive.result in
     let i = c.loop-term.term-index in
-    let read : t ≡ get_or c.args.terms.now i t = c.term-item.is in
+    let same : t ≡ item = c.positive.ensures.value (subst (λ (u : PositiveTerm). u.coef < 2 ^ 64) (sym c.term-item.is) (c.requires.numbers i item c.loop-term-test.true)) in
+    let read : t ≡ get_or c.args.terms.now i t = subst (λ (u : PositiveTerm). u ≡ get_or c.args.terms.now i u) (sym same) c.term-item.is in
     let within = subst (λ (u : PositiveTerm). (1 ≤ u.lit.var) × (u.lit.var ≤ length c.args.values.now)) (sym read) (c.requires.variables i t c.loop-term-test.true) in
     (can-reprice (get_or c.loop-term.costs (literal_place t.lit) 0) (get_or c.args.costs.now (literal_place t.lit) 0) c.args.terms.now i t c.args.from c.args.to c.loop-term-test.true read
     (c.loop-term.invariant.each t.lit within.0 within.1) (c.requires.enough t.lit within.0 within.1) (c.requires.fits t.lit within.0 within.1)).0
 
 pub reprice_term-requires-clause-fits : goal.reprice_term-requires-clause-fits
-reprice_term-requires-clause-fits c =
-    let t = c.term-item.result in
+reprice_term-requires-clause-fits g c =
+    let item = c.term-item.result in
+    let t = c.positive.result in
     let i = c.loop-term.term-index in
-    let read : t ≡ get_or c.args.terms.now i t = c.term-item.is in
+    let same : t ≡ item = c.positive.ensures.value (subst (λ (u : PositiveTerm). u.coef < 2 ^ 64) (sym c.term-item.is) (c.requires.numbers i item c.loop-term-test.true)) in
+    let read : t ≡ get_or c.args.terms.now i t = subst (λ (u : PositiveTerm). u ≡ get_or c.args.terms.now i u) (sym same) c.term-item.is in
     let within = subst (λ (u : PositiveTerm). (1 ≤ u.lit.var) × (u.lit.var ≤ length c.args.values.now)) (sym read) (c.requires.variables i t c.loop-term-test.true) in
     (can-reprice (get_or c.loop-term.costs (literal_place t.lit) 0) (get_or c.args.costs.now (literal_place t.lit) 0) c.args.terms.now i t c.args.from c.args.to c.loop-term-test.true read
     (c.loop-term.invariant.each t.lit within.0 within.1) (c.requires.enough t.lit within.0 within.1) (c.requires.fits t.lit within.0 within.1)).1
 
 pub loop-term-preserved : goal.loop-term-preserved
-loop-term-preserved c =
-    let t = c.term-item.result in
+loop-term-preserved g c =
+    let item = c.term-item.result in
+    let t = c.positive.result in
     let i = c.loop-term.term-index in
-    let read : t ≡ get_or c.args.terms.now i t = c.term-item.is in
+    let same : t ≡ item = c.positive.ensures.value (subst (λ (u : PositiveTerm). u.coef < 2 ^ 64) (sym c.term-item.is) (c.requires.numbers i item c.loop-term-test.true)) in
+    let read : t ≡ get_or c.args.terms.now i t = subst (λ (u : PositiveTerm). u ≡ get_or c.args.terms.now i u) (sym same) c.term-item.is in
     let within = subst (λ (u : PositiveTerm). (1 ≤ u.lit.var) × (u.lit.var ≤ length c.args.values.now)) (sym read) (c.requires.variables i t c.loop-term-test.true) in
     let can = can-reprice (get_or c.loop-term.costs (literal_place t.lit) 0) (get_or c.args.costs.now (literal_place t.lit) 0) c.args.terms.now i t c.args.from c.args.to c.loop-term-test.true read
     (c.loop-term.invariant.each t.lit within.0 within.1) (c.requires.enough t.lit within.0 within.1) (c.requires.fits t.lit within.0 within.1) in

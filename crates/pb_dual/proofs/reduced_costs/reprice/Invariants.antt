@@ -6,7 +6,7 @@ use Rattle.pb_dual.specs.ReducedCosts.{parts}
 use Rattle.pb_dual.proofs.reduced_costs.reprice.Given as goal
 
 abbrev pub invariant-loop-term : goal.invariant-loop-term
-invariant-loop-term l = record {
+invariant-loop-term g l = record {
   count : length l.costs ≡ length l.initial.costs;
   small : (k : ℕ) → get_or l.costs k 0 < 2 ^ 64;
   each : (m : Literal) → 1 ≤ m.var → m.var ≤ length l.values → get_or l.costs (literal_place m) 0 + l.to * weight_of m (take l.term-index l.terms) ≡ get_or l.initial.costs (literal_place m) 0 + l.from * weight_of m (take l.term-index l.terms);

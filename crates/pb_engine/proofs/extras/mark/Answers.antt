@@ -8,7 +8,7 @@ use Rattle.pb_engine.proofs.extras.mark.Goals as goal
 
 pub mark_items-requires : goal.mark_items-requires
 mark_items-requires g c = record {
-  variables = subst (λ (ts : List PositiveTerm). All (λ (t : PositiveTerm). (1 ≤ t.lit.var) × (t.lit.var ≤ c.args.slacks.now.vars)) ts) (sym (map-id c.in-Weighted.terms.now)) (subst (λ (r : RowTerms). All (λ (t : PositiveTerm). (1 ≤ t.lit.var) × (t.lit.var ≤ c.args.slacks.now.vars)) (terms_in r)) c.in-Weighted.is c.requires.variables);
+  variables = subst (λ (ts : List PositiveTerm). All (λ (t : PositiveTerm). (1 ≤ t.lit.var) × (t.lit.var ≤ c.args.slacks.now.vars)) ts) (sym (map-id c.in-Weighted.terms.now)) (subst (λ (r : RowTerms _). All (λ (t : PositiveTerm). (1 ≤ t.lit.var) × (t.lit.var ≤ c.args.slacks.now.vars)) (terms_in r)) c.in-Weighted.is c.requires.variables);
   marks = c.requires.marks;
 }
 

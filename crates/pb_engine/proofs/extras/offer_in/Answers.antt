@@ -1,4 +1,4 @@
-use Rattle.std.proofs.Common.{◌≡◌, ◌<◌, ◌≤◌, ◌^◌, List, All, None, true, false, ap, sym, subst, ◌∙◌, sum_by}
+use Rattle.std.proofs.Common.{◌≡◌, ◌<◌, ◌≤◌, List, All, None, true, false, ap, sym, subst, ◌∙◌, sum_by}
 use Rattle.std.specs.Option.{ForSome}
 use Rattle.std.proofs.lemmas.List.{map-id}
 use Rattle.pb_normal.specs.declared.terms.PositiveTerm.{PositiveTerm}
@@ -12,9 +12,9 @@ pub offer_of_items-requires : goal.offer_of_items-requires
 offer_of_items-requires g c =
     let back = sym (map-id c.in-Weighted.terms.now) in
     record {
-      variables = subst (λ (ts : List PositiveTerm). All (λ (t : PositiveTerm). (1 ≤ t.lit.var) × (t.lit.var ≤ c.args.slacks.now.vars)) ts) back (subst (λ (r : RowTerms). All (λ (t : PositiveTerm). (1 ≤ t.lit.var) × (t.lit.var ≤ c.args.slacks.now.vars)) (terms_in r)) c.in-Weighted.is c.requires.variables);
+      variables = subst (λ (ts : List PositiveTerm). All (λ (t : PositiveTerm). (1 ≤ t.lit.var) × (t.lit.var ≤ c.args.slacks.now.vars)) ts) back (subst (λ (r : RowTerms _). All (λ (t : PositiveTerm). (1 ≤ t.lit.var) × (t.lit.var ≤ c.args.slacks.now.vars)) (terms_in r)) c.in-Weighted.is c.requires.variables);
       marks = c.requires.marks;
-      fits = subst (λ (ts : List PositiveTerm). sum_by (λ (t : PositiveTerm). t.coef) ts < g.C.Count.limit) back (subst (λ (r : RowTerms). sum_by (λ (t : PositiveTerm). t.coef) (terms_in r) < g.C.Count.limit) c.in-Weighted.is c.requires.fits);
+      fits = subst (λ (ts : List PositiveTerm). sum_by (λ (t : PositiveTerm). t.coef) ts < g.C.Count.limit) back (subst (λ (r : RowTerms _). sum_by (λ (t : PositiveTerm). t.coef) (terms_in r) < g.C.Count.limit) c.in-Weighted.is c.requires.fits);
     }
 
 pub returns-in-Weighted : goal.returns-in-Weighted

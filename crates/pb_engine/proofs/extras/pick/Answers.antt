@@ -1,4 +1,4 @@
-use Rattle.std.proofs.Common.{◌≡◌, ◌<◌, ◌≤◌, ℕ, List, Bool, false, [], length, get_or, take, cond, refl, ap, sym, subst, ◌∙◌, arith, sum_by}
+use Rattle.std.proofs.Common.{◌≡◌, ◌<◌, ℕ, List, Bool, false, [], length, get_or, take, cond, refl, ap, sym, subst, ◌∙◌, arith, sum_by}
 use Rattle.std.proofs.lemmas.List.{take_all}
 use Rattle.pb_inst.specs.Literal.{Literal}
 use Rattle.pb_normal.specs.declared.terms.PositiveTerm.{PositiveTerm}
@@ -9,7 +9,7 @@ use Rattle.pb_engine.specs.Offers.{Offer, offer_of, extra_in}
 use Rattle.pb_rows.specs.Tables.{terms_in}
 use Rattle.pb_trail.specs.Tracked.{Tracked}
 use Rattle.pb_engine.proofs.DisjointLemmas.{AreWithin}
-use Rattle.pb_rows.proofs.TallyLemmas.{is_zero-true, is_zero-false}
+use Rattle.pb_count.proofs.TallyLemmas.{is_zero-true, is_zero-false}
 use Rattle.pb_engine.proofs.OfferLemmas.{need-is, extra-is, extra-within, some-greatest, not_picked, is-picked}
 use Rattle.pb_engine.proofs.extras.pick.Goals as goal
 

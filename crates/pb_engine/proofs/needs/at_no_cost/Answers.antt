@@ -10,11 +10,11 @@ pub costless-requires : goal.costless-requires
 costless-requires g c =
     let back = sym (map-id c.in-Weighted.terms.now) in
     record {
-      variables = subst (λ (ts : List PositiveTerm). All (λ (t : PositiveTerm). t.lit.var ≤ c.args.tables.now.vars) ts) back (subst (λ (r : RowTerms). All (λ (t : PositiveTerm). t.lit.var ≤ c.args.tables.now.vars) (terms_in r)) c.in-Weighted.is c.requires.variables);
-      fits = subst (λ (ts : List PositiveTerm). sum_by (λ (t : PositiveTerm). t.coef) ts < g.C.Count.limit) back (subst (λ (r : RowTerms). sum_by (λ (t : PositiveTerm). t.coef) (terms_in r) < g.C.Count.limit) c.in-Weighted.is c.requires.fits);
+      variables = subst (λ (ts : List PositiveTerm). All (λ (t : PositiveTerm). t.lit.var ≤ c.args.tables.now.vars) ts) back (subst (λ (r : RowTerms _). All (λ (t : PositiveTerm). t.lit.var ≤ c.args.tables.now.vars) (terms_in r)) c.in-Weighted.is c.requires.variables);
+      fits = subst (λ (ts : List PositiveTerm). sum_by (λ (t : PositiveTerm). t.coef) ts < g.C.Count.limit) back (subst (λ (r : RowTerms _). sum_by (λ (t : PositiveTerm). t.coef) (terms_in r) < g.C.Count.limit) c.in-Weighted.is c.requires.fits);
     }
 
 pub returns-in-Weighted : goal.returns-in-Weighted
 returns-in-Weighted g c =
     let objective = c.args.tables.now.form.objective in
-    c.costless.ensures ∙ (ap (spare objective []) (map-id c.in-Weighted.terms.now) ∙ ap (λ (r : RowTerms). spare objective [] (terms_in r)) (sym c.in-Weighted.is))
+    c.costless.ensures ∙ (ap (spare objective []) (map-id c.in-Weighted.terms.now) ∙ ap (λ (r : RowTerms _). spare objective [] (terms_in r)) (sym c.in-Weighted.is))

@@ -3,7 +3,7 @@ use Rattle.std.proofs.lemmas.List.{length-map, get_or-map}
 use Rattle.pb_inst.specs.Literal.{Literal}
 use Rattle.pb_normal.specs.Literals.{weight_of}
 use Rattle.pb_normal.specs.declared.terms.PositiveTerm.{PositiveTerm}
-use Rattle.pb_rows.proofs.TallyLemmas.{is_zero-true, is_zero-false}
+use Rattle.pb_count.proofs.TallyLemmas.{is_zero-true, is_zero-false}
 use Rattle.pb_engine.proofs.SpareLemmas.{spare-more, spare-same, spare-within, spare-none}
 use Rattle.pb_engine.proofs.needs.costless.Goals as goal
 use Rattle.pb_engine.proofs.needs.costless.Goals.{then-is_zero, else-is_zero}

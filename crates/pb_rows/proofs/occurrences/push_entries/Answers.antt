@@ -20,8 +20,8 @@ loop-item-preserved g c =
     let front = entries_of_row c.args.row (map f (take i items)) in
     let at : PositiveTerm → Entry = λ t. record { place = literal_place t.lit; occurrence = record { row = c.args.row; coef = t.coef } } in
     let place_is = c.place_of-place.ensures.place ∙ ap literal_place c.lit.ensures in
-    let coef_is = c.fitting-coef.ensures ∙ c.coef.ensures in
-    let one : ◌≡◌ {A = Entry} (record { place = c.place_of-place.result; occurrence = record { row = c.args.row; coef = c.fitting-coef.result } }) (at (f item)) = ap (λ (p : ℕ). let e : Entry = record { place = p; occurrence = record { row = c.args.row; coef = c.fitting-coef.result } } in e) place_is ∙ ap (λ (k : ℕ). let e : Entry = record { place = literal_place (f item).lit; occurrence = record { row = c.args.row; coef = k } } in e) coef_is in
+    let coef_is = c.coef-coef.ensures in
+    let one : ◌≡◌ {A = Entry} (record { place = c.place_of-place.result; occurrence = record { row = c.args.row; coef = c.coef-coef.result } }) (at (f item)) = ap (λ (p : ℕ). let e : Entry = record { place = p; occurrence = record { row = c.args.row; coef = c.coef-coef.result } } in e) place_is ∙ ap (λ (k : ℕ). let e : Entry = record { place = literal_place (f item).lit; occurrence = record { row = c.args.row; coef = k } } in e) coef_is in
     let read : f item ≡ f (get_or items i item) = ap f c.item-item.is in
     let last = at (f (get_or items i item)) in
     let low : 1 ≤ (f (get_or items i item)).lit.var = subst (λ (n : ℕ). 1 ≤ n) (ap (λ l. l.var) c.lit.ensures ∙ ap (λ (t : PositiveTerm). t.lit.var) read) c.place_of-place.ensures.within.0 in (

@@ -1,9 +1,10 @@
-use Rattle.std.proofs.Common.{◌≡◌, ℕ, ◌+◌, ◌<◌, List, length, get_or, None, ap, sym, subst, ◌∙◌, arith}
+use Rattle.std.proofs.Common.{◌++◌, ◌∷◌, [], ◌≡◌, ℕ, ◌+◌, ◌<◌, List, length, get_or, None, ap, sym, subst, ◌∙◌, arith}
+use Rattle.pb_inst.specs.Literal.{Literal}
 use Rattle.pb_normal.specs.declared.terms.PositiveTerm.{PositiveTerm}
 use Rattle.pb_rows.specs.Constraints.{row_at}
 use Rattle.pb_trail.specs.Trail.{value_on}
 use Rattle.pb_trail.specs.Tracked.{TrailState}
-use Rattle.pb_rows.proofs.TallyLemmas.{is_below-true, is_below-false}
+use Rattle.pb_count.proofs.TallyLemmas.{is_below-true, is_below-false}
 use Rattle.pb_trail.proofs.Looking.{IsLookedAt, looked_at_none, looked_at_stays, looked_at_push, looked_at_all, value_is_none, value_is_some}
 use Rattle.pb_trail.proofs.propagation.add_forced.Goals as goal
 use Rattle.pb_trail.proofs.propagation.add_forced.Goals.{then-is_below+then-is_none, else-is_below, else-is_below-via-then-is_below+else-is_none, else-is_below-via-else-is_below}
@@ -23,13 +24,13 @@ loop-term-preserved g c =
     let P : TrailState → Type 0 = λ k. IsLookedAt tables before k c.args.row c.args.slack (c.loop-term.term-index + 1) in
     elim c.if-is_below.branch [
       | then-is_below+then-is_none w ↦
-          (let unset : value_on now.lits t.lit.var ≡ None = value_is_none now.lits t.lit.var w.var.result w.value.result w.is_none.result w.var.ensures.value w.value.ensures w.is_none.ensures w.if-is_none.true in
-          subst P (sym w.trail-is) (looked_at_push tables before now w.push.new.self c.args.row c.args.slack c.loop-term.term-index t c.loop-term.invariant w.push.ensures.up_to_date w.push.ensures.pushed read c.requires.exists within c.requires.slack (omega (arith, is_below-true c.is_below.result c.args.slack c.fitting.result c.is_below.ensures w.if-is_below.true, c.fitting.ensures)) unset))
+          (let unset : value_on now.lits t.lit.var ≡ None = value_is_none now.lits t.lit.var w.var.result w.value.result w.is_none.result (w.var.ensures.value ∙ ap (λ (l : Literal). l.var) c.lit-lit.ensures) w.value.ensures w.is_none.ensures w.if-is_none.true in
+          subst P (sym w.trail-is) (looked_at_push tables before now w.push.new.self c.args.row c.args.slack c.loop-term.term-index t c.loop-term.invariant w.push.ensures.up_to_date (w.push.ensures.pushed ∙ ap (λ (l : Literal). now.lits ++ l ∷ []) c.lit-lit.ensures) read c.requires.exists within c.requires.slack (omega (arith, is_below-true c.is_below.result c.args.slack c.coef.result c.is_below.ensures w.if-is_below.true, c.coef.ensures)) unset))
       | else-is_below w ↦ elim w.else-is_below.branch [
         | else-is_below-via-then-is_below+else-is_none w' ↦
-            subst P (sym w.trail-is) (looked_at_stays tables before now c.args.row c.args.slack c.loop-term.term-index t c.loop-term.invariant read within (λ unset. absurd (value_is_some now.lits t.lit.var w'.var.result w'.value.result w'.is_none.result w'.var.ensures.value w'.value.ensures w'.is_none.ensures w'.if-is_none.false unset)))
+            subst P (sym w.trail-is) (looked_at_stays tables before now c.args.row c.args.slack c.loop-term.term-index t c.loop-term.invariant read within (λ unset. absurd (value_is_some now.lits t.lit.var w'.var.result w'.value.result w'.is_none.result (w'.var.ensures.value ∙ ap (λ (l : Literal). l.var) c.lit-lit.ensures) w'.value.ensures w'.is_none.ensures w'.if-is_none.false unset)))
         | else-is_below-via-else-is_below w' ↦
-            subst P (sym w.trail-is) (looked_at_stays tables before now c.args.row c.args.slack c.loop-term.term-index t c.loop-term.invariant read within (λ unset. omega (arith, is_below-false c.is_below.result c.args.slack c.fitting.result c.is_below.ensures w'.if-is_below.false, c.fitting.ensures)))
+            subst P (sym w.trail-is) (looked_at_stays tables before now c.args.row c.args.slack c.loop-term.term-index t c.loop-term.invariant read within (λ unset. omega (arith, is_below-false c.is_below.result c.args.slack c.coef.result c.is_below.ensures w'.if-is_below.false, c.coef.ensures)))
       ]
     ]
 

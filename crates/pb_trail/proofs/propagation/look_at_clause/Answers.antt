@@ -5,7 +5,7 @@ use Rattle.pb_rows.specs.Constraints.{row_at}
 use Rattle.pb_trail.specs.Tracked.{TrailState}
 use Rattle.pb_trail.specs.Propagation.{AddsForced, nothing}
 use Rattle.pb_rows.proofs.TablesLemmas.{units_at_most}
-use Rattle.pb_rows.proofs.TallyLemmas.{is_below-false}
+use Rattle.pb_count.proofs.TallyLemmas.{is_below-false}
 use Rattle.pb_trail.proofs.Looking.{settled_by_widest}
 use Rattle.pb_trail.proofs.propagation.look_at_clause.Goals as goal
 

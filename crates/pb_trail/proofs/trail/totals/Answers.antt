@@ -12,7 +12,7 @@ last_number xs x k h = get_or-append_right xs (x ∷ []) (length xs) k 0 refl (o
 pub loop-row-preserved : goal.loop-row-preserved
 loop-row-preserved g c =
     let before = c.loop-row.sums.items in
-    let items : c.push.new.self.items ≡ before ++ c.total.result ∷ [] = c.in_ok-push.ensures.items ∙ ap (λ (n : ℕ). before ++ n ∷ []) c.fitting.ensures in
+    let items : c.push.new.self.items ≡ before ++ c.total.result ∷ [] = c.in_ok-push.ensures.items in
     let total : c.total.result ≡ reachable [] (row_at c.args.tables.now.rows c.loop-row.row).terms = c.total.ensures.value ∙ sym (reachable-nil (row_at c.args.tables.now.rows c.loop-row.row).terms) in (
       omega (arith, ap (λ (xs : List ℕ). length xs) items, length-append before (c.total.result ∷ []), c.loop-row.invariant.0),
       λ r h. elim (cases_lt r c.loop-row.row) [

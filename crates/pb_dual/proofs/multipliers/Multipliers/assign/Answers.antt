@@ -9,7 +9,7 @@ use Rattle.pb_dual.proofs.TrailLemmas.{kept_on}
 use Rattle.pb_dual.proofs.multipliers.Multipliers.assign.Goals as goal
 
 pub push_reserved-requires : goal.push_reserved-requires
-push_reserved-requires c =
+push_reserved-requires g c =
     let inside = c.self.inside in
     let vars_are = ap (λ (s : MultipliersState). s.form.vars) c.self.view_is in
     let free : value_on inside.lits.items c.args.lit.var ≡ None = subst (λ (s : MultipliersState). value_on s.trail c.args.lit.var ≡ None) (sym c.self.view_is) c.requires.no_value in
@@ -18,7 +18,7 @@ push_reserved-requires c =
     omega (arith, are.room)
 
 pub invariant_of-self : goal.invariant_of-self
-invariant_of-self c =
+invariant_of-self g c =
     let inside = c.self.inside in
     let l = c.args.lit in
     let old = inside.values.items in

@@ -5,7 +5,7 @@ use Rattle.pb_dual.proofs.FixLemmas.{forced_by}
 use Rattle.pb_dual.proofs.multipliers.Multipliers.fixed_literal.Goals as goal
 
 pub returns : goal.returns
-returns c =
+returns g c =
     let free = c.is_free.ensures c.if-not-is_free.false in
     let over : c.args.limit <ℤ c.bound_with.result = omega (arith, ints, c.if-bound_with-limit.false) in
     record {

@@ -11,10 +11,18 @@ use Rattle.pb_rows.proofs.IndexLemmas.{changed_in_place}
 use Rattle.pb_dual.specs.ReducedCosts.{promised, AreReducedCosts, parts}
 use Rattle.pb_dual.specs.Multipliers.{MultipliersState, IsWithinShare}
 use Rattle.pb_dual.proofs.SetLemmas.{can-set, costs-set, degrees-set, within-set, promised-small}
+use Rattle.pb_dual.proofs.RowTermLemmas.{degree-small, terms-small}
 use Rattle.pb_dual.proofs.multipliers.Multipliers.set.Goals as goal
 
+pub reprice-requires-clause-numbers : goal.reprice-requires-clause-numbers
+reprice-requires-clause-numbers g c =
+    let form = c.self.inside.form.now in
+    let row : c.args.row < length form.rows = subst (λ (m : MultipliersState). c.args.row < length m.form.rows) (sym c.self.view_is) c.requires.row in
+    let terms : (row_at form.rows c.args.row).terms ≡ c.terms.result.now = subst (λ found. IsSomeAnd found (λ (r : PositiveRow). r.terms ≡ c.terms.result.now)) (slice_get-get_or form.rows c.args.row (record { terms = []; degree = 0 }) row) c.terms.ensures in
+    terms-small form c.args.row c.terms.result.now c.vars-vars.ensures.normal row terms
+
 pub reprice-requires-clause-enough : goal.reprice-requires-clause-enough
-reprice-requires-clause-enough c = λ l low high.
+reprice-requires-clause-enough g c = λ l low high.
     let s = c.self.inside in
     let kept = c.self.invariant in
     let ys = s.multipliers.items in
@@ -31,7 +39,7 @@ reprice-requires-clause-enough c = λ l low high.
     omega (arith, can.0, can.1)
 
 pub reprice-requires-clause-fits : goal.reprice-requires-clause-fits
-reprice-requires-clause-fits c = λ l low high.
+reprice-requires-clause-fits g c = λ l low high.
     let s = c.self.inside in
     let kept = c.self.invariant in
     let ys = s.multipliers.items in
@@ -48,7 +56,7 @@ reprice-requires-clause-fits c = λ l low high.
     omega (arith, can.0, can.1)
 
 pub overflow_mul-self : goal.overflow_mul-self
-overflow_mul-self c =
+overflow_mul-self g c =
     let s = c.self.inside in
     let kept = c.self.invariant in
     let ys = s.multipliers.items in
@@ -56,16 +64,17 @@ overflow_mul-self c =
     let row : c.args.row < length form.rows = subst (λ (m : MultipliersState). c.args.row < length m.form.rows) (sym c.self.view_is) c.requires.row in
     let within : IsWithinShare form s.share c.args.row c.args.to = subst (λ (m : MultipliersState). IsWithinShare m.form m.share c.args.row c.args.to) (sym c.self.view_is) c.requires.within in
     let from : c.index-from.result.now ≡ get_or ys c.args.row 0 = get_or_read ys c.args.row c.index-from.result.now (omega (arith, row, kept.count)) c.index-from.ensures 0 in
-    let degree : (row_at form.rows c.args.row).degree ≡ c.degree-degree.result = subst (λ found. IsSomeAnd found (λ (r : PositiveRow). r.degree ≡ c.degree-degree.result)) (slice_get-get_or form.rows c.args.row (record { terms = []; degree = 0 }) row) c.degree-degree.ensures in
-    let product : c.index-from.result.now * c.degree-degree.result ≡ get_or ys c.args.row 0 * (row_at form.rows c.args.row).degree = ap (λ (n : ℕ). n * c.degree-degree.result) from ∙ ap (λ (n : ℕ). get_or ys c.args.row 0 * n) (sym degree) in
-    let new : c.args.to * c.degree-degree.result ≡ c.args.to * (row_at form.rows c.args.row).degree = ap (λ (n : ℕ). c.args.to * n) (sym degree) in
+    let told : (row_at form.rows c.args.row).degree ≡ c.degree.result = subst (λ found. IsSomeAnd found (λ (r : PositiveRow). r.degree ≡ c.degree.result)) (slice_get-get_or form.rows c.args.row (record { terms = []; degree = 0 }) row) c.degree.ensures in
+    let degree : (row_at form.rows c.args.row).degree ≡ c.number-degree.result = told ∙ sym (c.number-degree.ensures (omega (arith, told, degree-small form c.args.row c.vars-vars.ensures.normal row))) in
+    let product : c.index-from.result.now * c.number-degree.result ≡ get_or ys c.args.row 0 * (row_at form.rows c.args.row).degree = ap (λ (n : ℕ). n * c.number-degree.result) from ∙ ap (λ (n : ℕ). get_or ys c.args.row 0 * n) (sym degree) in
+    let new : c.args.to * c.number-degree.result ≡ c.args.to * (row_at form.rows c.args.row).degree = ap (λ (n : ℕ). c.args.to * n) (sym degree) in
     let degrees = degrees-set form ys c.args.row c.args.to kept.count row in
     let now = promised-small form ys s.share kept.count kept.shared kept.each_within in
     let then = promised-small form (set ys c.args.row c.args.to) s.share (length-set ys c.args.row c.args.to ∙ kept.count) kept.shared (within-set form ys s.share c.args.row c.args.to kept.count kept.each_within within) in
     omega (arith, degrees.0, degrees.1, now, then, kept.degrees_are)
 
 pub overflow_sub-self : goal.overflow_sub-self
-overflow_sub-self c =
+overflow_sub-self g c =
     let s = c.self.inside in
     let kept = c.self.invariant in
     let ys = s.multipliers.items in
@@ -73,16 +82,17 @@ overflow_sub-self c =
     let row : c.args.row < length form.rows = subst (λ (m : MultipliersState). c.args.row < length m.form.rows) (sym c.self.view_is) c.requires.row in
     let within : IsWithinShare form s.share c.args.row c.args.to = subst (λ (m : MultipliersState). IsWithinShare m.form m.share c.args.row c.args.to) (sym c.self.view_is) c.requires.within in
     let from : c.index-from.result.now ≡ get_or ys c.args.row 0 = get_or_read ys c.args.row c.index-from.result.now (omega (arith, row, kept.count)) c.index-from.ensures 0 in
-    let degree : (row_at form.rows c.args.row).degree ≡ c.degree-degree.result = subst (λ found. IsSomeAnd found (λ (r : PositiveRow). r.degree ≡ c.degree-degree.result)) (slice_get-get_or form.rows c.args.row (record { terms = []; degree = 0 }) row) c.degree-degree.ensures in
-    let product : c.index-from.result.now * c.degree-degree.result ≡ get_or ys c.args.row 0 * (row_at form.rows c.args.row).degree = ap (λ (n : ℕ). n * c.degree-degree.result) from ∙ ap (λ (n : ℕ). get_or ys c.args.row 0 * n) (sym degree) in
-    let new : c.args.to * c.degree-degree.result ≡ c.args.to * (row_at form.rows c.args.row).degree = ap (λ (n : ℕ). c.args.to * n) (sym degree) in
+    let told : (row_at form.rows c.args.row).degree ≡ c.degree.result = subst (λ found. IsSomeAnd found (λ (r : PositiveRow). r.degree ≡ c.degree.result)) (slice_get-get_or form.rows c.args.row (record { terms = []; degree = 0 }) row) c.degree.ensures in
+    let degree : (row_at form.rows c.args.row).degree ≡ c.number-degree.result = told ∙ sym (c.number-degree.ensures (omega (arith, told, degree-small form c.args.row c.vars-vars.ensures.normal row))) in
+    let product : c.index-from.result.now * c.number-degree.result ≡ get_or ys c.args.row 0 * (row_at form.rows c.args.row).degree = ap (λ (n : ℕ). n * c.number-degree.result) from ∙ ap (λ (n : ℕ). get_or ys c.args.row 0 * n) (sym degree) in
+    let new : c.args.to * c.number-degree.result ≡ c.args.to * (row_at form.rows c.args.row).degree = ap (λ (n : ℕ). c.args.to * n) (sym degree) in
     let degrees = degrees-set form ys c.args.row c.args.to kept.count row in
     let now = promised-small form ys s.share kept.count kept.shared kept.each_within in
     let then = promised-small form (set ys c.args.row c.args.to) s.share (length-set ys c.args.row c.args.to ∙ kept.count) kept.shared (within-set form ys s.share c.args.row c.args.to kept.count kept.each_within within) in
     omega (arith, degrees.0, degrees.1, now, then, kept.degrees_are)
 
 pub overflow_mul-self-2 : goal.overflow_mul-self-2
-overflow_mul-self-2 c =
+overflow_mul-self-2 g c =
     let s = c.self.inside in
     let kept = c.self.invariant in
     let ys = s.multipliers.items in
@@ -90,16 +100,17 @@ overflow_mul-self-2 c =
     let row : c.args.row < length form.rows = subst (λ (m : MultipliersState). c.args.row < length m.form.rows) (sym c.self.view_is) c.requires.row in
     let within : IsWithinShare form s.share c.args.row c.args.to = subst (λ (m : MultipliersState). IsWithinShare m.form m.share c.args.row c.args.to) (sym c.self.view_is) c.requires.within in
     let from : c.index-from.result.now ≡ get_or ys c.args.row 0 = get_or_read ys c.args.row c.index-from.result.now (omega (arith, row, kept.count)) c.index-from.ensures 0 in
-    let degree : (row_at form.rows c.args.row).degree ≡ c.degree-degree.result = subst (λ found. IsSomeAnd found (λ (r : PositiveRow). r.degree ≡ c.degree-degree.result)) (slice_get-get_or form.rows c.args.row (record { terms = []; degree = 0 }) row) c.degree-degree.ensures in
-    let product : c.index-from.result.now * c.degree-degree.result ≡ get_or ys c.args.row 0 * (row_at form.rows c.args.row).degree = ap (λ (n : ℕ). n * c.degree-degree.result) from ∙ ap (λ (n : ℕ). get_or ys c.args.row 0 * n) (sym degree) in
-    let new : c.args.to * c.degree-degree.result ≡ c.args.to * (row_at form.rows c.args.row).degree = ap (λ (n : ℕ). c.args.to * n) (sym degree) in
+    let told : (row_at form.rows c.args.row).degree ≡ c.degree.result = subst (λ found. IsSomeAnd found (λ (r : PositiveRow). r.degree ≡ c.degree.result)) (slice_get-get_or form.rows c.args.row (record { terms = []; degree = 0 }) row) c.degree.ensures in
+    let degree : (row_at form.rows c.args.row).degree ≡ c.number-degree.result = told ∙ sym (c.number-degree.ensures (omega (arith, told, degree-small form c.args.row c.vars-vars.ensures.normal row))) in
+    let product : c.index-from.result.now * c.number-degree.result ≡ get_or ys c.args.row 0 * (row_at form.rows c.args.row).degree = ap (λ (n : ℕ). n * c.number-degree.result) from ∙ ap (λ (n : ℕ). get_or ys c.args.row 0 * n) (sym degree) in
+    let new : c.args.to * c.number-degree.result ≡ c.args.to * (row_at form.rows c.args.row).degree = ap (λ (n : ℕ). c.args.to * n) (sym degree) in
     let degrees = degrees-set form ys c.args.row c.args.to kept.count row in
     let now = promised-small form ys s.share kept.count kept.shared kept.each_within in
     let then = promised-small form (set ys c.args.row c.args.to) s.share (length-set ys c.args.row c.args.to ∙ kept.count) kept.shared (within-set form ys s.share c.args.row c.args.to kept.count kept.each_within within) in
     omega (arith, degrees.0, degrees.1, now, then, kept.degrees_are)
 
 pub overflow_add-self : goal.overflow_add-self
-overflow_add-self c =
+overflow_add-self g c =
     let s = c.self.inside in
     let kept = c.self.invariant in
     let ys = s.multipliers.items in
@@ -107,16 +118,17 @@ overflow_add-self c =
     let row : c.args.row < length form.rows = subst (λ (m : MultipliersState). c.args.row < length m.form.rows) (sym c.self.view_is) c.requires.row in
     let within : IsWithinShare form s.share c.args.row c.args.to = subst (λ (m : MultipliersState). IsWithinShare m.form m.share c.args.row c.args.to) (sym c.self.view_is) c.requires.within in
     let from : c.index-from.result.now ≡ get_or ys c.args.row 0 = get_or_read ys c.args.row c.index-from.result.now (omega (arith, row, kept.count)) c.index-from.ensures 0 in
-    let degree : (row_at form.rows c.args.row).degree ≡ c.degree-degree.result = subst (λ found. IsSomeAnd found (λ (r : PositiveRow). r.degree ≡ c.degree-degree.result)) (slice_get-get_or form.rows c.args.row (record { terms = []; degree = 0 }) row) c.degree-degree.ensures in
-    let product : c.index-from.result.now * c.degree-degree.result ≡ get_or ys c.args.row 0 * (row_at form.rows c.args.row).degree = ap (λ (n : ℕ). n * c.degree-degree.result) from ∙ ap (λ (n : ℕ). get_or ys c.args.row 0 * n) (sym degree) in
-    let new : c.args.to * c.degree-degree.result ≡ c.args.to * (row_at form.rows c.args.row).degree = ap (λ (n : ℕ). c.args.to * n) (sym degree) in
+    let told : (row_at form.rows c.args.row).degree ≡ c.degree.result = subst (λ found. IsSomeAnd found (λ (r : PositiveRow). r.degree ≡ c.degree.result)) (slice_get-get_or form.rows c.args.row (record { terms = []; degree = 0 }) row) c.degree.ensures in
+    let degree : (row_at form.rows c.args.row).degree ≡ c.number-degree.result = told ∙ sym (c.number-degree.ensures (omega (arith, told, degree-small form c.args.row c.vars-vars.ensures.normal row))) in
+    let product : c.index-from.result.now * c.number-degree.result ≡ get_or ys c.args.row 0 * (row_at form.rows c.args.row).degree = ap (λ (n : ℕ). n * c.number-degree.result) from ∙ ap (λ (n : ℕ). get_or ys c.args.row 0 * n) (sym degree) in
+    let new : c.args.to * c.number-degree.result ≡ c.args.to * (row_at form.rows c.args.row).degree = ap (λ (n : ℕ). c.args.to * n) (sym degree) in
     let degrees = degrees-set form ys c.args.row c.args.to kept.count row in
     let now = promised-small form ys s.share kept.count kept.shared kept.each_within in
     let then = promised-small form (set ys c.args.row c.args.to) s.share (length-set ys c.args.row c.args.to ∙ kept.count) kept.shared (within-set form ys s.share c.args.row c.args.to kept.count kept.each_within within) in
     omega (arith, degrees.0, degrees.1, now, then, kept.degrees_are)
 
 pub invariant_of-self : goal.invariant_of-self
-invariant_of-self c =
+invariant_of-self g c =
     let s = c.self.inside in
     let kept = c.self.invariant in
     let ys = s.multipliers.items in
@@ -125,9 +137,10 @@ invariant_of-self c =
     let within : IsWithinShare form s.share c.args.row c.args.to = subst (λ (m : MultipliersState). IsWithinShare m.form m.share c.args.row c.args.to) (sym c.self.view_is) c.requires.within in
     let from : c.index-from.result.now ≡ get_or ys c.args.row 0 = get_or_read ys c.args.row c.index-from.result.now (omega (arith, row, kept.count)) c.index-from.ensures 0 in
     let terms : (row_at form.rows c.args.row).terms ≡ c.terms.result.now = subst (λ found. IsSomeAnd found (λ (r : PositiveRow). r.terms ≡ c.terms.result.now)) (slice_get-get_or form.rows c.args.row (record { terms = []; degree = 0 }) row) c.terms.ensures in
-    let degree : (row_at form.rows c.args.row).degree ≡ c.degree-degree.result = subst (λ found. IsSomeAnd found (λ (r : PositiveRow). r.degree ≡ c.degree-degree.result)) (slice_get-get_or form.rows c.args.row (record { terms = []; degree = 0 }) row) c.degree-degree.ensures in
-    let product : c.index-from.result.now * c.degree-degree.result ≡ get_or ys c.args.row 0 * (row_at form.rows c.args.row).degree = ap (λ (n : ℕ). n * c.degree-degree.result) from ∙ ap (λ (n : ℕ). get_or ys c.args.row 0 * n) (sym degree) in
-    let new : c.args.to * c.degree-degree.result ≡ c.args.to * (row_at form.rows c.args.row).degree = ap (λ (n : ℕ). c.args.to * n) (sym degree) in
+    let told : (row_at form.rows c.args.row).degree ≡ c.degree.result = subst (λ found. IsSomeAnd found (λ (r : PositiveRow). r.degree ≡ c.degree.result)) (slice_get-get_or form.rows c.args.row (record { terms = []; degree = 0 }) row) c.degree.ensures in
+    let degree : (row_at form.rows c.args.row).degree ≡ c.number-degree.result = told ∙ sym (c.number-degree.ensures (omega (arith, told, degree-small form c.args.row c.vars-vars.ensures.normal row))) in
+    let product : c.index-from.result.now * c.number-degree.result ≡ get_or ys c.args.row 0 * (row_at form.rows c.args.row).degree = ap (λ (n : ℕ). n * c.number-degree.result) from ∙ ap (λ (n : ℕ). get_or ys c.args.row 0 * n) (sym degree) in
+    let new : c.args.to * c.number-degree.result ≡ c.args.to * (row_at form.rows c.args.row).degree = ap (λ (n : ℕ). c.args.to * n) (sym degree) in
     let degrees = degrees-set form ys c.args.row c.args.to kept.count row in
     let now = promised-small form ys s.share kept.count kept.shared kept.each_within in
     let then = promised-small form (set ys c.args.row c.args.to) s.share (length-set ys c.args.row c.args.to ∙ kept.count) kept.shared (within-set form ys s.share c.args.row c.args.to kept.count kept.each_within within) in
@@ -148,7 +161,7 @@ invariant_of-self c =
       shared = kept.shared;
       count = length-set ys c.args.row c.args.to ∙ kept.count;
       each_within = within-set form ys s.share c.args.row c.args.to kept.count kept.each_within within;
-      degrees_are = (let sum : s.degrees - c.index-from.result.now * c.degree-degree.result + c.args.to * c.degree-degree.result ≡ promised (set ys c.args.row c.args.to) form.rows = omega (arith, degrees.0, degrees.1, kept.degrees_are) in sum);
+      degrees_are = (let sum : s.degrees - c.index-from.result.now * c.number-degree.result + c.args.to * c.number-degree.result ≡ promised (set ys c.args.row c.args.to) form.rows = omega (arith, degrees.0, degrees.1, kept.degrees_are) in sum);
       costs_are = subst (λ (xs : List ℕ). AreReducedCosts s.scale form (set ys c.args.row c.args.to) xs) (sym back) costs;
       vars = kept.vars;
       values_are = kept.values_are;

@@ -6,7 +6,7 @@ use Rattle.pb_dual.specs.Multipliers.{MultipliersState, IsWithinShare}
 use Rattle.pb_dual.proofs.multipliers.Multipliers.shift.Goals as goal
 
 pub invariant_of-self : goal.invariant_of-self
-invariant_of-self c =
+invariant_of-self g c =
     let s = c.self.inside in
     let kept = c.self.invariant in
     let form = s.form.now in

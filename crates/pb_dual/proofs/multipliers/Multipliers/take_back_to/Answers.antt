@@ -6,7 +6,7 @@ use Rattle.pb_dual.proofs.UndoLemmas.{undone-further}
 use Rattle.pb_dual.proofs.multipliers.Multipliers.take_back_to.Goals as goal
 
 pub loop-self-preserved : goal.loop-self-preserved
-loop-self-preserved c =
+loop-self-preserved g c =
     let old = c.loop-self.self in
     let n = c.args.count in
     let k = length old.changes - 1 in

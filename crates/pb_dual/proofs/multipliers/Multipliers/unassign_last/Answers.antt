@@ -7,7 +7,7 @@ use Rattle.pb_dual.proofs.TrailLemmas.{kept_on}
 use Rattle.pb_dual.proofs.multipliers.Multipliers.unassign_last.Goals as goal
 
 pub invariant_of-self : goal.invariant_of-self
-invariant_of-self c =
+invariant_of-self g c =
     let inside = c.self.inside in
     let l = c.in-Some.lit in
     let front = c.pop.new.self.items in

@@ -3,7 +3,7 @@ use Rattle.pb_dual.specs.Relaxation.{IsSameButShifted}
 use Rattle.pb_dual.proofs.relaxation.Relaxation.take_back_to.Given as goal
 
 abbrev pub invariant-loop : goal.invariant-loop
-invariant-loop l = IsSameButShifted l.initial.self l.self
+invariant-loop g l = IsSameButShifted l.initial.self l.self
 
 abbrev pub decreases-loop : goal.decreases-loop
-decreases-loop l = length l.self.changes
+decreases-loop g l = length l.self.changes

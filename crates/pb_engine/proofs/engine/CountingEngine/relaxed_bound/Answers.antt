@@ -1,6 +1,6 @@
-use Rattle.std.proofs.Common.{◌≡◌, List, ap, sym, subst, arith, inl, inr, ◌⊎◌, ◌∙◌, take, length}
+use Rattle.std.proofs.Common.{◌≡◌, List, ap, sym, subst, ◌⊎◌, ◌∙◌, take, length}
 use Rattle.std.specs.Prelude.{ℤ, ◌≤ℤ◌}
-use Rattle.std.proofs.lemmas.Int.{ints, to_z-of_z}
+use Rattle.std.proofs.lemmas.Int.{to_z-of_z}
 use mir.Val.{to_z, of_z}
 use Rattle.pb_inst.proofs.NumberWidth.{number_width}
 use Rattle.pb_normal.specs.NormalForm.{PositiveRow, NormalForm}

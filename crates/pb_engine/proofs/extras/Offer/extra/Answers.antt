@@ -1,7 +1,7 @@
 use Rattle.std.proofs.Common.{◌≢◌, ◌∙◌, ap, arith}
 use Rattle.pb_engine.specs.Offers.{Offer, extra_in}
 use Rattle.pb_engine.proofs.OfferLemmas.{one_is_enough}
-use Rattle.pb_rows.proofs.TallyLemmas.{is_zero-false, is_below-false}
+use Rattle.pb_count.proofs.TallyLemmas.{is_zero-false, is_below-false}
 use Rattle.pb_engine.proofs.extras.Offer.extra.Goals as goal
 
 pub returns-then-not-is_below : goal.returns-then-not-is_below

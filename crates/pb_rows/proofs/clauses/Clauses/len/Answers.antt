@@ -1,8 +1,9 @@
-use Rattle.std.proofs.Common.{All, subst}
-use Rattle.pb_normal.specs.NormalForm.{PositiveRow, HasSmallSums}
+use Rattle.std.proofs.Common.{◌^◌, All, subst}
+use Rattle.pb_normal.specs.NormalForm.{PositiveRow}
+use Rattle.pb_normal.specs.Fits.{HasSumsBelow}
 use Rattle.pb_rows.specs.Table.{ClauseRows}
 use Rattle.pb_rows.proofs.TablesLemmas.{small_clauses}
 use Rattle.pb_rows.proofs.clauses.Clauses.len.Goals as goal
 
 pub returns-clause-limits : goal.returns-clause-limits
-returns-clause-limits c = subst (λ (k : ClauseRows). All (λ (row : PositiveRow). HasSmallSums row) k.rows) c.self.view_is (small_clauses c.self.inside.clauses c.len.ensures.short)
+returns-clause-limits c = subst (λ (k : ClauseRows). All (λ (row : PositiveRow). HasSumsBelow (2 ^ 63) row) k.rows) c.self.view_is (small_clauses c.self.inside.clauses c.len.ensures.short)

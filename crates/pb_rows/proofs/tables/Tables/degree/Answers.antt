@@ -10,4 +10,4 @@ returns-else-row-len g c =
     let rows = c.self.inside.rows.now in
     let clauses = c.self.inside.clauses.now in
     let here : row_at c.args.self.now.rows c.args.row ≡ clause_row c.lits-lits.result.now = clause_at rows clauses c.args.self.now c.args.row c.len.result c.self.view_is c.len.ensures.value (omega arith) ∙ (ap (λ (n : ℕ). row_at clauses.rows (c.args.row - n)) (omega (arith, c.len.ensures.value, c.len-else-row-len.ensures.value)) ∙ c.lits-lits.ensures) in
-    sym (ap (λ (p : PositiveRow). p.degree) here)
+    c.of.ensures ∙ sym (ap (λ (p : PositiveRow). p.degree) here)

@@ -37,6 +37,10 @@ pub trait Count: Copy + Debug {
         requires { number < 2 * limit }
         ensures { count result ≡ number };
 
+    /// Whether the number is below the limit.
+    fn fits(number: Magnitude) -> bool
+        ensures { result ≡ nat_lt number limit };
+
     /// One of these, as a number, where it is one of 64 bits.
     fn number(self) -> Magnitude
         ensures { count self < 2 ^ 64 → result ≡ count self };
@@ -91,6 +95,10 @@ impl Count for u64 {
         number
     }
 
+    fn fits(number: Magnitude) -> bool {
+        number < Self::limit()
+    }
+
     fn number(self) -> Magnitude {
         self
     }
@@ -139,6 +147,10 @@ impl Count for u128 {
 
     fn fitting(number: Magnitude) -> u128 {
         number as u128
+    }
+
+    fn fits(number: Magnitude) -> bool {
+        u128::from(number) < Self::limit()
     }
 
     fn number(self) -> Magnitude {
