@@ -8,9 +8,9 @@ mod rounds;
 
 use crate::rounds::{Counts, Course, run};
 use anyhow::Context;
-use pb_engine::Engine;
+use pb_engine::{Count, Engine};
 use pb_inst::{Instance, Memory};
-use pb_normal::{Normal, normalise};
+use pb_normal::{EitherWidth, Form, Normal, normalise};
 use std::alloc::Global;
 use std::io::Read;
 use std::time::{Duration, Instant};
@@ -32,7 +32,7 @@ fn prepare(
 }
 
 /// The number of terms of all rows.
-fn terms(form: &Normal) -> u64 {
+fn terms<C: Count>(form: &Form<C>) -> u64 {
     let mut terms = 0_u64;
     for row in 0..form.len() {
         terms = terms.saturating_add(form.terms(row).len() as u64);
@@ -50,10 +50,10 @@ fn number(words: &mut env::Args) -> anyhow::Result<u32> {
 type Measured = (io::Result<Duration>, Counts);
 
 /// Builds an engine over the normal form, and runs the rounds.
-fn run_rounds(
+fn run_rounds<C: Count>(
     rt: &HostRuntime,
     start: &Instant,
-    form: &Normal,
+    form: &Form<C>,
     course: Course,
     rounds: u32,
 ) -> Result<Measured, Memory> {
@@ -63,7 +63,12 @@ fn run_rounds(
 }
 
 /// Runs the rounds on an engine over the normal form, and says what they did and how long that took.
-fn measure(rt: &HostRuntime, form: &Normal, course: Course, rounds: u32) -> anyhow::Result<()> {
+fn measure<C: Count>(
+    rt: &HostRuntime,
+    form: &Form<C>,
+    course: Course,
+    rounds: u32,
+) -> anyhow::Result<()> {
     println!(rt; "{} rows, {} terms", form.len(), terms(form))?;
     if rounds == 0 {
         return Ok(());
@@ -91,8 +96,11 @@ fn measure_case(
     rounds: u32,
     text: &[u8],
 ) -> anyhow::Result<()> {
-    let (form, course) = form_of(rt.alloc(), case, vars, text)?;
-    measure(rt, &form, course, rounds)
+    let (normal, course) = form_of(rt.alloc(), case, vars, text)?;
+    match normal.form() {
+        EitherWidth::Narrow(form) => measure(rt, form, course, rounds),
+        EitherWidth::Wide(form) => measure(rt, form, course, rounds),
+    }
 }
 
 fn main(rt: HostRuntime) -> anyhow::Result<()> {

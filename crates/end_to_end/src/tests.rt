@@ -14,6 +14,7 @@ mod optima;
 mod oracle;
 mod refused_memory;
 mod reports;
+mod scales;
 mod spoiled_texts;
 mod workers;
 

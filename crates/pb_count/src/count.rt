@@ -1,6 +1,6 @@
 //! The numbers in which an engine counts.
 
-ghost use Rattle.std.specs.Prelude.{◌≡◌, ℕ, ◌+◌, ◌-◌, ◌*◌, ◌^◌, ◌<◌, ◌≤◌, nat_lt, refl};
+ghost use Rattle.std.specs.Prelude.{◌≡◌, ℕ, ◌+◌, ◌-◌, ◌*◌, ◌/◌, ◌^◌, ◌<◌, ◌≤◌, min, nat_lt, refl};
 ghost use Rattle.std.specs.Int.{div_ceil};
 ghost use Rattle.std.proofs.Common.{arith};
 
@@ -24,9 +24,23 @@ pub trait Count: Copy + Debug {
 
     ghost limit_at_least: { 2 ^ 63 ≤ limit };
 
+    // Where a number may fall below 0 it is kept with this much more. As many such numbers as there are variables, each at
+    // most three times as great, have a sum of 128 bits.
+    ghost origin: { ℕ };
+
+    ghost origin_at_most: { 2 * origin ≤ limit };
+
+    ghost origin_small: { origin ≤ 2 ^ 105 };
+
+    ghost origin_at_least: { 2 ^ 62 ≤ origin };
+
     /// The limit.
     fn limit() -> Self
         ensures { count result ≡ limit };
+
+    /// What is added to numbers that may fall below 0.
+    fn origin() -> Self
+        ensures { count result ≡ origin };
 
     /// The number, as one of these. Every one of 64 bits is.
     fn of(number: u64) -> Self
@@ -41,9 +55,9 @@ pub trait Count: Copy + Debug {
     fn fits(number: Magnitude) -> bool
         ensures { result ≡ nat_lt number limit };
 
-    /// One of these, as a number, where it is one of 64 bits.
+    /// One of these, as a number.
     fn number(self) -> Magnitude
-        ensures { count self < 2 ^ 64 → result ≡ count self };
+        ensures { result ≡ count self };
 
     /// The sum.
     fn add(self, other: Self) -> Self
@@ -65,6 +79,27 @@ pub trait Count: Copy + Debug {
         requires { 0 < count other }
         ensures { count result ≡ div_ceil (count self) (count other) };
 
+    /// The quotient, rounded down.
+    fn div(self, other: Self) -> Self
+        requires { 0 < count other }
+        ensures { count result ≡ count self / count other };
+
+    /// The sum, cut to the range.
+    fn saturating_add(self, other: Self) -> Self
+        ensures { count result ≡ min (count self + count other) (2 * limit - 1) };
+
+    /// The product, cut to the range.
+    fn saturating_mul(self, other: Self) -> Self
+        ensures { count result ≡ min (count self * count other) (2 * limit - 1) };
+
+    /// The middle between the two, rounded down.
+    fn midpoint(self, other: Self) -> Self
+        ensures { count result ≡ (count self + count other) / 2 };
+
+    /// The number, cut to the range.
+    fn nearest(number: Magnitude) -> Self
+        ensures { count result ≡ min number (2 * limit - 1) };
+
     /// Whether this is less than the other.
     fn is_below(self, other: Self) -> bool
         ensures { result ≡ nat_lt (count self) (count other) };
@@ -83,8 +118,20 @@ impl Count for u64 {
 
     ghost limit_at_least = { omega arith };
 
+    ghost origin = { 2 ^ 62 };
+
+    ghost origin_at_most = { omega arith };
+
+    ghost origin_small = { omega arith };
+
+    ghost origin_at_least = { omega arith };
+
     fn limit() -> u64 {
         1 << 63
+    }
+
+    fn origin() -> u64 {
+        1 << 62
     }
 
     fn of(number: u64) -> u64 {
@@ -92,15 +139,15 @@ impl Count for u64 {
     }
 
     fn fitting(number: Magnitude) -> u64 {
-        number
+        number as u64
     }
 
     fn fits(number: Magnitude) -> bool {
-        number < Self::limit()
+        number < Magnitude::from(Self::limit())
     }
 
     fn number(self) -> Magnitude {
-        self
+        Magnitude::from(self)
     }
 
     fn add(self, other: u64) -> u64 {
@@ -117,6 +164,26 @@ impl Count for u64 {
 
     fn div_ceil(self, other: u64) -> u64 {
         self.div_ceil(other)
+    }
+
+    fn div(self, other: u64) -> u64 {
+        self / other
+    }
+
+    fn saturating_add(self, other: u64) -> u64 {
+        self.saturating_add(other)
+    }
+
+    fn saturating_mul(self, other: u64) -> u64 {
+        self.saturating_mul(other)
+    }
+
+    fn midpoint(self, other: u64) -> u64 {
+        self.midpoint(other)
+    }
+
+    fn nearest(number: Magnitude) -> u64 {
+        number.min(Magnitude::from(u64::MAX)) as u64
     }
 
     fn is_below(self, other: u64) -> bool {
@@ -137,8 +204,20 @@ impl Count for u128 {
 
     ghost limit_at_least = { omega arith };
 
+    ghost origin = { 2 ^ 105 };
+
+    ghost origin_at_most = { omega arith };
+
+    ghost origin_small = { omega arith };
+
+    ghost origin_at_least = { omega arith };
+
     fn limit() -> u128 {
         1 << 127
+    }
+
+    fn origin() -> u128 {
+        1 << 105
     }
 
     fn of(number: u64) -> u128 {
@@ -146,15 +225,15 @@ impl Count for u128 {
     }
 
     fn fitting(number: Magnitude) -> u128 {
-        number as u128
+        number
     }
 
     fn fits(number: Magnitude) -> bool {
-        u128::from(number) < Self::limit()
+        number < Self::limit()
     }
 
     fn number(self) -> Magnitude {
-        self.min(Magnitude::MAX as u128) as Magnitude
+        self
     }
 
     fn add(self, other: u128) -> u128 {
@@ -171,6 +250,26 @@ impl Count for u128 {
 
     fn div_ceil(self, other: u128) -> u128 {
         self.div_ceil(other)
+    }
+
+    fn div(self, other: u128) -> u128 {
+        self / other
+    }
+
+    fn saturating_add(self, other: u128) -> u128 {
+        self.saturating_add(other)
+    }
+
+    fn saturating_mul(self, other: u128) -> u128 {
+        self.saturating_mul(other)
+    }
+
+    fn midpoint(self, other: u128) -> u128 {
+        self.midpoint(other)
+    }
+
+    fn nearest(number: Magnitude) -> u128 {
+        number
     }
 
     fn is_below(self, other: u128) -> bool {

@@ -1,13 +1,13 @@
 //! A counter, which contracts see as a natural number.
 
-ghost use Rattle.std.specs.Prelude.{◌≡◌, ℕ, ◌+◌, ◌-◌, ◌*◌, ◌^◌, ◌<◌, ◌≤◌, nat_lt, nat_eq, max, min, ⊤};
+ghost use Rattle.std.specs.Prelude.{◌≡◌, ℕ, ◌+◌, ◌-◌, ◌*◌, ◌/◌, ◌^◌, ◌<◌, ◌≤◌, nat_lt, nat_eq, max, min, ⊤};
 ghost use Rattle.std.specs.Int.{div_ceil};
 
 use crate::count::Count;
 use pb_inst::Magnitude;
 use std::alloc::AllocError;
 use std::marker::Model;
-use std::ops::{Add, AddAssign, Mul, Sub, SubAssign};
+use std::ops::{Add, AddAssign, Div, Mul, Sub, SubAssign};
 
 /// A number of an engine's type of counters. Contracts see a natural number.
 #[derive(Copy, Debug)]
@@ -63,10 +63,26 @@ impl<C: Count> Tally<C> {
         Tally(C::limit())
     }
 
-    /// The number, where it is one of 64 bits.
+    /// What is added to numbers that may fall below 0.
+    #[inline]
+    pub fn origin() -> Tally<C>
+        ensures { result ≡ C.origin }
+    {
+        Tally(C::origin())
+    }
+
+    /// The number, cut to the range.
+    #[inline]
+    pub fn nearest(number: Magnitude) -> Tally<C>
+        ensures { result ≡ min number (2 * C.limit - 1) }
+    {
+        Tally(C::nearest(number))
+    }
+
+    /// The number.
     #[inline]
     pub fn number(self) -> Magnitude
-        ensures { self < 2 ^ 64 → result ≡ self }
+        ensures { result ≡ self }
     {
         self.0.number()
     }
@@ -116,6 +132,30 @@ impl<C: Count> Tally<C> {
         ensures { result ≡ div_ceil self other }
     {
         Tally(self.0.div_ceil(other.0))
+    }
+
+    /// The sum, cut to the range.
+    #[inline]
+    pub fn saturating_add(self, other: Tally<C>) -> Tally<C>
+        ensures { result ≡ min (self + other) (2 * C.limit - 1) }
+    {
+        Tally(self.0.saturating_add(other.0))
+    }
+
+    /// The product, cut to the range.
+    #[inline]
+    pub fn saturating_mul(self, other: Tally<C>) -> Tally<C>
+        ensures { result ≡ min (self * other) (2 * C.limit - 1) }
+    {
+        Tally(self.0.saturating_mul(other.0))
+    }
+
+    /// The middle between the two, rounded down.
+    #[inline]
+    pub fn midpoint(self, other: Tally<C>) -> Tally<C>
+        ensures { result ≡ (self + other) / 2 }
+    {
+        Tally(self.0.midpoint(other.0))
     }
 }
 
@@ -177,5 +217,18 @@ impl<C: Count> Mul for Tally<C> {
     #[inline]
     fn mul(self, other: Tally<C>) -> Tally<C> {
         Tally(self.0.mul(other.0))
+    }
+}
+
+impl<C: Count> Div for Tally<C> {
+    type Output = Tally<C>;
+
+    ghost can_div = { λ t u. 0 < u };
+
+    ghost div_gives = { λ t u quotient. quotient ≡ t / u };
+
+    #[inline]
+    fn div(self, other: Tally<C>) -> Tally<C> {
+        Tally(self.0.div(other.0))
     }
 }

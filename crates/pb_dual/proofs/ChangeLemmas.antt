@@ -1,8 +1,9 @@
 -- What one change of a reduced cost, of a value or of a multiplier does to the sums.
-use Rattle.std.proofs.Common.{◌≡◌, ◌≢◌, ℕ, zero, suc, ◌+◌, ◌-◌, ◌*◌, ◌^◌, ◌<◌, ◌≤◌, ◌⊎◌, List, [], ◌∷◌, length, get_or, set, refl, sym, ◌∙◌, ap, arith, Bool, true, false, cond, Option, Some, None, inl, inr, length-set, get_or-set_same, get_or-set_other, take, sum_by}
+use Rattle.std.proofs.Common.{◌≡◌, ◌≢◌, ℕ, zero, suc, ◌+◌, ◌-◌, ◌*◌, ◌^◌, ◌<◌, ◌≤◌, ◌⊎◌, List, [], ◌∷◌, length, get_or, set, refl, sym, ◌∙◌, ap, arith, Bool, true, false, cond, Option, Some, None, min, inl, inr, length-set, get_or-set_same, get_or-set_other, take, sum_by}
 use Rattle.std.proofs.lemmas.Bool.{cases_Bool, cases_eq, cases_lt, eq-eqb, eqb-true}
 use Rattle.std.proofs.lemmas.List.Sums.{sum_by_more, sum_by-take-le}
 use Rattle.std.proofs.lemmas.Nat.{mul-le}
+use Rattle.pb_inst.specs.declared.TheConstants.{MAX_VARS}
 use Rattle.pb_inst.specs.Literal.{Literal}
 use Rattle.pb_normal.specs.NormalForm.{PositiveRow}
 use Rattle.pb_normal.specs.declared.terms.PositiveTerm.{PositiveTerm}
@@ -11,7 +12,7 @@ use Rattle.pb_normal.proofs.LiteralLemmas.{same_literal-itself, same_literal-is}
 use Rattle.pb_rows.specs.Constraints.{row_at}
 use Rattle.pb_rows.specs.Index.{literal_place}
 use Rattle.pb_rows.proofs.EntryLemmas.{same_place-same_literal}
-use Rattle.pb_rows.proofs.CostLemmas.{weight_of-next}
+use Rattle.pb_rows.proofs.CostLemmas.{weight_of-next, place_below}
 use Rattle.pb_dual.proofs.SoundLemmas.{over-same}
 use Rattle.pb_dual.specs.ReducedCosts.{weighted, promised, cost_at, over_variables, part, parts}
 
@@ -70,18 +71,22 @@ parts-valued costs values v value low high =
     kept : (u : ℕ) → 1 ≤ u → u ≢ v → part costs u (get_or values (u - 1) None) ≡ part costs u (get_or (set values (v - 1) value) (u - 1) None)
     kept u from other = (let apart : u - 1 ≢ v - 1 = λ e. other (omega arith) in let same : get_or (set values (v - 1) value) (u - 1) None ≡ get_or values (u - 1) None = rw get_or-set_other refl in ap (part costs u) (sym same))
 
+-- what a variable adds is no more than a limit of its reduced costs
+pub part-most : (costs : List ℕ) (v most : ℕ) → ((b : Bool) → cost_at costs v b ≤ most) → (value : Option Bool) → part costs v value ≤ most
+part-most costs v most each (Some b) = each b
+part-most costs v most each None = lesser (cost_at costs v true) (cost_at costs v false) (each true)
+  where
+    lesser : (a b : ℕ) → a ≤ most → min a b ≤ most
+    lesser a b h = omega arith
+
 -- no part is more than all of them, and none is over a limit of the reduced costs
 pub part-within : (costs : List ℕ) (values : List (Option Bool)) (v : ℕ) → 1 ≤ v → v ≤ length values → part costs v (get_or values (v - 1) None) ≤ parts costs values
 unfolding parts
 part-within costs values v low high = over-has (λ u. part costs u (get_or values (u - 1) None)) (length values) v low high
 
-pub parts-most : (costs : List ℕ) (values : List (Option Bool)) (most : ℕ) → ((k : ℕ) → get_or costs k 0 ≤ most) → parts costs values ≤ length values * most
+pub parts-most : (costs : List ℕ) (values : List (Option Bool)) (most : ℕ) → ((l : Literal) → 1 ≤ l.var → l.var ≤ length values → get_or costs (literal_place l) 0 ≤ most) → parts costs values ≤ length values * most
 unfolding parts
-parts-most costs values most each = over-most (λ u. part costs u (get_or values (u - 1) None)) (length values) most (λ v low high. one v (get_or values (v - 1) None))
-  where
-    one : (v : ℕ) (value : Option Bool) → part costs v value ≤ most
-    one v (Some b) = each (literal_place (record { var = v; positive = b }))
-    one v None = omega (arith, each (literal_place (record { var = v; positive = true })))
+parts-most costs values most each = over-most (λ u. part costs u (get_or values (u - 1) None)) (length values) most (λ v low high. part-most costs v most (λ b. each (record { var = v; positive = b }) low high) (get_or values (v - 1) None))
 
 -- one row's multiplier is another
 pub weighted-set : (worth : PositiveRow → ℕ) (ys : List ℕ) (rows : List PositiveRow) (r y : ℕ) → length ys ≡ length rows → r < length rows → weighted worth (set ys r y) rows + get_or ys r 0 * worth (row_at rows r) ≡ weighted worth ys rows + y * worth (row_at rows r)
@@ -126,6 +131,20 @@ place-set costs l m n low from short =
           kept ∙ (let one : get_or costs (literal_place m) 0 ≡ cond (same_literal m l) n (get_or costs (literal_place m) 0) = rw other refl in one))
     ]
 
+-- what a variable adds once the cost of one of its literals is another is within the limit of all of them
+pub repriced-most : (costs : List ℕ) (vars : ℕ) (l : Literal) (n most : ℕ) → 1 ≤ l.var → l.var ≤ vars → length costs ≡ 2 * vars → n ≤ most → ((m : Literal) → 1 ≤ m.var → m.var ≤ vars → get_or costs (literal_place m) 0 ≤ most) → (value : Option Bool) → part (set costs (literal_place l) n) l.var value ≤ most
+repriced-most costs vars l n most low high count new each value = part-most (set costs (literal_place l) n) l.var most one value
+  where
+    either : (b : Bool) (x y : ℕ) → x ≤ most → y ≤ most → cond b x y ≤ most
+    either true x y first second = first
+    either false x y first second = second
+
+    one : (b : Bool) → cost_at (set costs (literal_place l) n) l.var b ≤ most
+    one b =
+        let m : Literal = record { var = l.var; positive = b } in
+        let placed = place-set costs l m n low low (omega (arith, count, place_below l vars low high)) in
+        omega (arith, placed, either (same_literal m l) n (get_or costs (literal_place m) 0) new (each m low high))
+
 -- the weight of a literal in the terms up to one of its own, and in all of them
 pub weight-own : (terms : List PositiveTerm) (i : ℕ) (t : PositiveTerm) → i < length terms → t ≡ get_or terms i t → (weight_of t.lit (take (i + 1) terms) ≡ weight_of t.lit (take i terms) + t.coef) × (weight_of t.lit (take (i + 1) terms) ≤ weight_of t.lit terms)
 unfolding weight_of
@@ -136,14 +155,28 @@ weight-own terms i t h read =
     (more ∙ ap (λ (n : ℕ). sum_by f (take i terms) + n) own, sum_by-take-le f terms (i + 1))
 
 -- so the row can be taken off the cost of its next term
-pub can-reprice : (costs before : ℕ) (terms : List PositiveTerm) (i : ℕ) (t : PositiveTerm) (from to : ℕ) → i < length terms → t ≡ get_or terms i t → costs + to * weight_of t.lit (take i terms) ≡ before + from * weight_of t.lit (take i terms) → to * weight_of t.lit terms ≤ before + from * weight_of t.lit terms → before + from * weight_of t.lit terms < 2 ^ 64 → (to * t.coef ≤ costs + from * t.coef) × (costs + from * t.coef < 2 ^ 64)
-can-reprice costs before terms i t from to h read is enough fits =
+pub can-reprice : (costs before : ℕ) (terms : List PositiveTerm) (i : ℕ) (t : PositiveTerm) (from to most : ℕ) → i < length terms → t ≡ get_or terms i t → costs + to * weight_of t.lit (take i terms) ≡ before + from * weight_of t.lit (take i terms) → to * weight_of t.lit terms ≤ before + from * weight_of t.lit terms → before + from * weight_of t.lit terms ≤ most → (to * t.coef ≤ costs + from * t.coef) × (costs + from * t.coef ≤ most)
+can-reprice costs before terms i t from to most h read is enough fits =
     let own = weight-own terms i t h read in
     let w = weight_of t.lit (take i terms) in
     let more = product_more before (w + t.coef) (weight_of t.lit terms) from to (omega arith) enough in
     let taken : to * (w + t.coef) ≡ to * w + to * t.coef = omega arith in
     let given : from * (w + t.coef) ≡ from * w + from * t.coef = omega arith in
     let whole = mul-le from (w + t.coef) from (weight_of t.lit terms) (omega arith) (omega arith) in
+    (omega arith, omega arith)
+
+-- a cost on the way is within the limit too
+pub now-most : (cost before : ℕ) (terms : List PositiveTerm) (i : ℕ) (l : Literal) (from to most : ℕ) → cost + to * weight_of l (take i terms) ≡ before + from * weight_of l (take i terms) → before + from * weight_of l terms ≤ most → cost ≤ most
+unfolding weight_of
+now-most cost before terms i l from to most is fits =
+    let f : PositiveTerm → ℕ = λ u. cond (same_literal l u.lit) u.coef 0 in
+    let some = mul-le from (sum_by f (take i terms)) from (sum_by f terms) (omega arith) (sum_by-take-le f terms i) in
+    omega arith
+
+-- the sum of all parts, and of one more, is a number of 128 bits
+pub sum-fits : (n origin sum more : ℕ) → n ≤ MAX_VARS → origin ≤ 2 ^ 105 → sum ≤ n * (3 * origin) → more ≤ 3 * origin → (sum ≤ 3 * 2 ^ 125) × (sum + more < 2 ^ 127)
+sum-fits n origin sum more few small most one =
+    let all = mul-le n (3 * origin) MAX_VARS (3 * 2 ^ 105) few (omega arith) in
     (omega arith, omega arith)
 
 -- one term further

@@ -9,20 +9,10 @@ use Rattle.pb_normal.specs.NormalForm.{PositiveRow, NormalForm, IsNormal, total_
 use Rattle.pb_normal.specs.Literals.{same_literal, weight_of}
 use Rattle.pb_rows.specs.Constraints.{row_at}
 use Rattle.pb_rows.specs.Index.{literal_place}
-use Rattle.pb_dual.specs.declared.TheConstants.{ZERO}
 use Rattle.pb_dual.specs.ReducedCosts.{promised, AreReducedCosts, IsReducedCost}
 use Rattle.pb_dual.specs.Multipliers.{IsWithinShare}
 use Rattle.pb_dual.proofs.ChangeLemmas.{weighted-set, promised-most}
-use Rattle.pb_dual.proofs.SoundLemmas.{taken-le-promised}
-
--- no literal costs more than all of them
-weight-most : (l : Literal) (terms : List PositiveTerm) → weight_of l terms ≤ total_coefficient terms
-unfolding weight_of
-weight-most l terms = sum_by-le-sum_by (λ (t : PositiveTerm). cond (same_literal l t.lit) t.coef 0) (λ (t : PositiveTerm). t.coef) terms (λ t. at_most (same_literal l t.lit) t.coef)
-  where
-    at_most : (b : Bool) (n : ℕ) → cond b n 0 ≤ n
-    at_most true n = omega arith
-    at_most false n = omega arith
+use Rattle.pb_dual.proofs.SoundLemmas.{taken-le-promised, weight-most}
 
 -- each row's multiplier is within its share, for all rows but one that is given another
 pub within-set : (form : NormalForm) (ys : List ℕ) (share row to : ℕ) → length ys ≡ length form.rows → ((r : ℕ) → r < length form.rows → IsWithinShare form share r (get_or ys r 0)) → IsWithinShare form share row to → (r : ℕ) → r < length form.rows → IsWithinShare form share r (get_or (set ys row to) r 0)
@@ -36,25 +26,25 @@ within-set form ys share row to same each new r h = elim (cases_eq r row) [
       subst (λ (n : ℕ). IsWithinShare form share r n) (sym kept) (each r h))
 ]
 
--- the degrees promise no more than 2^62
-pub promised-small : (form : NormalForm) (ys : List ℕ) (share : ℕ) → length ys ≡ length form.rows → share * length form.rows ≤ ZERO → ((r : ℕ) → r < length form.rows → IsWithinShare form share r (get_or ys r 0)) → promised ys form.rows ≤ ZERO
-promised-small form ys share same shared each = omega (arith, promised-most ys form.rows share same each)
+-- the degrees promise no more than the origin
+pub promised-small : (form : NormalForm) (ys : List ℕ) (origin share : ℕ) → length ys ≡ length form.rows → share * length form.rows ≤ origin → ((r : ℕ) → r < length form.rows → IsWithinShare form share r (get_or ys r 0)) → promised ys form.rows ≤ origin
+promised-small form ys origin share same shared each = omega (arith, promised-most ys form.rows share same each)
 
 -- a reduced cost, once the row's multiplier is another: what it takes, and that nothing leaves its range
-pub can-set : (scale : ℕ) (form : NormalForm) (ys : List ℕ) (share row to : ℕ) (l : Literal) (cost : ℕ) → IsNormal form → length ys ≡ length form.rows → share * length form.rows ≤ ZERO → ((r : ℕ) → r < length form.rows → IsWithinShare form share r (get_or ys r 0)) → scale * total_coefficient form.objective < 2 ^ 63 → row < length form.rows → IsWithinShare form share row to → IsReducedCost scale form ys l cost → (to * weight_of l (row_at form.rows row).terms ≤ cost + get_or ys row 0 * weight_of l (row_at form.rows row).terms) × (cost + get_or ys row 0 * weight_of l (row_at form.rows row).terms < 2 ^ 64)
-can-set scale form ys share row to l cost normal same shared each scaled exists new is =
+pub can-set : (origin scale : ℕ) (form : NormalForm) (ys : List ℕ) (share row to : ℕ) (l : Literal) (cost : ℕ) → IsNormal form → length ys ≡ length form.rows → share * length form.rows ≤ origin → ((r : ℕ) → r < length form.rows → IsWithinShare form share r (get_or ys r 0)) → scale * total_coefficient form.objective < 2 * origin → row < length form.rows → IsWithinShare form share row to → IsReducedCost origin scale form ys l cost → (to * weight_of l (row_at form.rows row).terms ≤ cost + get_or ys row 0 * weight_of l (row_at form.rows row).terms) × (cost + get_or ys row 0 * weight_of l (row_at form.rows row).terms ≤ 3 * origin)
+can-set origin scale form ys share row to l cost normal same shared each scaled exists new is =
     let w = weight_of l (row_at form.rows row).terms in
     let changed = weighted-set (λ (r : PositiveRow). weight_of l r.terms) ys form.rows row to same exists in
     let without = weighted-set (λ (r : PositiveRow). weight_of l r.terms) ys form.rows row 0 same exists in
     let count : length (set ys row to) ≡ length form.rows = length-set ys row to ∙ same in
-    let small = promised-small form (set ys row to) share count shared (within-set form ys share row to same each new) in
+    let small = promised-small form (set ys row to) origin share count shared (within-set form ys share row to same each new) in
     let taken = taken-le-promised form (set ys row to) l normal count in
     let dear = mul-le scale (weight_of l form.objective) scale (total_coefficient form.objective) (omega arith) (weight-most l form.objective) in
     (omega arith, omega arith)
 
 -- the reduced costs of the other multipliers
-pub costs-set : (scale : ℕ) (form : NormalForm) (ys costs new : List ℕ) (row to : ℕ) → length ys ≡ length form.rows → row < length form.rows → AreReducedCosts scale form ys costs → length new ≡ length costs → ((l : Literal) → 1 ≤ l.var → l.var ≤ form.vars → get_or new (literal_place l) 0 + to * weight_of l (row_at form.rows row).terms ≡ get_or costs (literal_place l) 0 + get_or ys row 0 * weight_of l (row_at form.rows row).terms) → AreReducedCosts scale form (set ys row to) new
-costs-set scale form ys costs new row to same exists are count each = record {
+pub costs-set : (origin scale : ℕ) (form : NormalForm) (ys costs new : List ℕ) (row to : ℕ) → length ys ≡ length form.rows → row < length form.rows → AreReducedCosts origin scale form ys costs → length new ≡ length costs → ((l : Literal) → 1 ≤ l.var → l.var ≤ form.vars → get_or new (literal_place l) 0 + to * weight_of l (row_at form.rows row).terms ≡ get_or costs (literal_place l) 0 + get_or ys row 0 * weight_of l (row_at form.rows row).terms) → AreReducedCosts origin scale form (set ys row to) new
+costs-set origin scale form ys costs new row to same exists are count each = record {
   count = omega (arith, count, are.count);
   each = λ l low high. omega (arith, each l low high, are.each l low high, weighted-set (λ (r : PositiveRow). weight_of l r.terms) ys form.rows row to same exists);
 }

@@ -2,19 +2,18 @@
 use Rattle.std.proofs.Common.{◌≡◌, ◌≢◌, ℕ, zero, suc, ◌+◌, ◌-◌, ◌*◌, ◌≤◌, List, [], ◌∷◌, length, get_or, refl, sym, ◌∙◌, ap, subst, arith, Bool, true, false, cond, All, inl, inr, Some, None}
 use Rattle.std.proofs.lemmas.Bool.{cases_Bool, cases_eq}
 use Rattle.std.proofs.lemmas.List.Elements.{All-head, All-tail}
-use Rattle.std.proofs.lemmas.List.Sums.{sum_by-cons}
+use Rattle.std.proofs.lemmas.List.Sums.{sum_by-cons, sum_by-le-sum_by}
 use Rattle.std.proofs.lemmas.Nat.{mul-le}
 use Rattle.pb_inst.specs.Literal.{Literal}
 use Rattle.pb_inst.specs.Meaning.{literal_value}
 use Rattle.pb_inst.specs.Cubes.{MakesTrue}
 use Rattle.pb_normal.specs.declared.terms.PositiveTerm.{PositiveTerm}
-use Rattle.pb_normal.specs.NormalForm.{PositiveRow, NormalForm, positive_value, MeetsRow, MeetsRows, IsNormal}
+use Rattle.pb_normal.specs.NormalForm.{PositiveRow, NormalForm, positive_value, total_coefficient, MeetsRow, MeetsRows, IsNormal}
 use Rattle.pb_normal.specs.Literals.{same_sign, same_literal, weight_of}
 use Rattle.pb_normal.proofs.LiteralLemmas.{lit, AreRising, AreAbove, rising-head, rising-tail, same_literal-is, same_literal-other, same_literal-at, weight_of-nil, weight_of-cons, weight_of-skip, weight_of-above}
 use Rattle.pb_trail.specs.Trail.{is_true}
 use Rattle.pb_trail.specs.Completion.{IsCompletion}
 use Rattle.pb_trail.proofs.CompletionLemmas.{true_in_completion}
-use Rattle.pb_dual.specs.declared.TheConstants.{ZERO}
 use Rattle.pb_dual.specs.ReducedCosts.{weighted, promised, taken_off, reduced_cost, over_variables, least_cost, part_on, parts_on}
 
 -- the sum over the variables keeps an order
@@ -129,6 +128,15 @@ promised-le-worth a (y ∷ ys) (row ∷ rows) meets =
     let here : y * row.degree ≤ y * value_in a row = mul-le y row.degree y (value_in a row) (omega arith) (All-head P row rows meets) in
     omega arith
 
+-- the weight of a literal is no more than all coefficients
+pub weight-most : (l : Literal) (terms : List PositiveTerm) → weight_of l terms ≤ total_coefficient terms
+unfolding weight_of
+weight-most l terms = sum_by-le-sum_by (λ (t : PositiveTerm). cond (same_literal l t.lit) t.coef 0) (λ (t : PositiveTerm). t.coef) terms (λ t. at_most (same_literal l t.lit) t.coef)
+  where
+    at_most : (b : Bool) (n : ℕ) → cond b n 0 ≤ n
+    at_most true n = omega arith
+    at_most false n = omega arith
+
 -- a literal comes once at most in terms over rising variables, so it weighs no more than the greatest coefficient
 pub weight-le : (l : Literal) (m : ℕ) (terms : List PositiveTerm) → AreRising terms → All (λ (t : PositiveTerm). t.coef ≤ m) terms → weight_of l terms ≤ m
 weight-le l m [] rising each = omega (arith, weight_of-nil l)
@@ -162,8 +170,8 @@ taken-le-promised form ys l normal count = taken-le ys form.rows l (λ k d h.
     weight-le l (get_or form.rows k d).degree (get_or form.rows k d).terms is.terms.rising is.clipped))
 
 -- a reduced cost is not cut off at 0
-pub shift_of : (scale : ℕ) (form : NormalForm) (ys : List ℕ) (l : Literal) → IsNormal form → length ys ≡ length form.rows → promised ys form.rows ≤ ZERO → reduced_cost scale form ys l + taken_off ys form.rows l ≡ ZERO + scale * weight_of l form.objective
-shift_of scale form ys l normal count fits = apart (ZERO + scale * weight_of l form.objective) (taken_off ys form.rows l) (low ZERO (scale * weight_of l form.objective) (taken_off ys form.rows l) (promised ys form.rows) (taken-le-promised form ys l normal count) fits)
+pub shift_of : (origin scale : ℕ) (form : NormalForm) (ys : List ℕ) (l : Literal) → IsNormal form → length ys ≡ length form.rows → promised ys form.rows ≤ origin → reduced_cost origin scale form ys l + taken_off ys form.rows l ≡ origin + scale * weight_of l form.objective
+shift_of origin scale form ys l normal count fits = apart (origin + scale * weight_of l form.objective) (taken_off ys form.rows l) (low origin (scale * weight_of l form.objective) (taken_off ys form.rows l) (promised ys form.rows) (taken-le-promised form ys l normal count) fits)
   where
     apart : (m k : ℕ) → k ≤ m → (m - k) + k ≡ m
     apart m k h = omega arith
@@ -172,8 +180,8 @@ shift_of scale form ys l normal count fits = apart (ZERO + scale * weight_of l f
     low z c k p h fits = omega arith
 
 -- a variable adds no more than the reduced cost of its literal that is true
-pub part-le : (scale : ℕ) (form : NormalForm) (ys : List ℕ) (trail : List Literal) (a : List Bool) (v : ℕ) → MakesTrue a trail → part_on scale form ys trail v ≤ reduced_cost scale form ys (chosen a v)
-part-le scale form ys trail a v makes = by_values (λ (b : Bool). reduced_cost scale form ys (lit v b)) (is_true trail (lit v true)) (is_true trail (lit v false)) (get_or a (v - 1) false) (λ on. is_one (get_or a (v - 1) false) (true_in_completion a trail (lit v true) makes on)) (λ on. is_nought (get_or a (v - 1) false) (true_in_completion a trail (lit v false) makes on))
+pub part-le : (origin scale : ℕ) (form : NormalForm) (ys : List ℕ) (trail : List Literal) (a : List Bool) (v : ℕ) → MakesTrue a trail → part_on origin scale form ys trail v ≤ reduced_cost origin scale form ys (chosen a v)
+part-le origin scale form ys trail a v makes = by_values (λ (b : Bool). reduced_cost origin scale form ys (lit v b)) (is_true trail (lit v true)) (is_true trail (lit v false)) (get_or a (v - 1) false) (λ on. is_one (get_or a (v - 1) false) (true_in_completion a trail (lit v true) makes on)) (λ on. is_nought (get_or a (v - 1) false) (true_in_completion a trail (lit v false) makes on))
   where
     is_one : (b : Bool) → ◌≡◌ {A = ℕ} (cond b 1 0) 1 → b ≡ true
     is_one true e = refl
@@ -192,28 +200,28 @@ part-le scale form ys trail a v makes = by_values (λ (b : Bool). reduced_cost s
     by_values cost false false false one nought = omega arith
 
 -- the reduced costs of the chosen literals and what the rows are worth are the scaled cost
-pub over-reduced : (scale : ℕ) (form : NormalForm) (ys : List ℕ) (a : List Bool) → IsNormal form → length ys ≡ length form.rows → promised ys form.rows ≤ ZERO → over_variables (λ v. reduced_cost scale form ys (chosen a v)) form.vars + weighted (value_in a) ys form.rows ≡ form.vars * ZERO + scale * positive_value a form.objective
-over-reduced scale form ys a normal count fits =
+pub over-reduced : (origin scale : ℕ) (form : NormalForm) (ys : List ℕ) (a : List Bool) → IsNormal form → length ys ≡ length form.rows → promised ys form.rows ≤ origin → over_variables (λ v. reduced_cost origin scale form ys (chosen a v)) form.vars + weighted (value_in a) ys form.rows ≡ form.vars * origin + scale * positive_value a form.objective
+over-reduced origin scale form ys a normal count fits =
     let n = form.vars in
-    let left : ℕ → ℕ = λ v. reduced_cost scale form ys (chosen a v) in
+    let left : ℕ → ℕ = λ v. reduced_cost origin scale form ys (chosen a v) in
     let taken : ℕ → ℕ = λ v. taken_off ys form.rows (chosen a v) in
     let weights : ℕ → ℕ = λ v. weight_of (chosen a v) form.objective in
     let worth : over_variables taken n ≡ weighted (value_in a) ys form.rows = over-taken a n ys form.rows (λ k d h. (normal.shape.rows k d h).terms.variables) in
     let both : over_variables (λ v. left v + taken v) n ≡ over_variables left n + over_variables taken n = over-add left taken n in
-    let same : over_variables (λ v. left v + taken v) n ≡ over_variables (λ v. ZERO + scale * weights v) n = over-same (λ v. left v + taken v) (λ v. ZERO + scale * weights v) n (λ v low high. shift_of scale form ys (chosen a v) normal count fits) in
+    let same : over_variables (λ v. left v + taken v) n ≡ over_variables (λ v. origin + scale * weights v) n = over-same (λ v. left v + taken v) (λ v. origin + scale * weights v) n (λ v low high. shift_of origin scale form ys (chosen a v) normal count fits) in
     let costs : over_variables (λ v. scale * weights v) n ≡ scale * positive_value a form.objective = over-scale scale weights n ∙ ap (λ (m : ℕ). scale * m) (over-weights a n form.objective normal.shape.objective.variables) in
-    let shifts : over_variables (λ v. ZERO) n ≡ n * ZERO = over-const ZERO n in
-    let apart : over_variables (λ v. ZERO + scale * weights v) n ≡ over_variables (λ v. ZERO) n + over_variables (λ v. scale * weights v) n = over-add (λ v. ZERO) (λ v. scale * weights v) n in
-    ap (λ (m : ℕ). over_variables left n + m) (sym worth) ∙ (sym both ∙ (same ∙ (apart ∙ (ap (λ (m : ℕ). m + over_variables (λ v. scale * weights v) n) shifts ∙ ap (λ (m : ℕ). n * ZERO + m) costs))))
+    let shifts : over_variables (λ v. origin) n ≡ n * origin = over-const origin n in
+    let apart : over_variables (λ v. origin + scale * weights v) n ≡ over_variables (λ v. origin) n + over_variables (λ v. scale * weights v) n = over-add (λ v. origin) (λ v. scale * weights v) n in
+    ap (λ (m : ℕ). over_variables left n + m) (sym worth) ∙ (sym both ∙ (same ∙ (apart ∙ (ap (λ (m : ℕ). m + over_variables (λ v. scale * weights v) n) shifts ∙ ap (λ (m : ℕ). n * origin + m) costs))))
 
 -- what degrees and variables promise is at most the scaled cost of every completion
-pub sound : (scale : ℕ) (form : NormalForm) (ys : List ℕ) (trail : List Literal) (a : List Bool) → IsNormal form → length ys ≡ length form.rows → promised ys form.rows ≤ ZERO → IsCompletion form.rows trail a → promised ys form.rows + parts_on scale form ys trail ≤ form.vars * ZERO + scale * positive_value a form.objective
+pub sound : (origin scale : ℕ) (form : NormalForm) (ys : List ℕ) (trail : List Literal) (a : List Bool) → IsNormal form → length ys ≡ length form.rows → promised ys form.rows ≤ origin → IsCompletion form.rows trail a → promised ys form.rows + parts_on origin scale form ys trail ≤ form.vars * origin + scale * positive_value a form.objective
 unfolding parts_on
-sound scale form ys trail a normal count fits whole =
-    add_up (promised ys form.rows) (weighted (value_in a) ys form.rows) (over_variables (part_on scale form ys trail) form.vars) (over_variables (λ v. reduced_cost scale form ys (chosen a v)) form.vars) (form.vars * ZERO + scale * positive_value a form.objective)
+sound origin scale form ys trail a normal count fits whole =
+    add_up (promised ys form.rows) (weighted (value_in a) ys form.rows) (over_variables (part_on origin scale form ys trail) form.vars) (over_variables (λ v. reduced_cost origin scale form ys (chosen a v)) form.vars) (form.vars * origin + scale * positive_value a form.objective)
     (promised-le-worth a ys form.rows whole.meets_rows)
-    (over-le (part_on scale form ys trail) (λ v. reduced_cost scale form ys (chosen a v)) form.vars (λ v low high. part-le scale form ys trail a v whole.makes_true))
-    (over-reduced scale form ys a normal count fits)
+    (over-le (part_on origin scale form ys trail) (λ v. reduced_cost origin scale form ys (chosen a v)) form.vars (λ v low high. part-le origin scale form ys trail a v whole.makes_true))
+    (over-reduced origin scale form ys a normal count fits)
   where
     add_up : (p w o r t : ℕ) → p ≤ w → o ≤ r → r + w ≡ t → p + o ≤ t
     add_up p w o r t low least total = omega arith

@@ -16,16 +16,16 @@ use Rattle.pb_inst.specs.Meaning.{literal_value}
 use Rattle.pb_normal.specs.declared.terms.PositiveTerm.{PositiveTerm}
 use Rattle.pb_normal.specs.NormalForm.{NormalForm, IsNormal, normal_cost, positive_value, total_coefficient}
 use Rattle.pb_normal.specs.Literals.{same_literal, weight_of}
+use Rattle.pb_rows.specs.Index.{literal_place}
 use Rattle.pb_trail.specs.Completion.{IsCompletion}
 use Rattle.pb_trail.specs.Tracked.{AreValues}
 use Rattle.pb_trail.specs.Trail.{value_on}
 use Rattle.pb_trail.proofs.TrailLemmas.{value_on-same, value_on-other}
-use Rattle.pb_dual.specs.declared.TheConstants.{ZERO}
-use Rattle.pb_dual.specs.declared.changes.Change.{Change}
+use Rattle.pb_dual.specs.Changes.{Change}
 use Rattle.pb_dual.specs.ReducedCosts.{promised, taken_off, reduced_cost, IsReducedCost, AreReducedCosts, cost_at, over_variables, least_cost, part, part_on, parts, parts_on}
 use Rattle.pb_dual.specs.Multipliers.{MultipliersState, bound_from, dual_bound, penalty, IsBelowCosts, IsBelowCostsWith, AreKept}
-use Rattle.pb_dual.proofs.SoundLemmas.{over-same, sound}
-use Rattle.pb_dual.proofs.ChangeLemmas.{over-changed, over-most, promised-most}
+use Rattle.pb_dual.proofs.SoundLemmas.{over-same, sound, weight-most}
+use Rattle.pb_dual.proofs.ChangeLemmas.{over-changed, over-most, promised-most, sum-fits}
 
 -- a quotient that is rounded up is no more than a number whose multiple is no less
 ceil_le : (n scale k : ℕ) → 1 ≤ scale → n ≤ scale * k → div_ceil n scale ≤ k
@@ -68,58 +68,49 @@ ceil_min n scale total low = elim (cases_lt n (scale * total)) [
     same : (a b : ℕ) → a ≤ b → b ≤ a → a ≡ b
     same a b h k = omega arith
 
--- the weight of a literal is no more than all coefficients
-weight-most : (l : Literal) (terms : List PositiveTerm) → weight_of l terms ≤ total_coefficient terms
-unfolding weight_of
-weight-most l terms = sum_by-le-sum_by (λ (t : PositiveTerm). cond (same_literal l t.lit) t.coef 0) (λ (t : PositiveTerm). t.coef) terms (λ t. at_most (same_literal l t.lit) t.coef)
-  where
-    at_most : (b : Bool) (n : ℕ) → cond b n 0 ≤ n
-    at_most true n = omega arith
-    at_most false n = omega arith
-
--- reduced costs stay below 2^64
-reduced-most : (scale : ℕ) (form : NormalForm) (ys : List ℕ) (l : Literal) → scale * total_coefficient form.objective < 2 ^ 63 → reduced_cost scale form ys l ≤ 2 ^ 64
-reduced-most scale form ys l scaled =
+-- reduced costs are at most three times the origin
+reduced-most : (origin scale : ℕ) (form : NormalForm) (ys : List ℕ) (l : Literal) → scale * total_coefficient form.objective < 2 * origin → reduced_cost origin scale form ys l ≤ 3 * origin
+reduced-most origin scale form ys l scaled =
     let weight = mul-le scale (weight_of l form.objective) scale (total_coefficient form.objective) (omega arith) (weight-most l form.objective) in
     most (scale * weight_of l form.objective) (scale * total_coefficient form.objective) (taken_off ys form.rows l) weight scaled
   where
-    most : (w t k : ℕ) → w ≤ t → t < 2 ^ 63 → (ZERO + w) - k ≤ 2 ^ 64
+    most : (w t k : ℕ) → w ≤ t → t < 2 * origin → (origin + w) - k ≤ 3 * origin
     most w t k h scaled = omega arith
 
 -- so does what a variable adds
-part_on-most : (scale : ℕ) (form : NormalForm) (ys : List ℕ) (trail : List Literal) (v : ℕ) → scale * total_coefficient form.objective < 2 ^ 63 → part_on scale form ys trail v ≤ 2 ^ 64
-part_on-most scale form ys trail v scaled = least (value_on trail v)
+part_on-most : (origin scale : ℕ) (form : NormalForm) (ys : List ℕ) (trail : List Literal) (v : ℕ) → scale * total_coefficient form.objective < 2 * origin → part_on origin scale form ys trail v ≤ 3 * origin
+part_on-most origin scale form ys trail v scaled = least (value_on trail v)
   where
-    each : (b : Bool) → reduced_cost scale form ys (record { var = v; positive = b }) ≤ 2 ^ 64
-    each b = reduced-most scale form ys (record { var = v; positive = b }) scaled
+    each : (b : Bool) → reduced_cost origin scale form ys (record { var = v; positive = b }) ≤ 3 * origin
+    each b = reduced-most origin scale form ys (record { var = v; positive = b }) scaled
 
-    least : (value : Option Bool) → least_cost (λ positive. reduced_cost scale form ys (record { var = v; positive = positive })) value ≤ 2 ^ 64
+    least : (value : Option Bool) → least_cost (λ positive. reduced_cost origin scale form ys (record { var = v; positive = positive })) value ≤ 3 * origin
     least (Some b) = each b
-    least None = lesser (reduced_cost scale form ys (record { var = v; positive = true })) (reduced_cost scale form ys (record { var = v; positive = false })) (each true)
+    least None = lesser (reduced_cost origin scale form ys (record { var = v; positive = true })) (reduced_cost origin scale form ys (record { var = v; positive = false })) (each true)
       where
-        lesser : (a b : ℕ) → a ≤ 2 ^ 64 → min a b ≤ 2 ^ 64
+        lesser : (a b : ℕ) → a ≤ 3 * origin → min a b ≤ 3 * origin
         lesser a b h = omega arith
 
-parts_on-most : (scale : ℕ) (form : NormalForm) (ys : List ℕ) (trail : List Literal) → scale * total_coefficient form.objective < 2 ^ 63 → parts_on scale form ys trail ≤ form.vars * 2 ^ 64
+parts_on-most : (origin scale : ℕ) (form : NormalForm) (ys : List ℕ) (trail : List Literal) → scale * total_coefficient form.objective < 2 * origin → parts_on origin scale form ys trail ≤ form.vars * (3 * origin)
 unfolding parts_on
-parts_on-most scale form ys trail scaled = over-most (part_on scale form ys trail) form.vars (2 ^ 64) (λ v low high. part_on-most scale form ys trail v scaled)
+parts_on-most origin scale form ys trail scaled = over-most (part_on origin scale form ys trail) form.vars (3 * origin) (λ v low high. part_on-most origin scale form ys trail v scaled)
 
 -- the parts are those of the trail
-parts-is : (scale : ℕ) (form : NormalForm) (ys costs : List ℕ) (trail : List Literal) (values : List (Option Bool)) (capacity : ℕ) → AreReducedCosts scale form ys costs → AreValues values trail capacity → length values ≡ form.vars → parts costs values ≡ parts_on scale form ys trail
+parts-is : (origin scale : ℕ) (form : NormalForm) (ys costs : List ℕ) (trail : List Literal) (values : List (Option Bool)) (capacity : ℕ) → AreReducedCosts origin scale form ys costs → AreValues values trail capacity → length values ≡ form.vars → parts costs values ≡ parts_on origin scale form ys trail
 unfolding parts parts_on
-parts-is scale form ys costs trail values capacity costs_are values_are vars =
-    over-same (λ v. part costs v (get_or values (v - 1) None)) (part_on scale form ys trail) (length values) (λ v low high. one v low high (value_on trail v) (values_are.values v low high))
-    ∙ ap (over_variables (part_on scale form ys trail)) vars
+parts-is origin scale form ys costs trail values capacity costs_are values_are vars =
+    over-same (λ v. part costs v (get_or values (v - 1) None)) (part_on origin scale form ys trail) (length values) (λ v low high. one v low high (value_on trail v) (values_are.values v low high))
+    ∙ ap (over_variables (part_on origin scale form ys trail)) vars
   where
-    cost : (v : ℕ) → 1 ≤ v → v ≤ length values → (b : Bool) → cost_at costs v b ≡ reduced_cost scale form ys (record { var = v; positive = b })
-    cost v low high b = (let is : IsReducedCost scale form ys (record { var = v; positive = b }) (cost_at costs v b) = costs_are.each (record { var = v; positive = b }) low (omega arith) in omega arith)
+    cost : (v : ℕ) → 1 ≤ v → v ≤ length values → (b : Bool) → cost_at costs v b ≡ reduced_cost origin scale form ys (record { var = v; positive = b })
+    cost v low high b = (let is : IsReducedCost origin scale form ys (record { var = v; positive = b }) (cost_at costs v b) = costs_are.each (record { var = v; positive = b }) low (omega arith) in omega arith)
 
     least : (f g : Bool → ℕ) (value : Option Bool) → ((b : Bool) → f b ≡ g b) → least_cost f value ≡ least_cost g value
     least f g (Some b) same = same b
     least f g None same = rw (same true, same false) refl
 
-    one : (v : ℕ) → 1 ≤ v → v ≤ length values → (value : Option Bool) → get_or values (v - 1) None ≡ value → part costs v (get_or values (v - 1) None) ≡ least_cost (λ positive. reduced_cost scale form ys (record { var = v; positive = positive })) value
-    one v low high value is = ap (part costs v) is ∙ least (λ positive. cost_at costs v positive) (λ positive. reduced_cost scale form ys (record { var = v; positive = positive })) value (cost v low high)
+    one : (v : ℕ) → 1 ≤ v → v ≤ length values → (value : Option Bool) → get_or values (v - 1) None ≡ value → part costs v (get_or values (v - 1) None) ≡ least_cost (λ positive. reduced_cost origin scale form ys (record { var = v; positive = positive })) value
+    one v low high value is = ap (part costs v) is ∙ least (λ positive. cost_at costs v positive) (λ positive. reduced_cost origin scale form ys (record { var = v; positive = positive })) value (cost v low high)
 
 -- what a variable without a value adds is no more than the reduced cost of either literal
 least-le : (cost : Bool → ℕ) (b : Bool) → least_cost cost None ≤ cost b
@@ -127,56 +118,74 @@ least-le cost true = omega arith
 least-le cost false = omega arith
 
 -- a literal without a value adds its penalty by joining the trail
-parts_on-push : (scale : ℕ) (form : NormalForm) (ys : List ℕ) (trail : List Literal) (l : Literal) → 1 ≤ l.var → l.var ≤ form.vars → value_on trail l.var ≡ None → parts_on scale form ys (trail ++ l ∷ []) ≡ parts_on scale form ys trail + (reduced_cost scale form ys l - part_on scale form ys trail l.var)
+parts_on-push : (origin scale : ℕ) (form : NormalForm) (ys : List ℕ) (trail : List Literal) (l : Literal) → 1 ≤ l.var → l.var ≤ form.vars → value_on trail l.var ≡ None → parts_on origin scale form ys (trail ++ l ∷ []) ≡ parts_on origin scale form ys trail + (reduced_cost origin scale form ys l - part_on origin scale form ys trail l.var)
 unfolding parts_on
-parts_on-push scale form ys trail l low high free =
+parts_on-push origin scale form ys trail l low high free =
     let pushed = trail ++ l ∷ [] in
-    let cost : Bool → ℕ = λ positive. reduced_cost scale form ys (record { var = l.var; positive = positive }) in
-    let changed = over-changed (part_on scale form ys trail) (part_on scale form ys pushed) form.vars l.var low high (λ u from upto other. kept u other) in
-    let before : part_on scale form ys trail l.var ≡ least_cost cost None = ap (least_cost cost) free in
-    let after : part_on scale form ys pushed l.var ≡ reduced_cost scale form ys l = ap (least_cost cost) (value_on-same trail l free) in
-    add_up (over_variables (part_on scale form ys pushed) form.vars) (over_variables (part_on scale form ys trail) form.vars) (part_on scale form ys trail l.var) (part_on scale form ys pushed l.var) (reduced_cost scale form ys l) (least_cost cost None) changed before after (least-le cost l.positive)
+    let cost : Bool → ℕ = λ positive. reduced_cost origin scale form ys (record { var = l.var; positive = positive }) in
+    let changed = over-changed (part_on origin scale form ys trail) (part_on origin scale form ys pushed) form.vars l.var low high (λ u from upto other. kept u other) in
+    let before : part_on origin scale form ys trail l.var ≡ least_cost cost None = ap (least_cost cost) free in
+    let after : part_on origin scale form ys pushed l.var ≡ reduced_cost origin scale form ys l = ap (least_cost cost) (value_on-same trail l free) in
+    add_up (over_variables (part_on origin scale form ys pushed) form.vars) (over_variables (part_on origin scale form ys trail) form.vars) (part_on origin scale form ys trail l.var) (part_on origin scale form ys pushed l.var) (reduced_cost origin scale form ys l) (least_cost cost None) changed before after (least-le cost l.positive)
   where
-    kept : (u : ℕ) → u ≢ l.var → part_on scale form ys trail u ≡ part_on scale form ys (trail ++ l ∷ []) u
-    kept u other = ap (least_cost (λ positive. reduced_cost scale form ys (record { var = u; positive = positive }))) (sym (value_on-other trail l u other))
+    kept : (u : ℕ) → u ≢ l.var → part_on origin scale form ys trail u ≡ part_on origin scale form ys (trail ++ l ∷ []) u
+    kept u other = ap (least_cost (λ positive. reduced_cost origin scale form ys (record { var = u; positive = positive }))) (sym (value_on-other trail l u other))
 
     add_up : (g f p q r m : ℕ) → g + p ≡ f + q → p ≡ m → q ≡ r → m ≤ r → g ≡ f + (r - p)
     add_up g f p q r m changed before after least = omega arith
 
--- the promise of the degrees is no more than 2^62
-pub promised_fits : {form : NormalForm} {ys : List ℕ} {lits : List Literal} {changes : List Change} {scale total share : ℕ} {costs : List ℕ} {values : List (Option Bool)} {degrees sum capacity : ℕ} → AreKept form ys lits changes scale total share costs values degrees sum capacity → promised ys form.rows ≤ ZERO
+-- the promise of the degrees is no more than the origin
+pub promised_fits : {form : NormalForm} {ys : List ℕ} {lits : List Literal} {changes : List Change} {origin scale total share : ℕ} {costs : List ℕ} {values : List (Option Bool)} {degrees sum capacity : ℕ} → AreKept form ys lits changes origin scale total share costs values degrees sum capacity → promised ys form.rows ≤ origin
 promised_fits {form = form} {ys = ys} {share = share} kept =
     (let most = promised-most ys form.rows share kept.count kept.each_within in omega (arith, kept.shared))
 
 -- the sum that is kept is what the variables add under the trail
-pub sum_on : {form : NormalForm} {ys : List ℕ} {lits : List Literal} {changes : List Change} {scale total share : ℕ} {costs : List ℕ} {values : List (Option Bool)} {degrees sum capacity : ℕ} → AreKept form ys lits changes scale total share costs values degrees sum capacity → sum ≡ parts_on scale form ys lits
-sum_on {form = form} {ys = ys} {lits = lits} {scale = scale} {costs = costs} {values = values} {capacity = capacity} kept = kept.sum_is ∙ parts-is scale form ys costs lits values capacity kept.costs_are kept.values_are kept.vars
+pub sum_on : {form : NormalForm} {ys : List ℕ} {lits : List Literal} {changes : List Change} {origin scale total share : ℕ} {costs : List ℕ} {values : List (Option Bool)} {degrees sum capacity : ℕ} → AreKept form ys lits changes origin scale total share costs values degrees sum capacity → sum ≡ parts_on origin scale form ys lits
+sum_on {form = form} {ys = ys} {lits = lits} {origin = origin} {scale = scale} {costs = costs} {values = values} {capacity = capacity} kept = kept.sum_is ∙ parts-is origin scale form ys costs lits values capacity kept.costs_are kept.values_are kept.vars
 
--- all costs together, scaled, stay below 2^63
-scaled_total : {form : NormalForm} {ys : List ℕ} {lits : List Literal} {changes : List Change} {scale total share : ℕ} {costs : List ℕ} {values : List (Option Bool)} {degrees sum capacity : ℕ} → AreKept form ys lits changes scale total share costs values degrees sum capacity → scale * total_coefficient form.objective < 2 ^ 63
-scaled_total {scale = scale} kept = subst (λ (n : ℕ). scale * n < 2 ^ 63) kept.total_is kept.scaled
+-- all costs together, scaled, stay below twice the origin
+scaled_total : {form : NormalForm} {ys : List ℕ} {lits : List Literal} {changes : List Change} {origin scale total share : ℕ} {costs : List ℕ} {values : List (Option Bool)} {degrees sum capacity : ℕ} → AreKept form ys lits changes origin scale total share costs values degrees sum capacity → scale * total_coefficient form.objective < 2 * origin
+scaled_total {origin = origin} {scale = scale} kept = subst (λ (n : ℕ). scale * n < 2 * origin) kept.total_is kept.scaled
 
--- the sum stays far below 2^128
-pub sum-most : {form : NormalForm} {ys : List ℕ} {lits : List Literal} {changes : List Change} {scale total share : ℕ} {costs : List ℕ} {values : List (Option Bool)} {degrees sum capacity : ℕ} → AreKept form ys lits changes scale total share costs values degrees sum capacity → sum ≤ 2 ^ 96
-sum-most {form = form} {ys = ys} {lits = lits} {scale = scale} {values = values} kept =
-    let most = parts_on-most scale form ys lits (scaled_total kept) in
-    let few : length values < 2 ^ 32 = kept.values_are.small in
+-- the sum stays below 2^127, also with one more reduced cost
+pub sum-most : {form : NormalForm} {ys : List ℕ} {lits : List Literal} {changes : List Change} {origin scale total share : ℕ} {costs : List ℕ} {values : List (Option Bool)} {degrees sum capacity : ℕ} → AreKept form ys lits changes origin scale total share costs values degrees sum capacity → origin ≤ 2 ^ 105 → (more : ℕ) → more ≤ 3 * origin → sum + more < 2 ^ 127
+sum-most {form = form} {ys = ys} {lits = lits} {origin = origin} {scale = scale} {sum = sum} kept small more one =
+    let most = parts_on-most origin scale form ys lits (scaled_total kept) in
     let is = sum_on kept in
-    omega (arith, kept.vars)
+    (sum-fits form.vars origin sum more kept.few small (omega arith) one).1
+
+-- the penalty of a literal is no more than a reduced cost
+pub penalty-most : {form : NormalForm} {ys : List ℕ} {lits : List Literal} {changes : List Change} {origin scale total share : ℕ} {costs : List ℕ} {values : List (Option Bool)} {degrees sum capacity : ℕ} → AreKept form ys lits changes origin scale total share costs values degrees sum capacity → (l : Literal) → reduced_cost origin scale form ys l - part_on origin scale form ys lits l.var ≤ 3 * origin
+penalty-most {form = form} {ys = ys} {lits = lits} {origin = origin} {scale = scale} kept l = less (reduced_cost origin scale form ys l) (part_on origin scale form ys lits l.var) (reduced-most origin scale form ys l (scaled_total kept))
+  where
+    less : (a b : ℕ) → a ≤ 3 * origin → a - b ≤ 3 * origin
+    less a b h = omega arith
+
+-- what stands at a literal's place is no more than a reduced cost, so beside it the sum is a number of 128 bits
+pub cost-most : {form : NormalForm} {ys : List ℕ} {lits : List Literal} {changes : List Change} {origin scale total share : ℕ} {costs : List ℕ} {values : List (Option Bool)} {degrees sum capacity : ℕ} → AreKept form ys lits changes origin scale total share costs values degrees sum capacity → (l : Literal) → 1 ≤ l.var → l.var ≤ form.vars → get_or costs (literal_place l) 0 ≤ 3 * origin
+cost-most {form = form} {ys = ys} {origin = origin} {scale = scale} {costs = costs} kept l low high =
+    let is : IsReducedCost origin scale form ys l (get_or costs (literal_place l) 0) = kept.costs_are.each l low high in
+    let weight = mul-le scale (weight_of l form.objective) scale (total_coefficient form.objective) (omega arith) (weight-most l form.objective) in
+    omega (arith, scaled_total kept)
+
+pub revalue-room : {form : NormalForm} {ys : List ℕ} {lits : List Literal} {changes : List Change} {origin scale total share : ℕ} {costs : List ℕ} {values : List (Option Bool)} {degrees sum capacity : ℕ} → AreKept form ys lits changes origin scale total share costs values degrees sum capacity → origin ≤ 2 ^ 105 → (v : ℕ) → 1 ≤ v → v ≤ form.vars → (b : Bool) → parts costs values + cost_at costs v b < 2 ^ 128
+revalue-room {costs = costs} kept small v low high b =
+    let cost : cost_at costs v b ≤ 3 * _ = cost-most kept (record { var = v; positive = b }) low high in
+    omega (arith, sum-most kept small (cost_at costs v b) cost, kept.sum_is)
 
 -- what the code divides is what the bound says
-above-is : {form : NormalForm} {ys : List ℕ} {lits : List Literal} {changes : List Change} {scale total share : ℕ} {costs : List ℕ} {values : List (Option Bool)} {degrees sum capacity : ℕ} → AreKept form ys lits changes scale total share costs values degrees sum capacity → (n : ℕ) → div_ceil (min ((n + degrees) - length values * ZERO) (scale * total)) scale ≡ min (total_coefficient form.objective) (div_ceil ((promised ys form.rows + n) - form.vars * ZERO) scale)
-above-is {form = form} {ys = ys} {scale = scale} {total = total} {values = values} {degrees = degrees} kept n =
-    let above : (n + degrees) - length values * ZERO ≡ (promised ys form.rows + n) - form.vars * ZERO = omega (arith, kept.vars, kept.degrees_are) in
-    ceil_min ((n + degrees) - length values * ZERO) scale total kept.scale_from_one
-    ∙ (ap (λ (t : ℕ). min t (div_ceil ((n + degrees) - length values * ZERO) scale)) kept.total_is ∙ ap (λ (m : ℕ). min (total_coefficient form.objective) (div_ceil m scale)) above)
+above-is : {form : NormalForm} {ys : List ℕ} {lits : List Literal} {changes : List Change} {origin scale total share : ℕ} {costs : List ℕ} {values : List (Option Bool)} {degrees sum capacity : ℕ} → AreKept form ys lits changes origin scale total share costs values degrees sum capacity → (n : ℕ) → div_ceil (min ((n + degrees) - form.vars * origin) (scale * total)) scale ≡ min (total_coefficient form.objective) (div_ceil ((promised ys form.rows + n) - form.vars * origin) scale)
+above-is {form = form} {ys = ys} {origin = origin} {scale = scale} {total = total} {degrees = degrees} kept n =
+    let above : (n + degrees) - form.vars * origin ≡ (promised ys form.rows + n) - form.vars * origin = omega (arith, kept.degrees_are) in
+    ceil_min ((n + degrees) - form.vars * origin) scale total kept.scale_from_one
+    ∙ (ap (λ (t : ℕ). min t (div_ceil ((n + degrees) - form.vars * origin) scale)) kept.total_is ∙ ap (λ (m : ℕ). min (total_coefficient form.objective) (div_ceil m scale)) above)
 
 -- what is promised at most scales down to a bound
-below_cost : (s : MultipliersState) (n : ℕ) (a : List Bool) → 1 ≤ s.scale → promised s.multipliers s.form.rows + n ≤ s.form.vars * ZERO + s.scale * positive_value a s.form.objective → bound_from s n ≤ℤ normal_cost s.form a
+below_cost : (s : MultipliersState) (n : ℕ) (a : List Bool) → 1 ≤ s.scale → promised s.multipliers s.form.rows + n ≤ s.form.vars * s.origin + s.scale * positive_value a s.form.objective → bound_from s n ≤ℤ normal_cost s.form a
 below_cost s n a low most =
     let value = positive_value a s.form.objective in
-    order s.form.base (total_coefficient s.form.objective) (div_ceil ((promised s.multipliers s.form.rows + n) - s.form.vars * ZERO) s.scale) value
-    (ceil_le ((promised s.multipliers s.form.rows + n) - s.form.vars * ZERO) s.scale value low (less (promised s.multipliers s.form.rows + n) (s.form.vars * ZERO) (s.scale * value) most))
+    order s.form.base (total_coefficient s.form.objective) (div_ceil ((promised s.multipliers s.form.rows + n) - s.form.vars * s.origin) s.scale) value
+    (ceil_le ((promised s.multipliers s.form.rows + n) - s.form.vars * s.origin) s.scale value low (less (promised s.multipliers s.form.rows + n) (s.form.vars * s.origin) (s.scale * value) most))
   where
     less : (m z v : ℕ) → m ≤ z + v → m - z ≤ v
     less m z v h = omega arith
@@ -185,16 +194,16 @@ below_cost s n a low most =
     order base total up value h = omega (arith, ints)
 
 -- the bound holds for every completion
-pub bound_below : (s : MultipliersState) → IsNormal s.form → 1 ≤ s.scale → length s.multipliers ≡ length s.form.rows → promised s.multipliers s.form.rows ≤ ZERO → IsBelowCosts s.form s.trail (dual_bound s)
-bound_below s normal low count fits a whole = below_cost s (parts_on s.scale s.form s.multipliers s.trail) a low (sound s.scale s.form s.multipliers s.trail a normal count fits whole)
+pub bound_below : (s : MultipliersState) → IsNormal s.form → 1 ≤ s.scale → length s.multipliers ≡ length s.form.rows → promised s.multipliers s.form.rows ≤ s.origin → IsBelowCosts s.form s.trail (dual_bound s)
+bound_below s normal low count fits a whole = below_cost s (parts_on s.origin s.scale s.form s.multipliers s.trail) a low (sound s.origin s.scale s.form s.multipliers s.trail a normal count fits whole)
 
 -- with a literal more, for those that make it true
-pub bound_with_below : (s : MultipliersState) (l : Literal) → IsNormal s.form → 1 ≤ s.scale → length s.multipliers ≡ length s.form.rows → promised s.multipliers s.form.rows ≤ ZERO → 1 ≤ l.var → l.var ≤ s.form.vars → value_on s.trail l.var ≡ None → IsBelowCostsWith s.form s.trail l (bound_from s (parts_on s.scale s.form s.multipliers s.trail + penalty s l))
+pub bound_with_below : (s : MultipliersState) (l : Literal) → IsNormal s.form → 1 ≤ s.scale → length s.multipliers ≡ length s.form.rows → promised s.multipliers s.form.rows ≤ s.origin → 1 ≤ l.var → l.var ≤ s.form.vars → value_on s.trail l.var ≡ None → IsBelowCostsWith s.form s.trail l (bound_from s (parts_on s.origin s.scale s.form s.multipliers s.trail + penalty s l))
 bound_with_below s l normal low count fits from upto free a whole is =
     let more : IsCompletion s.form.rows (s.trail ++ l ∷ []) a = record { makes_true = All-push (λ (m : Literal). literal_value a m ≡ 1) s.trail l whole.makes_true is; meets_rows = whole.meets_rows } in
-    let holds = sound s.scale s.form s.multipliers (s.trail ++ l ∷ []) a normal count fits more in
-    let pushed = parts_on-push s.scale s.form s.multipliers s.trail l from upto free in
-    below_cost s (parts_on s.scale s.form s.multipliers s.trail + penalty s l) a low (subst (λ (n : ℕ). promised s.multipliers s.form.rows + n ≤ s.form.vars * ZERO + s.scale * positive_value a s.form.objective) pushed holds)
+    let holds = sound s.origin s.scale s.form s.multipliers (s.trail ++ l ∷ []) a normal count fits more in
+    let pushed = parts_on-push s.origin s.scale s.form s.multipliers s.trail l from upto free in
+    below_cost s (parts_on s.origin s.scale s.form s.multipliers s.trail + penalty s l) a low (subst (λ (n : ℕ). promised s.multipliers s.form.rows + n ≤ s.form.vars * s.origin + s.scale * positive_value a s.form.objective) pushed holds)
 
 -- the sum of the base and what is promised above it, as the code makes it
 base_and : (base : ℤ) (above total : ℕ) → unsigned_abs base ≤ SUM_BOUND → (base +ℤ pos total) ≤ℤ pos SUM_BOUND → above ≤ total → total ≤ SUM_BOUND → FitsSigned number_width (to_z number_width (of_z number_width base) +ℤ to_z number_width above) × (to_z number_width (of_z number_width (to_z number_width (of_z number_width base) +ℤ to_z number_width above)) ≡ base +ℤ pos above)
@@ -208,11 +217,11 @@ base_and base above total low high most small =
     in_range base above total low high most = omega (arith, ints)
 
 -- the bound, as the code makes it
-pub bound_is : {form : NormalForm} {ys : List ℕ} {lits : List Literal} {changes : List Change} {scale total share : ℕ} {costs : List ℕ} {values : List (Option Bool)} {degrees sum capacity : ℕ} → AreKept form ys lits changes scale total share costs values degrees sum capacity → IsNormal form → (base : ℤ) → base ≡ form.base → (n up : ℕ) → up ≡ div_ceil (min ((n + degrees) - length values * ZERO) (scale * total)) scale → FitsSigned number_width (to_z number_width (of_z number_width base) +ℤ to_z number_width up) × (to_z number_width (of_z number_width (to_z number_width (of_z number_width base) +ℤ to_z number_width up)) ≡ form.base +ℤ pos (min (total_coefficient form.objective) (div_ceil ((promised ys form.rows + n) - form.vars * ZERO) scale)))
-bound_is {form = form} {ys = ys} {scale = scale} kept normal base same n up is =
+pub bound_is : {form : NormalForm} {ys : List ℕ} {lits : List Literal} {changes : List Change} {origin scale total share : ℕ} {costs : List ℕ} {values : List (Option Bool)} {degrees sum capacity : ℕ} → AreKept form ys lits changes origin scale total share costs values degrees sum capacity → IsNormal form → (base : ℤ) → base ≡ form.base → (n up : ℕ) → up ≡ div_ceil (min ((n + degrees) - form.vars * origin) (scale * total)) scale → FitsSigned number_width (to_z number_width (of_z number_width base) +ℤ to_z number_width up) × (to_z number_width (of_z number_width (to_z number_width (of_z number_width base) +ℤ to_z number_width up)) ≡ form.base +ℤ pos (min (total_coefficient form.objective) (div_ceil ((promised ys form.rows + n) - form.vars * origin) scale)))
+bound_is {form = form} {ys = ys} {origin = origin} {scale = scale} kept normal base same n up is =
     let limits = normal.limits in
     let whole = total_coefficient form.objective in
-    let above = div_ceil ((promised ys form.rows + n) - form.vars * ZERO) scale in
+    let above = div_ceil ((promised ys form.rows + n) - form.vars * origin) scale in
     let up_is : up ≡ min whole above = is ∙ above-is kept n in
     let low : unsigned_abs base ≤ SUM_BOUND = subst (λ (z : ℤ). unsigned_abs z ≤ SUM_BOUND) (sym same) limits.lowest in
     let high : (base +ℤ pos whole) ≤ℤ pos SUM_BOUND = subst (λ (z : ℤ). (z +ℤ pos whole) ≤ℤ pos SUM_BOUND) (sym same) limits.highest in
@@ -223,12 +232,13 @@ bound_is {form = form} {ys = ys} {scale = scale} kept normal base same n up is =
     no_more up whole above is = omega arith
 
 -- another trail with its values and its sum
-pub kept_on : {form : NormalForm} {ys : List ℕ} {lits : List Literal} {changes : List Change} {scale total share : ℕ} {costs : List ℕ} {values : List (Option Bool)} {degrees sum capacity : ℕ} → AreKept form ys lits changes scale total share costs values degrees sum capacity → (new_lits : List Literal) (new_values : List (Option Bool)) (new_sum new_capacity : ℕ) → length new_values ≡ length values → AreValues new_values new_lits new_capacity → new_sum ≡ parts costs new_values → AreKept form ys new_lits changes scale total share costs new_values degrees new_sum new_capacity
+pub kept_on : {form : NormalForm} {ys : List ℕ} {lits : List Literal} {changes : List Change} {origin scale total share : ℕ} {costs : List ℕ} {values : List (Option Bool)} {degrees sum capacity : ℕ} → AreKept form ys lits changes origin scale total share costs values degrees sum capacity → (new_lits : List Literal) (new_values : List (Option Bool)) (new_sum new_capacity : ℕ) → length new_values ≡ length values → AreValues new_values new_lits new_capacity → new_sum ≡ parts costs new_values → AreKept form ys new_lits changes origin scale total share costs new_values degrees new_sum new_capacity
 kept_on kept new_lits new_values new_sum new_capacity same are is = record {
   scale_from_one = kept.scale_from_one;
   total_is = kept.total_is;
   scaled = kept.scaled;
   shared = kept.shared;
+  few = kept.few;
   count = kept.count;
   each_within = kept.each_within;
   degrees_are = kept.degrees_are;

@@ -1,7 +1,7 @@
 -- Taking back changes of multipliers, the last one first.
 use Rattle.std.proofs.Common.{◌≡◌, ℕ, ◌≤◌, List, [], ◌∷◌, ◌++◌, length, set, take, drop, refl, sym, ◌∙◌, ap, arith}
 use Rattle.std.proofs.lemmas.List.{take-append-drop, drop-append-le, length-take-le}
-use Rattle.pb_dual.specs.declared.changes.Change.{Change}
+use Rattle.pb_dual.specs.Changes.{Change}
 use Rattle.pb_dual.specs.Multipliers.{undone}
 
 undone-append : (before after : List Change) (ys : List ℕ) → undone (before ++ after) ys ≡ undone before (undone after ys)

@@ -1,6 +1,7 @@
 -- Multipliers for the rows of a normal form, and what they say of a trail's completions.
-use Rattle.std.specs.Prelude.{◌≡◌, ℕ, ◌+◌, ◌-◌, ◌*◌, ◌/◌, ◌^◌, ◌<◌, ◌≤◌, Bool, List, [], ◌∷◌, ◌++◌, Option, None, All, length, min, slice_index, slice_set, ℤ, pos, ◌+ℤ◌, ◌≤ℤ◌, int_lt, unsigned_abs, if◌then◌else◌}
+use Rattle.std.specs.Prelude.{◌≡◌, ℕ, ◌+◌, ◌-◌, ◌*◌, ◌/◌, ◌<◌, ◌≤◌, Bool, List, [], ◌∷◌, ◌++◌, Option, None, All, length, min, slice_index, slice_set, ℤ, pos, ◌+ℤ◌, ◌≤ℤ◌, int_lt, unsigned_abs, if◌then◌else◌}
 use Rattle.std.specs.Int.{div_ceil}
+use Rattle.pb_inst.specs.declared.TheConstants.{MAX_VARS}
 use Rattle.pb_inst.specs.Literal.{Literal}
 use Rattle.pb_inst.specs.Meaning.{literal_value}
 use Rattle.pb_normal.specs.NormalForm.{NormalForm, normal_cost, total_coefficient}
@@ -8,14 +9,14 @@ use Rattle.pb_rows.specs.Constraints.{row_at}
 use Rattle.pb_trail.specs.Trail.{value_on}
 use Rattle.pb_trail.specs.Completion.{IsCompletion}
 use Rattle.pb_trail.specs.Tracked.{AreValues}
-use Rattle.pb_dual.specs.declared.TheConstants.{ZERO}
-use Rattle.pb_dual.specs.declared.changes.Change.{Change}
+use Rattle.pb_dual.specs.Changes.{Change}
 use Rattle.pb_dual.specs.ReducedCosts.{promised, reduced_cost, AreReducedCosts, part_on, parts_on, parts}
 
--- a normal form, by how much costs are scaled up, the most that a multiplier times its row's degree may be, a multiplier for each row, a trail over the variables, the
--- changes of multipliers that can be taken back, the earliest first, and how many of them there may be
+-- a normal form, where a reduced cost of 0 is kept, by how much costs are scaled up, the most that a multiplier times its row's degree may be, a multiplier for each row, a trail
+-- over the variables, the changes of multipliers that can be taken back, the earliest first, and how many of them there may be
 pub record MultipliersState : Type 0 where
   pub form : NormalForm
+  pub origin : ℕ
   pub scale : ℕ
   pub share : ℕ
   pub multipliers : List ℕ
@@ -41,14 +42,14 @@ undone (change ∷ changes) ys = slice_set (undone changes ys) change.row change
 -- the base, and what the degrees and the variables promise above it, scaled down and rounded up; not over the sum of all costs
 abbrev pub bound_from : MultipliersState → ℕ → ℤ
 bound_from s parts =
-    s.form.base +ℤ pos (min (total_coefficient s.form.objective) (div_ceil ((promised s.multipliers s.form.rows + parts) - s.form.vars * ZERO) s.scale))
+    s.form.base +ℤ pos (min (total_coefficient s.form.objective) (div_ceil ((promised s.multipliers s.form.rows + parts) - s.form.vars * s.origin) s.scale))
 
 abbrev pub dual_bound : MultipliersState → ℤ
-dual_bound s = bound_from s (parts_on s.scale s.form s.multipliers s.trail)
+dual_bound s = bound_from s (parts_on s.origin s.scale s.form s.multipliers s.trail)
 
 -- what the literal adds to that by joining the trail, times the scale
 abbrev pub penalty : MultipliersState → Literal → ℕ
-penalty s l = reduced_cost s.scale s.form s.multipliers l - part_on s.scale s.form s.multipliers s.trail l.var
+penalty s l = reduced_cost s.origin s.scale s.form s.multipliers l - part_on s.origin s.scale s.form s.multipliers s.trail l.var
 
 -- at most the cost of every completion of the trail
 abbrev pub IsBelowCosts : NormalForm → List Literal → ℤ → Type 0
@@ -69,15 +70,16 @@ abbrev pub IsWithinShare : NormalForm → ℕ → ℕ → ℕ → Type 0
 IsWithinShare form share row y = y * (row_at form.rows row).degree ≤ share
 
 -- what is kept beside the multipliers is what they and the trail make of the form
-pub record AreKept (form : NormalForm) (ys : List ℕ) (lits : List Literal) (changes : List Change) (scale total share : ℕ) (costs : List ℕ) (values : List (Option Bool)) (degrees sum capacity : ℕ) : Type 0 where
+pub record AreKept (form : NormalForm) (ys : List ℕ) (lits : List Literal) (changes : List Change) (origin scale total share : ℕ) (costs : List ℕ) (values : List (Option Bool)) (degrees sum capacity : ℕ) : Type 0 where
   pub scale_from_one : 1 ≤ scale
   pub total_is : total ≡ total_coefficient form.objective
-  pub scaled : scale * total < 2 ^ 63
-  pub shared : share * length form.rows ≤ ZERO
+  pub scaled : scale * total < 2 * origin
+  pub shared : share * length form.rows ≤ origin
+  pub few : form.vars ≤ MAX_VARS
   pub count : length ys ≡ length form.rows
   pub each_within : (r : ℕ) → r < length form.rows → IsWithinShare form share r (slice_index ys r)
   pub degrees_are : degrees ≡ promised ys form.rows
-  pub costs_are : AreReducedCosts scale form ys costs
+  pub costs_are : AreReducedCosts origin scale form ys costs
   pub vars : length values ≡ form.vars
   pub values_are : AreValues values lits capacity
   pub sum_is : sum ≡ parts costs values

@@ -5,7 +5,6 @@ use Rattle.pb_normal.specs.NormalForm.{PositiveRow, NormalForm}
 use Rattle.pb_normal.specs.Literals.{weight_of}
 use Rattle.pb_rows.specs.Index.{literal_place}
 use Rattle.pb_trail.specs.Trail.{value_on}
-use Rattle.pb_dual.specs.declared.TheConstants.{ZERO}
 
 -- the sum over the rows of what each is worth, times its multiplier
 abbrev pub weighted : (PositiveRow → ℕ) → List ℕ → List PositiveRow → ℕ
@@ -21,17 +20,17 @@ promised ys rows = weighted (λ row. row.degree) ys rows
 abbrev pub taken_off : List ℕ → List PositiveRow → Literal → ℕ
 taken_off ys rows l = weighted (λ row. weight_of l row.terms) ys rows
 
--- the scaled cost of the literal less what the rows take off, which may be below 0, and 2^62 more
-abbrev pub IsReducedCost : ℕ → NormalForm → List ℕ → Literal → ℕ → Type 0
-IsReducedCost scale form ys l n = n + taken_off ys form.rows l ≡ ZERO + scale * weight_of l form.objective
+-- the scaled cost of the literal less what the rows take off, which may be below 0, and the origin more
+abbrev pub IsReducedCost : ℕ → ℕ → NormalForm → List ℕ → Literal → ℕ → Type 0
+IsReducedCost origin scale form ys l n = n + taken_off ys form.rows l ≡ origin + scale * weight_of l form.objective
 
-abbrev pub reduced_cost : ℕ → NormalForm → List ℕ → Literal → ℕ
-reduced_cost scale form ys l = (ZERO + scale * weight_of l form.objective) - taken_off ys form.rows l
+abbrev pub reduced_cost : ℕ → ℕ → NormalForm → List ℕ → Literal → ℕ
+reduced_cost origin scale form ys l = (origin + scale * weight_of l form.objective) - taken_off ys form.rows l
 
 -- at the place of each literal stands its reduced cost
-pub record AreReducedCosts (scale : ℕ) (form : NormalForm) (ys costs : List ℕ) : Type 0 where
+pub record AreReducedCosts (origin scale : ℕ) (form : NormalForm) (ys costs : List ℕ) : Type 0 where
   pub count : length costs ≡ 2 * form.vars
-  pub each : (l : Literal) → 1 ≤ l.var → l.var ≤ form.vars → IsReducedCost scale form ys l (slice_index costs (literal_place l))
+  pub each : (l : Literal) → 1 ≤ l.var → l.var ≤ form.vars → IsReducedCost origin scale form ys l (slice_index costs (literal_place l))
 
 -- the reduced cost of a variable or its negation
 abbrev pub cost_at : List ℕ → ℕ → Bool → ℕ
@@ -47,12 +46,12 @@ abbrev pub least_cost : (Bool → ℕ) → Option Bool → ℕ
 least_cost cost (Some positive) = cost positive
 least_cost cost None = min (cost true) (cost false)
 
-abbrev pub part_on : ℕ → NormalForm → List ℕ → List Literal → ℕ → ℕ
-part_on scale form ys trail var = least_cost (λ positive. reduced_cost scale form ys (record { var = var; positive = positive })) (value_on trail var)
+abbrev pub part_on : ℕ → ℕ → NormalForm → List ℕ → List Literal → ℕ → ℕ
+part_on origin scale form ys trail var = least_cost (λ positive. reduced_cost origin scale form ys (record { var = var; positive = positive })) (value_on trail var)
 
 -- what all variables add at least under a trail
-unfoldable pub parts_on : ℕ → NormalForm → List ℕ → List Literal → ℕ
-parts_on scale form ys trail = over_variables (part_on scale form ys trail) form.vars
+unfoldable pub parts_on : ℕ → ℕ → NormalForm → List ℕ → List Literal → ℕ
+parts_on origin scale form ys trail = over_variables (part_on origin scale form ys trail) form.vars
 
 -- the same where these are the reduced costs, and the variable's value
 abbrev pub part : List ℕ → ℕ → Option Bool → ℕ

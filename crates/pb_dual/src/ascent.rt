@@ -5,9 +5,10 @@
 ghost use Rattle.std.specs.Prelude.{◌<◌, length};
 ghost use Rattle.pb_dual.specs.Relaxation.{IsSameButShifted};
 
-use crate::multipliers::{Multipliers, number_of};
-use pb_count::Count;
-use pb_inst::{Magnitude, Memory, Number};
+use crate::multipliers::Multipliers;
+use crate::signed::Signed;
+use pb_count::{Count, Tally};
+use pb_inst::{Memory, Number};
 use pb_normal::FormTerm;
 use std::alloc::Global;
 
@@ -24,52 +25,60 @@ const TERMS: u64 = 20_000_000;
 const SCALE: i128 = 256;
 
 /// The best multipliers that were found, and where better ones are looked for.
-#[derive(Debug, Drop)]
-pub struct Ascent {
+#[derive(Debug)]
+pub struct Ascent<C: Count> {
     /// By how much, times the scale, the next round is to raise the bound.
-    reach: Magnitude,
+    reach: Tally<C>,
     /// The height of the best multipliers.
-    top: Magnitude,
-    best: Vec<Magnitude>,
+    top: Tally<C>,
+    best: Vec<Tally<C>>,
     /// How far each row is from being met, by its mean coefficient and scaled up.
     directions: Vec<i128>,
     /// The mean coefficient of each row.
-    means: Vec<Magnitude>,
+    means: Vec<Tally<C>>,
 }
 
-impl Ascent {
+// By hand, as that of `Multipliers`.
+impl<C: Count> Drop for Ascent<C> {
+    fn drop(self) {
+        let Ascent {
+            reach: _,
+            top: _,
+            best: _,
+            directions: _,
+            means: _,
+        } = self;
+    }
+}
+
+impl<C: Count> Ascent<C> {
     /// Room for so many rows.
-    pub fn new(alloc: Global, rows: usize) -> Result<Ascent, Memory> {
+    pub fn new(alloc: Global, rows: usize) -> Result<Ascent<C>, Memory> {
         Ok(Ascent {
-            reach: 0,
-            top: 0,
-            best: vec![in alloc; 0; rows]?,
+            reach: Tally::of(0),
+            top: Tally::of(0),
+            best: vec![in alloc; Tally::of(0); rows]?,
             directions: vec![in alloc; 0; rows]?,
-            means: vec![in alloc; 0; rows]?,
+            means: vec![in alloc; Tally::of(0); rows]?,
         })
     }
 
     /// Climbs from the multipliers as they are, towards a bound that is over the limit, and keeps the best for good.
-    pub fn climb<C: Count>(
-        &mut self,
-        multipliers: &mut Multipliers<'_, C>,
-        terms: u64,
-        limit: Number,
-    )
+    pub fn climb(&mut self, multipliers: &mut Multipliers<'_, C>, terms: u64, limit: Number)
         ensures { IsSameButShifted multipliers.old multipliers.new }
     {
         self.begin(multipliers);
         let rounds = TERMS / terms.saturating_mul(2 * STEPS as u64).max(1);
         for _ in 0..rounds.min(MOST_ROUNDS) {
             self.round(multipliers, limit);
-            if self.reach < multipliers.scale() / 50 {
+            if self.reach.is_below(multipliers.scale() / Tally::of(50)) {
                 return;
             }
         }
     }
 
     /// Begins at the multipliers as they are.
-    fn begin<C: Count>(&mut self, multipliers: &Multipliers<'_, C>) {
+    fn begin(&mut self, multipliers: &Multipliers<'_, C>) {
         let form = multipliers.form();
         self.means.clear();
         for row in 0..form.len() {
@@ -78,56 +87,57 @@ impl Ascent {
             }
         }
         self.remember(multipliers);
-        self.reach = multipliers.scale().saturating_mul(2).max(self.top / 20);
+        let double = multipliers.scale().saturating_mul(Tally::of(2));
+        self.reach = double.max(self.top / Tally::of(20));
     }
 
     /// One round of steps towards a bound that is higher by the reach. The best multipliers stay, and the reach grows where
     /// they gained most of it, and falls where they gained next to nothing.
-    fn round<C: Count>(&mut self, multipliers: &mut Multipliers<'_, C>, limit: Number)
+    fn round(&mut self, multipliers: &mut Multipliers<'_, C>, limit: Number)
         ensures { IsSameButShifted multipliers.old multipliers.new }
     {
         let start = self.top;
         let rise = self.reach.min(multipliers.gap(limit));
         for _ in 0..STEPS {
             self.step(multipliers, start.saturating_add(rise));
-            if multipliers.height() > self.top {
+            if self.top.is_below(multipliers.height()) {
                 self.remember(multipliers);
             }
         }
         self.restore(multipliers);
-        let gained = self.top.saturating_sub(start);
-        if gained > self.reach / 2 {
-            self.reach = (self.reach / 3).saturating_mul(4);
-        } else if gained < self.reach / 10 {
-            self.reach /= 2;
+        let gained = self.top.above(start);
+        let half = self.reach / Tally::of(2);
+        if half.is_below(gained) {
+            self.reach = (self.reach / Tally::of(3)).saturating_mul(Tally::of(4));
+        } else if gained.is_below(self.reach / Tally::of(10)) {
+            self.reach = half;
         }
     }
 
     /// Shifts all rows along their directions, so far that the bound would come to the target if no value changed.
-    fn step<C: Count>(&mut self, multipliers: &mut Multipliers<'_, C>, target: Magnitude)
+    fn step(&mut self, multipliers: &mut Multipliers<'_, C>, target: Tally<C>)
         ensures { IsSameButShifted multipliers.old multipliers.new }
     {
         let norm = self.aim(multipliers).max(1);
-        let gap = target.saturating_sub(multipliers.height()) as i128;
+        let gap = wide(target.above(multipliers.height()));
         for row in 0..multipliers.form().len() {
             let direction = self.directions.get(row).copied().unwrap_or(0);
-            let mean = self.means.get(row).copied().unwrap_or(1).max(1);
+            let mean = self.mean(row);
             let scaled = gap.saturating_mul(SCALE).saturating_mul(direction);
-            let amount = quotient(quotient(scaled, norm), mean as i128);
-            shift_for_good(multipliers, row, nearest(amount));
+            let amount = quotient(quotient(scaled, norm), mean);
+            shift_for_good(multipliers, row, Signed::nearest(amount));
         }
     }
 
     /// Finds the direction of each row, and gives the sum of their squares.
-    fn aim<C: Count>(&mut self, multipliers: &Multipliers<'_, C>) -> i128 {
+    fn aim(&mut self, multipliers: &Multipliers<'_, C>) -> i128 {
         let mut norm: i128 = 0;
         self.directions.clear();
         for row in 0..multipliers.form().len() {
-            let mean = self.means.get(row).copied().unwrap_or(1).max(1);
             let lack = lack(multipliers, row);
-            let direction = quotient(lack.saturating_mul(SCALE), mean as i128);
+            let direction = quotient(lack.saturating_mul(SCALE), self.mean(row));
             // A multiplier of 0 can't fall.
-            let is_stuck = direction < 0 && multipliers.multiplier(row) == 0;
+            let is_stuck = direction < 0 && multipliers.multiplier(row).is_zero();
             let direction = if is_stuck { 0 } else { direction };
             norm = norm.saturating_add(direction.saturating_mul(direction));
             if self.directions.len() < self.directions.capacity() {
@@ -137,8 +147,16 @@ impl Ascent {
         norm
     }
 
+    /// The mean coefficient of the row, at least 1.
+    fn mean(&self, row: usize) -> i128 {
+        match self.means.get(row).copied() {
+            Some(mean) => wide(mean).max(1),
+            None => 1,
+        }
+    }
+
     /// Remembers the multipliers as the best.
-    fn remember<C: Count>(&mut self, multipliers: &Multipliers<'_, C>) {
+    fn remember(&mut self, multipliers: &Multipliers<'_, C>) {
         self.top = multipliers.height();
         self.best.clear();
         for row in 0..multipliers.form().len() {
@@ -149,23 +167,23 @@ impl Ascent {
     }
 
     /// Goes back to the best multipliers.
-    fn restore<C: Count>(&self, multipliers: &mut Multipliers<'_, C>)
+    fn restore(&self, multipliers: &mut Multipliers<'_, C>)
         ensures { IsSameButShifted multipliers.old multipliers.new }
     {
         for row in 0..multipliers.form().len() {
-            let best = self.best.get(row).copied().unwrap_or(0);
-            let amount = number_of(best).saturating_sub(number_of(multipliers.multiplier(row)));
+            let best = self.best.get(row).copied().unwrap_or(Tally::of(0));
+            let amount = Signed::of(best).minus(Signed::of(multipliers.multiplier(row)));
             shift_for_good(multipliers, row, amount);
         }
     }
 }
 
 /// Shifts the multiplier of the row, and keeps it so.
-fn shift_for_good<C: Count>(multipliers: &mut Multipliers<'_, C>, row: usize, amount: Number)
+fn shift_for_good<C: Count>(multipliers: &mut Multipliers<'_, C>, row: usize, amount: Signed<C>)
     requires { row < length multipliers.old.form.rows }
     ensures { IsSameButShifted multipliers.old multipliers.new }
 {
-    if amount != 0 && multipliers.has_room() {
+    if !amount.is_zero() && multipliers.has_room() {
         multipliers.shift(row, amount);
         multipliers.keep();
     }
@@ -177,24 +195,24 @@ fn lack<C: Count>(multipliers: &Multipliers<'_, C>, row: usize) -> i128
 {
     let form = multipliers.form();
     let _vars = form.vars();
-    let mut lack = form.degree(row).number() as i128;
+    let mut lack = wide(form.degree(row));
     for term in form.terms(row) {
-        let term = term.positive();
-        let difference = multipliers.difference(term.lit);
-        if difference < 0 || (difference == 0 && !term.lit.positive()) {
-            lack = lack.saturating_sub(term.coef as i128);
+        let difference = multipliers.difference(term.lit());
+        if difference.is_negative() || (difference.is_zero() && !term.lit().positive()) {
+            lack = lack.saturating_sub(wide(term.coef()));
         }
     }
     lack
 }
 
 /// The mean coefficient, at least 1.
-fn mean_coefficient<C: Count>(terms: &[FormTerm<C>]) -> Magnitude {
-    let mut total: Magnitude = 0;
+fn mean_coefficient<C: Count>(terms: &[FormTerm<C>]) -> Tally<C> {
+    let one = Tally::of(1);
+    let mut total = Tally::of(0);
     for term in terms {
-        total = total.saturating_add(term.positive().coef);
+        total = total.saturating_add(term.coef());
     }
-    (total / (terms.len() as Magnitude).max(1)).max(1)
+    (total / Tally::of(terms.len() as u64).max(one)).max(one)
 }
 
 /// The quotient, 0 where there is none.
@@ -202,7 +220,7 @@ fn quotient(part: i128, whole: i128) -> i128 {
     part.checked_div(whole).unwrap_or(0)
 }
 
-/// The number, cut to the range of numbers.
-fn nearest(amount: i128) -> Number {
-    amount.max(Number::MIN as i128).min(Number::MAX as i128) as Number
+/// The number, cut to the range.
+fn wide<C: Count>(number: Tally<C>) -> i128 {
+    number.number().min(i128::MAX as u128) as i128
 }

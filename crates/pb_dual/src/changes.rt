@@ -1,10 +1,21 @@
 //! Changes of multipliers that can be taken back.
 
-use pb_inst::Magnitude;
+use pb_count::{Count, Tally};
+use std::marker::Model;
 
 /// A row whose multiplier was changed, and what it was before.
-#[derive(Clone, Copy, Debug, PartialEq, Eq)]
-pub struct Change {
+#[derive(Clone, Copy, Debug)]
+pub struct Change<C: Count> {
     pub row: usize,
-    pub before: Magnitude,
+    pub before: Tally<C>,
+}
+
+impl<C: Count> Model for Change<C> {
+    ghost use Rattle.pb_dual.specs.Changes.{Change as Changed};
+
+    ghost Value = { Changed };
+
+    ghost view = { λ c. record { row = c.row; before = c.before } };
+
+    ghost inverse = { λ c. record { row = c.row; before = c.before } };
 }

@@ -12,14 +12,10 @@ mod changes;
 mod multipliers;
 mod reduced_costs;
 mod relaxation;
+mod signed;
 
-pub use changes::Change;
 pub use multipliers::Multipliers;
-use pb_inst::Magnitude;
 pub use relaxation::Relaxation;
-
-/// 2^62: a reduced cost that is 0. They may be below it.
-const ZERO: Magnitude = 4_611_686_018_427_387_904;
 
 #[cfg(test)]
 mod tests;

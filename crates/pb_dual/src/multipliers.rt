@@ -1,42 +1,61 @@
 //! Multipliers for rows, with what they say of the completions of a trail.
 
-ghost use Rattle.std.specs.Prelude.{◌≡◌, ℕ, ◌+◌, ◌-◌, ◌*◌, ◌^◌, ◌<◌, ◌≤◌, [], ◌∷◌, ◌++◌, None, IfOk, IfSome, IsTrue, length, take, drop, replicate, min, slice_index, slice_set, slice_index_or, pos, ◌≤ℤ◌, ltb};
+ghost use Rattle.std.specs.Prelude.{◌≡◌, ◌⊎◌, ℕ, ◌+◌, ◌-◌, ◌*◌, ◌^◌, ◌<◌, ◌≤◌, [], ◌∷◌, ◌++◌, false, true, Ok, None, IfOk, IfSome, IsTrue, length, take, drop, replicate, min, slice_index, slice_set, slice_index_or, pos, ◌≤ℤ◌, ltb};
+ghost use Rattle.pb_inst.specs.declared.TheConstants.{MAX_VARS};
 ghost use Rattle.pb_trail.specs.Trail.{value_on};
 ghost use Rattle.pb_rows.specs.Constraints.{row_at};
 ghost use Rattle.pb_normal.specs.NormalForm.{total_coefficient};
 ghost use Rattle.pb_dual.specs.ReducedCosts.{parts_on};
 ghost use Rattle.pb_dual.specs.Multipliers.{undone, changed, shifted, bound_from, dual_bound, penalty, IsFixed, IsBelowCosts, IsBelowCostsWith, IsWithinShare};
-ghost use Rattle.pb_dual.specs.declared.TheConstants.{ZERO};
 
-use crate::ZERO;
 use crate::changes::Change;
 use crate::reduced_costs::{initial_costs, part, reprice, revalue};
-use pb_count::Count;
-use pb_inst::{Lit, Magnitude, Memory, Number};
+use crate::signed::Signed;
+use pb_count::{Count, Tally};
+use pb_inst::{Lit, MAX_VARS, Memory, Number};
 use pb_normal::{Form, total_of};
 use pb_rows::place_of;
 use std::alloc::Global;
 use std::marker::Model;
 
 /// A multiplier for each row of a normal form, a trail over its variables, and a lower bound of what the completions of the
-/// trail cost.
-#[derive(Debug, Drop)]
+/// trail cost. All of them are numbers of the width of the form.
+#[derive(Debug)]
 pub struct Multipliers<'a, C: Count = u64> {
     form: &'a Form<C>,
-    scale: Magnitude,
+    scale: Tally<C>,
     /// The sum of all costs.
-    total: Magnitude,
+    total: Tally<C>,
     /// The most that a row's multiplier times its degree may be.
-    share: Magnitude,
-    multipliers: Vec<Magnitude>,
+    share: Tally<C>,
+    multipliers: Vec<Tally<C>>,
     /// The sum of the degrees, each times its row's multiplier.
-    degrees: Magnitude,
-    costs: Vec<Magnitude>,
+    degrees: Tally<C>,
+    costs: Vec<Tally<C>>,
     /// What all variables add at least.
     sum: u128,
     values: Vec<Option<bool>>,
     lits: Vec<Lit>,
-    changes: Vec<Change>,
+    changes: Vec<Change<C>>,
+}
+
+// By hand, so that whoever lets go of multipliers sees one call, and not each of their parts.
+impl<C: Count> Drop for Multipliers<'_, C> {
+    fn drop(self) {
+        let Multipliers {
+            form: _,
+            scale: _,
+            total: _,
+            share: _,
+            multipliers: _,
+            degrees: _,
+            costs: _,
+            sum: _,
+            values: _,
+            lits: _,
+            changes: _,
+        } = self;
+    }
 }
 
 impl<'a, C: Count> Model for Multipliers<'a, C> {
@@ -45,15 +64,46 @@ impl<'a, C: Count> Model for Multipliers<'a, C> {
 
     ghost Value = { MultipliersState };
 
-    ghost view = { λ m. record { form = m.form.now; scale = m.scale; share = m.share; multipliers = m.multipliers.items; trail = m.lits.items; changes = m.changes.items; room = vec_capacity m.changes } };
+    ghost view = { λ m. record { form = m.form.now; origin = C.origin; scale = m.scale; share = m.share; multipliers = m.multipliers.items; trail = m.lits.items; changes = m.changes.items; room = vec_capacity m.changes } };
 
-    ghost invariant = { λ m. AreKept m.form.now m.multipliers.items m.lits.items m.changes.items m.scale m.total m.share m.costs.items m.values.items m.degrees m.sum (vec_capacity m.lits) };
+    ghost invariant = { λ m. AreKept m.form.now m.multipliers.items m.lits.items m.changes.items C.origin m.scale m.total m.share m.costs.items m.values.items m.degrees m.sum (vec_capacity m.lits) };
 }
 
 impl<'a, C: Count> Multipliers<'a, C> {
     /// A multiplier of 0 for each row, the empty trail, and room for so many changes. Nothing after it takes memory. Costs
-    /// are scaled up, so that multipliers are fractions of a cost.
-    pub fn new(alloc: Global, form: &'a Form<C>, room: usize) -> Result<Multipliers<'a, C>, Memory>
+    /// are scaled up, so that multipliers are fractions of a cost. There are none where the sum of all costs leaves no room
+    /// for a scale in the width of the form, or the variables are more than an instance has.
+    pub fn new(
+        alloc: Global,
+        form: &'a Form<C>,
+        room: usize,
+    ) -> Result<Option<Multipliers<'a, C>>, Memory>
+        ensures form { IfOk result (λ made. IfSome made (λ m. m.form ≡ form.now)) }
+        ensures multipliers { IfOk result (λ made. IfSome made (λ m. m.multipliers ≡ replicate (length form.now.rows) 0)) }
+        ensures empty { IfOk result (λ made. IfSome made (λ m. (m.trail ≡ []) × (m.changes ≡ []))) }
+        ensures room { IfOk result (λ made. IfSome made (λ m. room ≤ m.room)) }
+        ensures scale { IfOk result (λ made. IfSome made (λ m. 1 ≤ m.scale)) }
+        ensures none { result ≡ Ok None → (MAX_VARS < form.now.vars) ⊎ (2 * C.origin ≤ total_coefficient form.now.objective) }
+    {
+        let vars = form.vars();
+        let total = total_of(form.objective());
+        if vars > MAX_VARS || !has_scale(total) {
+            return Ok(None);
+        }
+        let made = Multipliers::scaled(alloc, form, total, room)?;
+        Ok(Some(made))
+    }
+
+    /// The same where there is a scale for costs of this sum.
+    fn scaled(
+        alloc: Global,
+        form: &'a Form<C>,
+        total: Tally<C>,
+        room: usize,
+    ) -> Result<Multipliers<'a, C>, Memory>
+        requires total { total ≡ total_coefficient form.now.objective }
+        requires fits { total < 2 * C.origin }
+        requires few { form.now.vars ≤ MAX_VARS }
         ensures form { IfOk result (λ m. m.form ≡ form.now) }
         ensures multipliers { IfOk result (λ m. m.multipliers ≡ replicate (length form.now.rows) 0) }
         ensures empty { IfOk result (λ m. (m.trail ≡ []) × (m.changes ≡ [])) }
@@ -61,12 +111,11 @@ impl<'a, C: Count> Multipliers<'a, C> {
         ensures scale { IfOk result (λ m. 1 ≤ m.scale) }
     {
         let vars = form.vars() as usize;
-        let total = total_of(form.objective()).number();
         let scale = scale_for(total);
         let costs = initial_costs(alloc, form, scale)?;
         let values = vec![in alloc; None; vars]?;
         let lits = Vec::with_capacity(alloc, vars)?;
-        let multipliers = vec![in alloc; 0; form.len()]?;
+        let multipliers = vec![in alloc; Tally::of(0); form.len()]?;
         let changes = Vec::with_capacity(alloc, room)?;
         Ok(Multipliers {
             form,
@@ -74,8 +123,8 @@ impl<'a, C: Count> Multipliers<'a, C> {
             total,
             share: share_of(form.len()),
             multipliers,
-            degrees: 0,
-            sum: ZERO as u128 * vars as u128,
+            degrees: Tally::of(0),
+            sum: Tally::<C>::origin().number() * vars as u128,
             costs,
             values,
             lits,
@@ -91,7 +140,7 @@ impl<'a, C: Count> Multipliers<'a, C> {
     }
 
     /// By how much costs are scaled up.
-    pub fn scale(&self) -> Magnitude {
+    pub fn scale(&self) -> Tally<C> {
         self.scale
     }
 
@@ -115,15 +164,13 @@ impl<'a, C: Count> Multipliers<'a, C> {
     }
 
     /// By how much the reduced cost of the literal is over that of its negation.
-    pub fn difference(&self, lit: Lit) -> Number
+    pub fn difference(&self, lit: Lit) -> Signed<C>
         requires { lit.var ≤ self.now.form.vars }
     {
-        let cost = self.costs[place_of(lit)];
-        let other = self.costs[place_of(lit.negate())];
-        if cost < other {
-            return -number_of(other - cost);
-        }
-        number_of(cost - other)
+        Signed::difference(
+            self.costs[place_of(lit)],
+            self.costs[place_of(lit.negate())],
+        )
     }
 
     /// The number of literals on the trail.
@@ -134,7 +181,7 @@ impl<'a, C: Count> Multipliers<'a, C> {
     }
 
     /// The multiplier of the row, by the scale.
-    pub fn multiplier(&self, row: usize) -> Magnitude
+    pub fn multiplier(&self, row: usize) -> Tally<C>
         requires { row < length self.now.form.rows }
         ensures { result ≡ slice_index self.now.multipliers row }
     {
@@ -154,21 +201,21 @@ impl<'a, C: Count> Multipliers<'a, C> {
     pub fn bound_with(&self, lit: Lit) -> Number
         requires variable { lit.var ≤ self.now.form.vars }
         requires no_value { value_on self.now.trail lit.var ≡ None }
-        ensures value { result ≡ bound_from self.now (parts_on self.now.scale self.now.form self.now.multipliers self.now.trail + penalty self.now lit) }
+        ensures value { result ≡ bound_from self.now (parts_on self.now.origin self.now.scale self.now.form self.now.multipliers self.now.trail + penalty self.now lit) }
         ensures bound { IsBelowCostsWith self.now.form self.now.trail lit result }
     {
         let _vars = self.form.vars();
         let _var = lit.var();
-        self.bound_at(self.sum + self.penalty(lit) as u128)
+        self.bound_at(self.sum + self.penalty(lit).number())
     }
 
     /// What the bound rises by, times the scale, once the literal is on the trail.
-    pub fn penalty(&self, lit: Lit) -> Magnitude
+    pub fn penalty(&self, lit: Lit) -> Tally<C>
         requires variable { lit.var ≤ self.now.form.vars }
         ensures { result ≡ penalty self.now lit }
     {
         let least = part(&self.costs, &self.values, lit);
-        self.costs[place_of(lit)].saturating_sub(least)
+        self.costs[place_of(lit)].above(least)
     }
 
     /// A literal without a value that every completion of the trail that costs no more than the limit makes true, or none. It
@@ -194,45 +241,53 @@ impl<'a, C: Count> Multipliers<'a, C> {
         for place in from..end {
             let lit = Lit::new(place + 1, true).ok()?;
             let difference = self.difference(lit);
-            if difference.unsigned_abs() > gap && self.is_free(lit) {
-                return Some(if difference > 0 { lit.negate() } else { lit });
+            if gap.is_below(difference.magnitude()) && self.is_free(lit) {
+                return Some(if difference.is_negative() {
+                    lit
+                } else {
+                    lit.negate()
+                });
             }
         }
         None
     }
 
     /// By how much, times the scale, the bound may rise before it is over the limit. A measure, and no more than a hint.
-    pub fn gap(&self, limit: Number) -> Magnitude {
+    pub fn gap(&self, limit: Number) -> Tally<C> {
         let room = limit.saturating_sub(self.form.base()).max(0).unsigned_abs();
-        let most = (room as u128).saturating_mul(self.scale as u128);
-        most.saturating_sub(self.above())
-            .min(Magnitude::MAX as u128) as Magnitude
+        let most = room.saturating_mul(self.scale.number());
+        Tally::nearest(most.saturating_sub(self.above()))
     }
 
     /// How far the bound is over the base, times the scale. A measure, and no more than a hint.
-    pub fn height(&self) -> Magnitude {
-        self.above().min(Magnitude::MAX as u128) as Magnitude
+    pub fn height(&self) -> Tally<C> {
+        Tally::nearest(self.above())
     }
 
     /// The same, however great.
     fn above(&self) -> u128 {
-        let floor = self.values.len() as u128 * ZERO as u128;
         self.sum
-            .saturating_add(self.degrees as u128)
-            .saturating_sub(floor)
+            .saturating_add(self.degrees.number())
+            .saturating_sub(self.floor())
+    }
+
+    /// What all variables add where none costs anything.
+    fn floor(&self) -> u128
+        ensures { result ≡ self.now.form.vars * self.now.origin }
+    {
+        self.values.len() as u128 * Tally::<C>::origin().number()
     }
 
     /// The bound where all variables add so much at least.
     fn bound_at(&self, sum: u128) -> Number
-        requires { sum < 2 ^ 100 }
+        requires { sum < 2 ^ 127 }
         ensures { result ≡ bound_from self.now sum }
     {
-        let floor = self.values.len() as u128 * ZERO as u128;
-        let above = (sum + self.degrees as u128).saturating_sub(floor);
+        let above = (sum + self.degrees.number()).saturating_sub(self.floor());
         // More than all costs together is promised only where the trail has no completion.
         let most = self.scale * self.total;
-        let scaled = above.min(most as u128) as Magnitude;
-        self.form.base() + scaled.div_ceil(self.scale) as Number
+        let scaled = Tally::<C>::fitting(above.min(most.number()));
+        self.form.base() + scaled.div_ceil(self.scale).number() as Number
     }
 
     /// Puts a literal without a value on the trail.
@@ -277,7 +332,7 @@ impl<'a, C: Count> Multipliers<'a, C> {
     }
 
     /// Shifts the multiplier of the row by the amount: not below 0, and not above what keeps all sums in their range.
-    pub fn shift(&mut self, row: usize, amount: Number)
+    pub fn shift(&mut self, row: usize, amount: Signed<C>)
         requires row { row < length self.old.form.rows }
         requires room { length self.old.changes < self.old.room }
         ensures { self.new ≡ changed self.old row (shifted self.old row amount) }
@@ -289,27 +344,27 @@ impl<'a, C: Count> Multipliers<'a, C> {
     }
 
     /// The row's multiplier shifted by the amount.
-    fn shifted(&self, row: usize, amount: Number) -> Magnitude
+    fn shifted(&self, row: usize, amount: Signed<C>) -> Tally<C>
         requires row { row < length self.now.form.rows }
         ensures value { result ≡ shifted self.now row amount }
         ensures within { IsWithinShare self.now.form self.now.share row result }
     {
         let _vars = self.form.vars();
         let before = self.multipliers[row];
-        let by = amount.unsigned_abs();
-        if amount < 0 {
-            return before.saturating_sub(by);
+        let by = amount.magnitude();
+        if amount.is_negative() {
+            return before.above(by);
         }
         before.saturating_add(by).min(self.share / self.degree(row))
     }
 
     /// The degree of the row.
-    fn degree(&self, row: usize) -> Magnitude
+    fn degree(&self, row: usize) -> Tally<C>
         requires { row < length self.now.form.rows }
         ensures { result ≡ (row_at self.now.form.rows row).degree }
     {
         let _vars = self.form.vars();
-        self.form.degree(row).number()
+        self.form.degree(row)
     }
 
     /// How many changes can be taken back.
@@ -358,14 +413,14 @@ impl<'a, C: Count> Multipliers<'a, C> {
     }
 
     /// Gives the row another multiplier.
-    fn set(&mut self, row: usize, to: Magnitude)
+    fn set(&mut self, row: usize, to: Tally<C>)
         requires row { row < length self.old.form.rows }
         requires within { IsWithinShare self.old.form self.old.share row to }
         ensures { self.new ≡ record self.old { multipliers = slice_set self.old.multipliers row to } }
     {
         let _vars = self.form.vars();
         let from = self.multipliers[row];
-        let degree = self.form.degree(row).number();
+        let degree = self.form.degree(row);
         reprice(
             &mut self.costs,
             &mut self.sum,
@@ -382,34 +437,39 @@ impl<'a, C: Count> Multipliers<'a, C> {
 /// How many variables are looked at for one fixed literal, so that a node does not cost what the instance has.
 pub const FIXING_WINDOW: u32 = 512;
 
-/// The greatest scale.
-const MAX_SCALE: Magnitude = 65_536;
+/// The sum of all costs is scaled up to no more than this part of the origin, 1 in so many, where that is more than their sum.
+const SCALED_PART: u64 = 1_024;
 
-/// The sum of all costs is scaled up to no more than this, 2^52, where that is more than their sum.
-const SCALED: Magnitude = 4_503_599_627_370_496;
+/// Which part of the origin, 1 in so many, is the greatest scale: 65,536 where the origin is 2^62.
+const SCALE_PART: u64 = 70_368_744_177_664;
+
+/// Whether costs of this sum can be left as they are, or scaled up.
+fn has_scale<C: Count>(total: Tally<C>) -> bool
+    requires { total < C.limit }
+    ensures fits { result ≡ true → total < 2 * C.origin }
+    ensures over { result ≡ false → 2 * C.origin ≤ total }
+{
+    total.is_below(Tally::origin() + Tally::origin())
+}
 
 /// By how much costs of this sum are scaled up.
-fn scale_for(total: Magnitude) -> Magnitude
-    requires { total < 2 ^ 63 }
+fn scale_for<C: Count>(total: Tally<C>) -> Tally<C>
+    requires { total < 2 * C.origin }
     ensures from_one { 1 ≤ result }
-    ensures fits { result * total < 2 ^ 63 }
+    ensures fits { result * total < 2 * C.origin }
 {
-    (SCALED / total.max(1)).min(MAX_SCALE).max(1)
+    let one = Tally::of(1);
+    let scaled = Tally::origin() / Tally::of(SCALED_PART);
+    let greatest = Tally::origin() / Tally::of(SCALE_PART);
+    (scaled / total.max(one)).min(greatest).max(one)
 }
 
 /// The most that each row's multiplier times its degree may be where there are so many rows.
-fn share_of(rows: usize) -> Magnitude
-    ensures { result * rows ≤ ZERO }
+fn share_of<C: Count>(rows: usize) -> Tally<C>
+    ensures { result * rows ≤ C.origin }
 {
     if rows == 0 {
-        return 0;
+        return Tally::of(0);
     }
-    ZERO / rows as Magnitude
-}
-
-/// The number, cut to the range of those with a sign.
-pub fn number_of(magnitude: Magnitude) -> Number
-    ensures { pos 0 ≤ℤ result }
-{
-    magnitude.min(Number::MAX as Magnitude) as Number
+    Tally::origin() / Tally::of(rows as u64)
 }

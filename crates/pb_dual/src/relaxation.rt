@@ -7,10 +7,11 @@ ghost use Rattle.pb_dual.specs.Multipliers.{IsBelowCosts, IsFixed};
 
 use crate::account::Account;
 use crate::ascent::Ascent;
-use crate::multipliers::{FIXING_WINDOW, Multipliers, number_of};
+use crate::multipliers::{FIXING_WINDOW, Multipliers};
+use crate::signed::Signed;
 use pb_bits::RowSet;
-use pb_count::Count;
-use pb_inst::{Lit, Magnitude, Memory, Number};
+use pb_count::{Count, Tally};
+use pb_inst::{Lit, Memory, Number};
 use pb_normal::Form;
 use pb_rows::{Occurs, Tables};
 use pb_trail::Slacks;
@@ -33,7 +34,7 @@ const LONG_PATIENCE: u32 = 20;
 const WORK_OF_A_BOUND: usize = 10_000;
 
 /// By which part of a cost, 1 in so many, a reduced cost must change before the rows of its variable are stepped too.
-const SMALL_PART: Magnitude = 8;
+const SMALL_PART: u64 = 8;
 
 /// How many changes of multipliers can be taken back at least, for each row.
 const CHANGES_OF_A_ROW: usize = 8;
@@ -47,14 +48,14 @@ const MOST_CHANGES_OF_FEW_ROWS: usize = 262_144;
 
 /// Where the multiplier of a row makes a literal free of cost, and the literal's coefficient.
 #[derive(Clone, Copy, Debug)]
-struct Breakpoint {
-    at: Magnitude,
-    coef: Magnitude,
+struct Breakpoint<C: Count> {
+    at: Tally<C>,
+    coef: Tally<C>,
 }
 
 /// Multipliers beside the trail of a search. Where they are used they follow the trail, and are shifted at the rows that it
 /// touches. What was shifted below an assumption is taken back with it. An account tells where they are used.
-#[derive(Debug, Drop)]
+#[derive(Debug)]
 pub struct Relaxation<'a, C: Count = u64> {
     multipliers: Multipliers<'a, C>,
     /// The rows to step next: those of variables that joined the trail, those whose multipliers were taken back, and those
@@ -62,9 +63,9 @@ pub struct Relaxation<'a, C: Count = u64> {
     touched: RowSet,
     /// How many changes there were at each assumption.
     marks: Vec<usize>,
-    breakpoints: Vec<Breakpoint>,
+    breakpoints: Vec<Breakpoint<C>>,
     account: Account,
-    ascent: Ascent,
+    ascent: Ascent<C>,
     /// The number of terms of all rows.
     terms: u64,
     /// How many nodes were counted.
@@ -87,6 +88,30 @@ pub struct Relaxation<'a, C: Count = u64> {
     is_fixing: bool,
 }
 
+// By hand, as that of `Multipliers`.
+impl<C: Count> Drop for Relaxation<'_, C> {
+    fn drop(self) {
+        let Relaxation {
+            multipliers: _,
+            touched: _,
+            marks: _,
+            breakpoints: _,
+            account: _,
+            ascent: _,
+            terms: _,
+            nodes: _,
+            passes: _,
+            counted: _,
+            work: _,
+            step_from: _,
+            fixing_from: _,
+            is_used: _,
+            was_used: _,
+            is_fixing: _,
+        } = self;
+    }
+}
+
 impl<'a, C: Count> Model for Relaxation<'a, C> {
     ghost use Rattle.std.specs.Prelude.{◌≡◌, length};
     ghost use Rattle.pb_dual.specs.Multipliers.{MultipliersState};
@@ -99,22 +124,32 @@ impl<'a, C: Count> Model for Relaxation<'a, C> {
 }
 
 impl<'a, C: Count> Relaxation<'a, C> {
-    /// No multipliers, beside an empty trail. Nothing after it takes memory.
-    pub fn new(alloc: Global, form: &'a Form<C>) -> Result<Relaxation<'a, C>, Memory>
-        ensures form { IfOk result (λ r. r.form ≡ form.now) }
-        ensures empty { IfOk result (λ r. r.trail ≡ []) }
+    /// No multipliers, beside an empty trail. Nothing after it takes memory. There is none where the costs have no scale in
+    /// the width of the form.
+    pub fn new(alloc: Global, form: &'a Form<C>) -> Result<Option<Relaxation<'a, C>>, Memory>
+        ensures { IfOk result (λ made. IfSome made (λ r. (r.form ≡ form.now) × (r.trail ≡ []))) }
     {
-        let rows = form.len();
-        let terms = all_terms(form);
-        let marks = Vec::with_capacity(alloc, form.vars() as usize)?;
-        let breakpoints = Vec::with_capacity(alloc, longest_row(form))?;
-        let touched = RowSet::new(alloc, rows)?;
-        let multipliers = Multipliers::new(alloc, form, changes_for(rows))?;
+        match Multipliers::new(alloc, form, changes_for(form.len()))? {
+            Some(multipliers) => Ok(Some(Relaxation::beside(alloc, form, multipliers)?)),
+            None => Ok(None),
+        }
+    }
+
+    /// The same with these multipliers.
+    fn beside(
+        alloc: Global,
+        form: &'a Form<C>,
+        multipliers: Multipliers<'a, C>,
+    ) -> Result<Relaxation<'a, C>, Memory>
+        requires { multipliers.form ≡ form.now }
+        ensures { IfOk result (λ r. r ≡ multipliers.entry) }
+    {
+        let (rows, terms) = (form.len(), all_terms(form));
         Ok(Relaxation {
             multipliers,
-            touched,
-            marks,
-            breakpoints,
+            touched: RowSet::new(alloc, rows)?,
+            marks: Vec::with_capacity(alloc, form.vars() as usize)?,
+            breakpoints: Vec::with_capacity(alloc, longest_row(form))?,
             account: Account::new(terms),
             ascent: Ascent::new(alloc, rows)?,
             terms,
@@ -240,11 +275,11 @@ impl<'a, C: Count> Relaxation<'a, C> {
         }
     }
 
-    /// By how much, times the scale, the bound at the node that was judged last may rise before it is over the limit; none
-    /// where the multipliers were not used there.
-    pub fn gap(&self, limit: Number) -> Option<Magnitude> {
+    /// By how much, in a unit that depends on the form, the bound at the node that was judged last may rise before it is over
+    /// the limit, and 2^64 - 1 where it is more; none where the multipliers were not used there.
+    pub fn gap(&self, limit: Number) -> Option<u64> {
         if self.was_used {
-            return Some(self.multipliers.gap(limit));
+            return Some(measure(self.multipliers.gap(limit)));
         }
         None
     }
@@ -259,7 +294,7 @@ impl<'a, C: Count> Relaxation<'a, C> {
         ensures { IsSameButShifted self.old self.new }
     {
         if row < self.multipliers.form().len() && self.multipliers.has_room() {
-            self.multipliers.shift(row, amount);
+            self.multipliers.shift(row, Signed::nearest(amount));
         }
     }
 
@@ -269,7 +304,7 @@ impl<'a, C: Count> Relaxation<'a, C> {
         requires { lit.var ≤ self.now.form.vars }
         ensures { result.var ≡ lit.var }
     {
-        if self.is_used && self.multipliers.difference(lit) > 0 {
+        if self.is_used && self.multipliers.difference(lit).is_positive() {
             return lit.negate();
         }
         lit
@@ -316,19 +351,19 @@ impl<'a, C: Count> Relaxation<'a, C> {
     }
 
     /// Touches the rows of the row's variables without a value whose reduced costs the step changed by more than a little.
-    fn spread(&mut self, tables: &Tables<'_, '_, C>, row: usize, amount: Number)
+    fn spread(&mut self, tables: &Tables<'_, '_, C>, row: usize, amount: Signed<C>)
         requires row { row < length self.old.form.rows }
         requires form { tables.now.form ≡ self.old.form }
         ensures { self.new ≡ self.old }
     {
-        let (_vars, little) = (tables.vars(), self.multipliers.scale() / SMALL_PART);
+        let _vars = tables.vars();
+        let little = self.multipliers.scale() / Tally::of(SMALL_PART);
         let terms = self.multipliers.form().terms(row);
         self.work = self.work.saturating_add(terms.len());
         for term in terms {
-            let term = term.positive();
-            let changed = amount.unsigned_abs().saturating_mul(term.coef);
-            if changed > little && self.multipliers.is_free(term.lit) {
-                self.touch(tables, term.lit);
+            let changed = amount.magnitude().saturating_mul(term.coef());
+            if little.is_below(changed) && self.multipliers.is_free(term.lit()) {
+                self.touch(tables, term.lit());
             }
         }
         self.touched.put(row, false);
@@ -510,19 +545,20 @@ impl<'a, C: Count> Relaxation<'a, C> {
 
     /// Shifts the row's multiplier to where the bound is greatest, and to the middle where it is so on an interval. Gives by
     /// how much.
-    fn step(&mut self, row: usize) -> Number
+    fn step(&mut self, row: usize) -> Signed<C>
         requires { row < length self.old.form.rows }
         ensures { IsSameButShifted self.old self.new }
     {
         if !self.multipliers.has_room() {
-            return 0;
+            return Signed::zero();
         }
-        let amount = if self.multipliers.form().degree(row).number() == 1 {
+        let is_clause = !Tally::of(1).is_below(self.multipliers.form().degree(row));
+        let amount = if is_clause {
             clause_amount(&self.multipliers, row)
         } else {
             row_amount(&self.multipliers, &mut self.breakpoints, row)
         };
-        if amount != 0 {
+        if !amount.is_zero() {
             self.multipliers.shift(row, amount);
         }
         amount
@@ -530,19 +566,18 @@ impl<'a, C: Count> Relaxation<'a, C> {
 }
 
 /// How far to shift the multiplier of a row that one literal meets: its least reduced cost becomes 0 or less.
-fn clause_amount<C: Count>(multipliers: &Multipliers<'_, C>, row: usize) -> Number
+fn clause_amount<C: Count>(multipliers: &Multipliers<'_, C>, row: usize) -> Signed<C>
     requires { row < length multipliers.now.form.rows }
 {
-    let (mut least, mut next) = (Number::MAX, Number::MAX);
+    let (mut least, mut next) = (Signed::greatest(), Signed::greatest());
     let form = multipliers.form();
     let _vars = form.vars();
     for term in form.terms(row) {
-        let term = term.positive();
-        match multipliers.value(term.lit) {
-            Some(true) => return -number_of(multipliers.multiplier(row)),
+        match multipliers.value(term.lit()) {
+            Some(true) => return Signed::zero().minus(Signed::of(multipliers.multiplier(row))),
             Some(false) => {}
             None => {
-                let cost = multipliers.difference(term.lit);
+                let cost = multipliers.difference(term.lit());
                 next = next.min(cost.max(least));
                 least = least.min(cost);
             }
@@ -554,35 +589,35 @@ fn clause_amount<C: Count>(multipliers: &Multipliers<'_, C>, row: usize) -> Numb
 /// The same for any row.
 fn row_amount<C: Count>(
     multipliers: &Multipliers<'_, C>,
-    breakpoints: &mut Vec<Breakpoint>,
+    breakpoints: &mut Vec<Breakpoint<C>>,
     row: usize,
-) -> Number
+) -> Signed<C>
     requires { row < length multipliers.now.form.rows }
 {
     let form = multipliers.form();
     let _vars = form.vars();
     let multiplier = multipliers.multiplier(row);
-    let mut need = number_of(form.degree(row).number());
+    let mut need = Signed::of(form.degree(row));
     breakpoints.clear();
     for term in form.terms(row) {
-        let term = term.positive();
-        match multipliers.value(term.lit) {
-            Some(true) => need = need.saturating_sub(number_of(term.coef)),
+        let coef = term.coef();
+        match multipliers.value(term.lit()) {
+            Some(true) => need = need.minus(Signed::of(coef)),
             Some(false) => {}
             None => {
                 // What the literal costs where this row takes nothing off it.
-                let given = number_of(multiplier.saturating_mul(term.coef));
-                let alone = multipliers.difference(term.lit).saturating_add(given);
-                if alone <= 0 {
-                    need = need.saturating_sub(number_of(term.coef));
+                let given = Signed::of(multiplier.saturating_mul(coef));
+                let alone = multipliers.difference(term.lit()).plus(given);
+                if alone.is_positive() {
+                    note(breakpoints, alone.magnitude(), coef);
                 } else {
-                    note(breakpoints, alone.unsigned_abs(), term.coef);
+                    need = need.minus(Signed::of(coef));
                 }
             }
         }
     }
     let target = target(breakpoints, need).unwrap_or(multiplier);
-    number_of(target).saturating_sub(number_of(multiplier))
+    Signed::of(target).minus(Signed::of(multiplier))
 }
 
 /// Notes the rows of the occurrences that are among the first `rows`: clauses of cubes come after them.
@@ -598,40 +633,48 @@ fn touch_rows<C: Count, O: Occurs<C>>(touched: &mut RowSet, rows: usize, occurre
 }
 
 /// The middle between the two, the first where there is no second, and 0 where there is none.
-fn middle(least: Number, next: Number) -> Number {
-    if least == Number::MAX {
-        return 0;
+fn middle<C: Count>(least: Signed<C>, next: Signed<C>) -> Signed<C> {
+    if least.is_greatest() {
+        return Signed::zero();
     }
-    if next == Number::MAX {
+    if next.is_greatest() {
         return least;
     }
-    least.saturating_add(next.saturating_sub(least) / 2)
+    least.plus(Signed::of(next.minus(least).magnitude() / Tally::of(2)))
 }
 
 /// Notes a literal that costs so much where its row has no multiplier.
-fn note(breakpoints: &mut Vec<Breakpoint>, alone: Magnitude, coef: Magnitude) {
+fn note<C: Count>(breakpoints: &mut Vec<Breakpoint<C>>, alone: Tally<C>, coef: Tally<C>) {
     if breakpoints.len() < breakpoints.capacity() {
-        let at = alone / coef.max(1);
+        let at = alone / coef.max(Tally::of(1));
         breakpoints.push_reserved(Breakpoint { at, coef });
     }
 }
 
 /// The multiplier at which just enough literals are free of cost to give what is needed, and the middle where it is so on
 /// an interval; none where all of them don't give it.
-fn target(breakpoints: &mut [Breakpoint], need: Number) -> Option<Magnitude> {
-    breakpoints.sort_unstable_by_key(|point| point.at);
-    let (mut left, mut last) = (need, 0);
+fn target<C: Count>(breakpoints: &mut [Breakpoint<C>], need: Signed<C>) -> Option<Tally<C>> {
+    breakpoints.sort_unstable_by_key(|point| point.at.number());
+    let (mut left, mut last) = (need, Tally::of(0));
     for point in breakpoints {
-        if left < 0 {
+        if left.is_negative() {
             return Some(last);
         }
-        if left == 0 {
+        if left.is_zero() {
             return Some(last.midpoint(point.at));
         }
         last = point.at;
-        left = left.saturating_sub(number_of(point.coef));
+        left = left.minus(Signed::of(point.coef));
     }
-    if left > 0 { None } else { Some(last) }
+    if left.is_positive() { None } else { Some(last) }
+}
+
+/// The difference in units of 1 in the origin's place in 64 bits, so that those of a wide form are about as great as those of
+/// a form of 64 bits.
+fn measure<C: Count>(difference: Tally<C>) -> u64 {
+    let unit = Tally::origin() / Tally::of(1 << 62);
+    let units = difference / unit.max(Tally::of(1));
+    units.number().min(u64::MAX as u128) as u64
 }
 
 /// How many changes can be taken back where there are so many rows.

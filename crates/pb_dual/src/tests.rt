@@ -3,8 +3,10 @@
 ghost use Rattle.std.specs.Prelude.{◌≡◌};
 
 use crate::Multipliers;
+use crate::signed::Signed;
+use pb_count::Count;
 use pb_inst::{Instance, InstanceBuilder, Lit, Magnitude, Number, Relation, Term};
-use pb_normal::{FormTerm, Normal, normalise};
+use pb_normal::{Form, FormTerm, form_of};
 use std::alloc::Global;
 use std::process::Abort;
 
@@ -42,23 +44,30 @@ impl Draws {
         Lit::new(var, positive).expect(rt, "a variable")
     }
 
-    /// So many terms with coefficients of either sign up to the limit.
+    /// So many terms with coefficients of either sign, up to the limit times the unit.
     fn terms(
         &mut self,
         rt: &impl Abort,
         alloc: Global,
         vars: u64,
         count: u64,
-        limit: u64,
+        size: Size,
     ) -> Vec<Term> {
         let mut terms = Vec::new(alloc);
         for _ in 0..count {
-            let coef = self.about(limit);
+            let coef = self.about(size.limit).saturating_mul(size.unit);
             let lit = self.literal(rt, vars);
             terms.push(Term { coef, lit }).expect(rt, "memory");
         }
         terms
     }
+}
+
+/// How great the numbers of a drawn instance are: multiples of a unit, up to so many of them.
+#[derive(Clone, Copy, Debug)]
+struct Size {
+    limit: u64,
+    unit: Number,
 }
 
 /// An instance over so many variables with an objective and as many constraints.
@@ -67,20 +76,20 @@ fn drawn_instance(
     alloc: Global,
     draws: &mut Draws,
     vars: u64,
-    limit: u64,
+    size: Size,
 ) -> Instance {
     let mut builder = InstanceBuilder::new(alloc);
-    let objective = draws.terms(rt, alloc, vars, vars, limit);
+    let objective = draws.terms(rt, alloc, vars, vars, size);
     builder.set_objective(&objective).expect(rt, "an objective");
     for _ in 0..vars {
         let count = draws.below(4).saturating_add(1);
-        let row = draws.terms(rt, alloc, vars, count, limit);
+        let row = draws.terms(rt, alloc, vars, count, size);
         let relation = match draws.below(3) {
             0 => Relation::AtLeast,
             1 => Relation::AtMost,
             _ => Relation::Equal,
         };
-        let bound = draws.about(limit);
+        let bound = draws.about(size.limit).saturating_mul(size.unit);
         builder
             .add(&row, relation, bound)
             .expect(rt, "a constraint");
@@ -98,7 +107,7 @@ fn makes_true(bits: u64, lit: Lit) -> bool {
 }
 
 /// The sum of the terms under the bits.
-fn value_of(terms: &[FormTerm], bits: u64) -> Magnitude {
+fn value_of<C: Count>(terms: &[FormTerm<C>], bits: u64) -> Magnitude {
     let mut sum: Magnitude = 0;
     for term in terms {
         if makes_true(bits, term.lit()) {
@@ -109,7 +118,7 @@ fn value_of(terms: &[FormTerm], bits: u64) -> Magnitude {
 }
 
 /// Whether the bits meet all rows.
-fn meets(form: &Normal, bits: u64) -> bool {
+fn meets<C: Count>(form: &Form<C>, bits: u64) -> bool {
     for row in 0..form.len() {
         if value_of(form.terms(row), bits) < form.degree(row).number() {
             return false;
@@ -130,7 +139,7 @@ fn extends(bits: u64, lits: &[Lit]) -> bool {
 
 /// The least cost above the base of those that meet all rows and make the literals true; the greatest number where there is
 /// none.
-fn least_above(form: &Normal, lits: &[Lit], vars: u32) -> Magnitude {
+fn least_above<C: Count>(form: &Form<C>, lits: &[Lit], vars: u32) -> Magnitude {
     let mut least = Magnitude::MAX;
     for bits in 0..1_u64.wrapping_shl(vars) {
         if extends(bits, lits) && meets(form, bits) {
@@ -141,12 +150,17 @@ fn least_above(form: &Normal, lits: &[Lit], vars: u32) -> Magnitude {
 }
 
 /// By how much the bound is above the base.
-fn above(form: &Normal, bound: Number) -> Magnitude {
+fn above<C: Count>(form: &Form<C>, bound: Number) -> Magnitude {
     bound.saturating_sub(form.base()).max(0).unsigned_abs()
 }
 
 /// Whether the bounds are at most the costs that the listing finds, with the literal and without it.
-fn holds(form: &Normal, multipliers: &Multipliers<'_>, lits: &mut Vec<Lit>, lit: Lit) -> bool {
+fn holds<C: Count>(
+    form: &Form<C>,
+    multipliers: &Multipliers<'_, C>,
+    lits: &mut Vec<Lit>,
+    lit: Lit,
+) -> bool {
     let vars = form.vars();
     if above(form, multipliers.bound()) > least_above(form, lits, vars) {
         return false;
@@ -162,9 +176,9 @@ fn holds(form: &Normal, multipliers: &Multipliers<'_>, lits: &mut Vec<Lit>, lit:
 }
 
 /// Makes a drawn change: a shift, a literal that joins or leaves the trail, or changes that are taken back.
-fn change(
+fn change<C: Count>(
     draws: &mut Draws,
-    multipliers: &mut Multipliers<'_>,
+    multipliers: &mut Multipliers<'_, C>,
     lits: &mut Vec<Lit>,
     lit: Lit,
     limit: u64,
@@ -187,26 +201,38 @@ fn change(
             let row = draws.below(16) as usize;
             let amount = draws.about(limit);
             if row < multipliers.form().len() && multipliers.has_room() {
-                multipliers.shift(row, amount);
+                multipliers.shift(row, Signed::nearest(amount));
             }
         }
     }
 }
 
 /// Draws an instance and changes of multipliers; answers whether every bound on the way is one.
-fn bounds_hold(rt: &impl Abort, alloc: Global, seed: u64, limit: u64) -> bool {
+fn bounds_hold<C: Count>(rt: &impl Abort, alloc: Global, seed: u64, size: Size) -> bool {
     let mut draws = Draws { state: seed };
     let vars = 5;
-    let instance = drawn_instance(rt, alloc, &mut draws, vars, limit);
-    let form = normalise(alloc, &instance).expect(rt, "memory");
-    let mut multipliers = Multipliers::new(alloc, &form, 20).expect(rt, "memory");
+    let instance = drawn_instance(rt, alloc, &mut draws, vars, size);
+    let form = form_of::<C>(alloc, &instance).ok().expect(rt, "a form");
+    changes_hold(rt, alloc, &form, &mut draws, size.limit)
+}
+
+/// Draws changes of multipliers; answers whether every bound on the way is one.
+fn changes_hold<C: Count>(
+    rt: &impl Abort,
+    alloc: Global,
+    form: &Form<C>,
+    draws: &mut Draws,
+    limit: u64,
+) -> bool {
+    let made = Multipliers::new(alloc, form, 20).expect(rt, "memory");
+    let mut multipliers = made.expect(rt, "a scale");
     let mut lits = Vec::with_capacity(alloc, 5).expect(rt, "memory");
     for _ in 0..30 {
-        let lit = draws.literal(rt, vars);
+        let lit = draws.literal(rt, form.vars() as u64);
         let reach = limit.saturating_mul(40_000);
-        change(&mut draws, &mut multipliers, &mut lits, lit, reach);
-        let other = draws.literal(rt, vars);
-        if !holds(&form, &multipliers, &mut lits, other) {
+        change(draws, &mut multipliers, &mut lits, lit, reach);
+        let other = draws.literal(rt, form.vars() as u64);
+        if !holds(form, &multipliers, &mut lits, other) {
             return false;
         }
     }
@@ -219,7 +245,61 @@ fn bounds_hold(rt: &impl Abort, alloc: Global, seed: u64, limit: u64) -> bool {
 fn blind_multipliers(rt: HostRuntime) {
     let alloc = rt.alloc();
     for seed in 0..150 {
-        assert!(rt; bounds_hold(&rt, alloc, seed, 9));
-        assert!(rt; bounds_hold(&rt, alloc, seed, 1_000_000_000));
+        for limit in [9, 1_000_000_000] {
+            let size = Size { limit, unit: 1 };
+            assert!(rt; bounds_hold::<u64>(&rt, alloc, seed, size));
+        }
     }
+}
+
+/// The same with numbers of 128 bits; where they are greatest no scale but 1 fits.
+#[test]
+fn blind_multipliers_of_wide_forms(rt: HostRuntime) {
+    let alloc = rt.alloc();
+    for seed in 0..150 {
+        for limit in [9, 1_000_000_000] {
+            let size = Size {
+                limit,
+                unit: 1 << 70,
+            };
+            assert!(rt; bounds_hold::<u128>(&rt, alloc, seed, size));
+        }
+    }
+}
+
+/// A form over one variable, which costs so much.
+fn costly_form(rt: &impl Abort, alloc: Global, cost: Number) -> Form<u128> {
+    let lit = Lit::new(1, true).expect(rt, "a variable");
+    let mut builder = InstanceBuilder::new(alloc);
+    let objective = [Term { coef: cost, lit }];
+    builder.set_objective(&objective).expect(rt, "an objective");
+    let row = [Term { coef: 1, lit }];
+    builder
+        .add(&row, Relation::AtLeast, 1)
+        .expect(rt, "a constraint");
+    let instance = builder.finish(1).ok().expect(rt, "an instance");
+    form_of(alloc, &instance).ok().expect(rt, "a form")
+}
+
+/// Where not even costs as they are leave room for reduced costs there are no multipliers.
+#[test]
+fn no_scale_fits(rt: HostRuntime) {
+    let alloc = rt.alloc();
+    let form = costly_form(&rt, alloc, 1 << 106);
+    let made = Multipliers::new(alloc, &form, 1).expect(&rt, "memory");
+    assert!(rt; made.is_none());
+}
+
+/// The greatest costs for which there are some: a multiplier of all of it gives all of it.
+#[test]
+fn the_greatest_scaled_costs(rt: HostRuntime) {
+    let alloc = rt.alloc();
+    let cost: Number = (1 << 106) - 1;
+    let form = costly_form(&rt, alloc, cost);
+    let made = Multipliers::new(alloc, &form, 1).expect(&rt, "memory");
+    let mut multipliers = made.expect(&rt, "a scale");
+    assert!(rt; multipliers.bound() == 0);
+    assert!(rt; multipliers.form().len() == 1 && multipliers.has_room());
+    multipliers.shift(0, Signed::nearest(cost));
+    assert!(rt; multipliers.bound() == 1 << 105);
 }

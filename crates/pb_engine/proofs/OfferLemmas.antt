@@ -9,10 +9,11 @@ use Rattle.std.proofs.lemmas.List.Folds.{list_any_more, list_any_at}
 use Rattle.std.proofs.lemmas.List.Sums.{sum_by-cons, sum_by_push, sum_by_more_le, fold_push, fold_more, sum_by-le-sum_by}
 use Rattle.pb_inst.specs.Literal.{Literal}
 use Rattle.pb_normal.specs.declared.terms.PositiveTerm.{PositiveTerm}
-use Rattle.pb_normal.specs.NormalForm.{PositiveRow}
+use Rattle.pb_normal.specs.NormalForm.{PositiveRow, total_coefficient}
 use Rattle.pb_normal.proofs.LiteralLemmas.{AreRising}
+use Rattle.pb_dual.proofs.SoundLemmas.{weight-most}
 use Rattle.pb_engine.specs.Offers.{Offer}
-use Rattle.pb_engine.specs.DisjointRows.{has_cost, is_free, is_costly, costly, greatest, cheapest, top_cost, extra, need, is_marked, meets_marks, marked_by, is_picked}
+use Rattle.pb_engine.specs.DisjointRows.{has_cost, is_free, is_costly, costly, greatest, cheapest, top_cost, extra_of, extra, need, is_marked, meets_marks, marked_by, is_picked}
 use Rattle.pb_engine.specs.Needs.{IsLackOf}
 use Rattle.pb_engine.specs.Offers.{no_offer, offer_with, offer_by, offer_of, offer_joined, extra_in}
 use Rattle.pb_normal.specs.Literals.{weight_of}
@@ -35,20 +36,20 @@ costly-at-most objective trail (t ∷ terms) =
     by_case false is total rest = omega arith
 
 -- the total so far and the next coefficient are within all coefficients
-pub offer-fits : (objective : List PositiveTerm) (trail : List Literal) (terms : List PositiveTerm) (i : ℕ) (d : PositiveTerm) (offer : Offer) → i < length terms → offer ≡ offer_of objective trail (take i terms) → offer.total + (get_or terms i d).coef ≤ sum_by (λ (t : PositiveTerm). t.coef) terms
-offer-fits objective trail terms i d offer h is = omega (arith, ap (λ (o : Offer). o.total) is, costly-at-most objective trail (take i terms), sum_by_more_le (λ (t : PositiveTerm). t.coef) terms i d h)
+pub offer-fits : (start : ℕ) (objective : List PositiveTerm) (trail : List Literal) (terms : List PositiveTerm) (i : ℕ) (d : PositiveTerm) (offer : Offer) → i < length terms → offer ≡ offer_of start objective trail (take i terms) → offer.total + (get_or terms i d).coef ≤ sum_by (λ (t : PositiveTerm). t.coef) terms
+offer-fits start objective trail terms i d offer h is = omega (arith, ap (λ (o : Offer). o.total) is, costly-at-most objective trail (take i terms), sum_by_more_le (λ (t : PositiveTerm). t.coef) terms i d h)
 
-offer_by-push : (objective : List PositiveTerm) (terms : List PositiveTerm) (t : PositiveTerm) → offer_by objective (terms ++ t ∷ []) ≡ offer_with (offer_by objective terms) t.coef (weight_of t.lit objective)
+offer_by-push : (start : ℕ) (objective : List PositiveTerm) (terms : List PositiveTerm) (t : PositiveTerm) → offer_by start objective (terms ++ t ∷ []) ≡ offer_with (offer_by start objective terms) t.coef (weight_of t.lit objective)
 unfolding greatest cheapest
-offer_by-push objective terms t =
+offer_by-push start objective terms t =
     let total = sum_by_push (λ (u : PositiveTerm). u.coef) terms t in
     let most = fold_push (λ (m : ℕ) (u : PositiveTerm). max m u.coef) 0 terms t in
-    let least = fold_push (λ (m : ℕ) (u : PositiveTerm). min m (weight_of u.lit objective)) top_cost terms t in
+    let least = fold_push (λ (m : ℕ) (u : PositiveTerm). min m (weight_of u.lit objective)) start terms t in
     rw (total, most, least) refl
 
-pub offer-none : (objective : List PositiveTerm) (trail : List Literal) (terms : List PositiveTerm) → no_offer ≡ offer_of objective trail (take 0 terms)
+pub offer-none : (start : ℕ) (objective : List PositiveTerm) (trail : List Literal) (terms : List PositiveTerm) → no_offer start ≡ offer_of start objective trail (take 0 terms)
 unfolding costly greatest cheapest
-offer-none objective trail terms = refl
+offer-none start objective trail terms = refl
 
 pub unmet-none : (trail : List Literal) (marks : List Bool) (terms : List PositiveTerm) → meets_marks trail marks (take 0 terms) ≡ false
 unfolding meets_marks
@@ -80,24 +81,24 @@ some_is : (x y : Offer) → ◌≡◌ {A = Option Offer} (Some x) (Some y) → x
 some_is x y h = cc
 
 -- one more term
-pub offer-next : (objective : List PositiveTerm) (trail : List Literal) (marks : List Bool) (terms : List PositiveTerm) (i : ℕ) (t : PositiveTerm) (offer next : Offer) → i < length terms → t ≡ get_or terms i t → offer ≡ offer_of objective trail (take i terms) → meets_marks trail marks (take i terms) ≡ false → offer_joined objective trail marks offer t ≡ Some next → (next ≡ offer_of objective trail (take (i + 1) terms)) × (meets_marks trail marks (take (i + 1) terms) ≡ false)
-offer-next objective trail marks terms i t offer next h read is unmet joined =
+pub offer-next : (start : ℕ) (objective : List PositiveTerm) (trail : List Literal) (marks : List Bool) (terms : List PositiveTerm) (i : ℕ) (t : PositiveTerm) (offer next : Offer) → i < length terms → t ≡ get_or terms i t → offer ≡ offer_of start objective trail (take i terms) → meets_marks trail marks (take i terms) ≡ false → offer_joined objective trail marks offer t ≡ Some next → (next ≡ offer_of start objective trail (take (i + 1) terms)) × (meets_marks trail marks (take (i + 1) terms) ≡ false)
+offer-next start objective trail marks terms i t offer next h read is unmet joined =
     let more = costly-next objective trail terms i t h ∙ ap (λ (u : PositiveTerm). costly objective trail (take i terms) ++ cond (is_costly objective trail u.lit) (u ∷ []) []) (sym read) in
     let met = meets-next trail marks terms i t h ∙ (ap (λ (u : PositiveTerm). meets_marks trail marks (take i terms) || (is_free trail u.lit && is_marked marks u.lit)) (sym read) ∙ ap (λ (b : Bool). b || (is_free trail t.lit && is_marked marks t.lit)) unmet) in
     let front = costly objective trail (take i terms) in
-    by_cases (is_free trail t.lit) (is_marked marks t.lit) (has_cost objective t.lit) joined more met (ap (offer_by objective) more)
+    by_cases (is_free trail t.lit) (is_marked marks t.lit) (has_cost objective t.lit) joined more met (ap (offer_by start objective) more)
   where
     append-nil : (xs : List PositiveTerm) → xs ++ [] ≡ xs
     append-nil [] = refl
     append-nil (x ∷ xs) = ap (λ (ys : List PositiveTerm). x ∷ ys) (append-nil xs)
 
-    same : (b : Bool) → b ≡ false → offer_by objective (costly objective trail (take (i + 1) terms)) ≡ offer_by objective (costly objective trail (take i terms) ++ cond b (t ∷ []) []) → offer_by objective (costly objective trail (take (i + 1) terms)) ≡ offer
-    same b off whole = whole ∙ (ap (λ (x : Bool). offer_by objective (costly objective trail (take i terms) ++ cond x (t ∷ []) [])) off ∙ (ap (offer_by objective) (append-nil (costly objective trail (take i terms))) ∙ sym is))
+    same : (b : Bool) → b ≡ false → offer_by start objective (costly objective trail (take (i + 1) terms)) ≡ offer_by start objective (costly objective trail (take i terms) ++ cond b (t ∷ []) []) → offer_by start objective (costly objective trail (take (i + 1) terms)) ≡ offer
+    same b off whole = whole ∙ (ap (λ (x : Bool). offer_by start objective (costly objective trail (take i terms) ++ cond x (t ∷ []) [])) off ∙ (ap (offer_by start objective) (append-nil (costly objective trail (take i terms))) ∙ sym is))
 
-    by_cases : (a b d : Bool) → cond a (cond b None (cond d (Some (offer_with offer t.coef (weight_of t.lit objective))) (Some offer))) (Some offer) ≡ Some next → costly objective trail (take (i + 1) terms) ≡ costly objective trail (take i terms) ++ cond (a && d) (t ∷ []) [] → meets_marks trail marks (take (i + 1) terms) ≡ (false || (a && b)) → offer_by objective (costly objective trail (take (i + 1) terms)) ≡ offer_by objective (costly objective trail (take i terms) ++ cond (a && d) (t ∷ []) []) → (next ≡ offer_of objective trail (take (i + 1) terms)) × (meets_marks trail marks (take (i + 1) terms) ≡ false)
+    by_cases : (a b d : Bool) → cond a (cond b None (cond d (Some (offer_with offer t.coef (weight_of t.lit objective))) (Some offer))) (Some offer) ≡ Some next → costly objective trail (take (i + 1) terms) ≡ costly objective trail (take i terms) ++ cond (a && d) (t ∷ []) [] → meets_marks trail marks (take (i + 1) terms) ≡ (false || (a && b)) → offer_by start objective (costly objective trail (take (i + 1) terms)) ≡ offer_by start objective (costly objective trail (take i terms) ++ cond (a && d) (t ∷ []) []) → (next ≡ offer_of start objective trail (take (i + 1) terms)) × (meets_marks trail marks (take (i + 1) terms) ≡ false)
     by_cases true true d e more met whole = absurd (let none : ⊥ = cc in none)
     by_cases true false true e more met whole =
-        (sym (some_is (offer_with offer t.coef (weight_of t.lit objective)) next e) ∙ (ap (λ (o : Offer). offer_with o t.coef (weight_of t.lit objective)) is ∙ (sym (offer_by-push objective (costly objective trail (take i terms)) t) ∙ sym whole)), met)
+        (sym (some_is (offer_with offer t.coef (weight_of t.lit objective)) next e) ∙ (ap (λ (o : Offer). offer_with o t.coef (weight_of t.lit objective)) is ∙ (sym (offer_by-push start objective (costly objective trail (take i terms)) t) ∙ sym whole)), met)
     by_cases true false false e more met whole = (sym (some_is offer next e) ∙ sym (same false refl whole), met)
     by_cases false b d e more met whole = (sym (some_is offer next e) ∙ sym (same false refl whole), met)
 
@@ -151,9 +152,30 @@ one_is_enough offer n some reach enough =
     let one : div_ceil n offer.greatest ≡ 1 = one_times (div_ceil n offer.greatest) n offer.greatest some enough times.0 times.1 in
     rw (lt-ltb 0 n some, le-ltb offer.total n reach, one) (omega arith)
 
-pub extra-is : (objective : List PositiveTerm) (trail : List Literal) (row : PositiveRow) (offer : Offer) (n : ℕ) → offer ≡ offer_of objective trail row.terms → n ≡ need objective trail row → extra_in offer n ≡ extra objective trail row
+-- no start that is above all costs matters where there is a costly literal
+cheapest-start : (objective : List PositiveTerm) (start other : ℕ) (t : PositiveTerm) (terms : List PositiveTerm) → weight_of t.lit objective ≤ start → weight_of t.lit objective ≤ other → cheapest objective start (t ∷ terms) ≡ cheapest objective other (t ∷ terms)
+unfolding cheapest
+cheapest-start objective start other t terms below above = ap (λ (m : ℕ). fold (λ least u. min least (weight_of u.lit objective)) m terms) (same (weight_of t.lit objective) below above)
+  where
+    same : (w : ℕ) → w ≤ start → w ≤ other → min start w ≡ min other w
+    same w below above = omega arith
+
+pub extra-is : (start : ℕ) (objective : List PositiveTerm) (trail : List Literal) (row : PositiveRow) (offer : Offer) (n : ℕ) → offer ≡ offer_of start objective trail row.terms → n ≡ need objective trail row → total_coefficient objective ≤ start → total_coefficient objective ≤ top_cost → extra_in offer n ≡ extra objective trail row
 unfolding extra
-extra-is objective trail row offer n is needed = ap (λ (o : Offer). extra_in o n) is ∙ ap (extra_in (offer_of objective trail row.terms)) needed
+extra-is start objective trail row offer n is needed small fits = ap (λ (o : Offer). extra_in o n) is ∙ (ap (extra_in (offer_of start objective trail row.terms)) needed ∙ by_terms (need objective trail row) (costly objective trail row.terms))
+  where
+    nothing : (k a b : ℕ) → cond (nat_lt 0 k && not (nat_lt 0 k)) a 0 ≡ cond (nat_lt 0 k && not (nat_lt 0 k)) b 0
+    nothing k a b = by_case (nat_lt 0 k)
+      where
+        by_case : (p : Bool) → ◌≡◌ {A = ℕ} (cond (p && not p) a 0) (cond (p && not p) b 0)
+        by_case true = refl
+        by_case false = refl
+
+    by_terms : (k : ℕ) (terms : List PositiveTerm) → extra_in (offer_by start objective terms) k ≡ extra_of objective k terms
+    by_terms k [] = nothing k (div_ceil k (greatest []) * cheapest objective start []) (div_ceil k (greatest []) * cheapest objective top_cost [])
+    by_terms k (t ∷ terms) =
+        let weight = weight-most t.lit objective in
+        ap (λ (m : ℕ). cond (nat_lt 0 k && not (nat_lt (total_coefficient (t ∷ terms)) k)) (div_ceil k (greatest (t ∷ terms)) * m) 0) (cheapest-start objective start top_cost t terms (omega arith) (omega arith))
 
 pub not_picked : (objective : List PositiveTerm) (trail : List Literal) (marks : List Bool) (row : PositiveRow) → extra objective trail row ≡ 0 → is_picked objective trail marks row ≡ false
 not_picked objective trail marks row none = ap (λ (n : ℕ). nat_lt 0 n && not (meets_marks trail marks row.terms)) none

@@ -53,7 +53,7 @@ cheapest objective start terms = fold (λ least t. min least (weight_of t.lit ob
 
 -- no literal of the objective has so great a coefficient
 abbrev pub top_cost : ℕ
-top_cost = 18446744073709551615
+top_cost = 340282366920938463463374607431768211455
 
 -- what a row adds to the bound: the least number of costly literals that can reach its need, times the least cost of one; 0 where nothing is needed, or all of them don't reach it
 abbrev pub extra_of : List PositiveTerm → ℕ → List PositiveTerm → ℕ

@@ -20,28 +20,37 @@ use crate::needs::Needs;
 use pb_bits::Marks;
 use pb_count::Count;
 use pb_dual::Relaxation;
-use pb_inst::{Cube, Lit, Magnitude, Memory, Number};
+use pb_inst::{Cube, Lit, Memory, Number};
 use pb_normal::Form;
 use pb_rows::{Clauses, RowTerms, Rows, TablesSource};
 use pb_trail::{Propagator, Step};
 use std::alloc::Global;
 use std::marker::Model;
 
-/// An engine that counts in 64 bits: what searches use.
-pub type Engine<'a> = CountingEngine<'a, u64>;
-
 /// Rows, a trail over their variables with some literals assumed, and whether a conflict stands. It counts in numbers of
-/// type `C`.
-#[derive(Debug, Drop)]
-pub struct CountingEngine<'a, C: Count> {
+/// type `C`, the width of its normal form.
+#[derive(Debug)]
+pub struct Engine<'a, C: Count = u64> {
     propagator: Propagator<'a, C>,
     needs: Needs<C>,
     marks: Marks,
-    /// Multipliers for a second lower bound, where there is an objective. The view leaves them out.
+    /// Multipliers for a second lower bound, where there is an objective whose costs have a scale. The view leaves them out.
     relaxation: Option<Relaxation<'a, C>>,
 }
 
-impl<'a, C: Count> Model for CountingEngine<'a, C> {
+// By hand, so that whoever lets go of an engine sees one call, and not each of its parts.
+impl<C: Count> Drop for Engine<'_, C> {
+    fn drop(self) {
+        let Engine {
+            propagator: _,
+            needs: _,
+            marks: _,
+            relaxation: _,
+        } = self;
+    }
+}
+
+impl<'a, C: Count> Model for Engine<'a, C> {
     ghost use Rattle.std.specs.Prelude.{IfSome};
     ghost use Rattle.pb_trail.specs.EngineState.{EngineState};
     ghost use Rattle.pb_dual.specs.Relaxation.{IsBeside};
@@ -54,7 +63,7 @@ impl<'a, C: Count> Model for CountingEngine<'a, C> {
     ghost invariant = { λ e. (HasCounters C.limit e.propagator e.needs e.marks) × IfSome e.relaxation (λ r. IsBeside e.propagator.form e.propagator.trail r) };
 }
 
-impl<'a, C: Count> CountingEngine<'a, C> {
+impl<'a, C: Count> Engine<'a, C> {
     /// The empty trail over the rows of the normal form and, for each cube in order, the clause that some literal of it is
     /// false; a cube that contradicts itself has none. There may be `MAX_CLAUSES` cubes. It builds tables of its own; `Rows`, `Clauses` and `over` share them
     /// among engines. Nothing after it takes memory.
@@ -62,7 +71,7 @@ impl<'a, C: Count> CountingEngine<'a, C> {
         alloc: Global,
         form: &'a Form<C>,
         negated: &'a [Cube],
-    ) -> Result<CountingEngine<'a, C>, Memory>
+    ) -> Result<Engine<'a, C>, Memory>
         requires few { length negated.now ≤ MAX_CLAUSES }
         requires variables { All (λ cube. All (λ l. l.var ≤ form.now.vars) cube) negated.now }
         ensures form { IfOk result (λ e. (e.form ≡ form.now) × (e.vars ≡ form.now.vars)) }
@@ -70,7 +79,7 @@ impl<'a, C: Count> CountingEngine<'a, C> {
         ensures empty { IfOk result (λ e. (e.trail ≡ []) × (e.levels ≡ []) × (e.conflict ≡ false)) }
     {
         let source = TablesSource::new(alloc, form, negated)?;
-        CountingEngine::start(alloc, source)
+        Engine::start(alloc, source)
     }
 
     /// The empty trail over rows and clauses that are lent. Nothing after it takes memory.
@@ -78,24 +87,24 @@ impl<'a, C: Count> CountingEngine<'a, C> {
         alloc: Global,
         rows: &'a Rows<'a, C>,
         clauses: &'a Clauses,
-    ) -> Result<CountingEngine<'a, C>, Memory>
+    ) -> Result<Engine<'a, C>, Memory>
         requires beside { AreBeside rows.now clauses.now }
         ensures form { IfOk result (λ e. (e.form ≡ rows.now.form) × (e.vars ≡ rows.now.form.vars)) }
         ensures rows { IfOk result (λ e. e.rows ≡ rows.now.form.rows ++ clauses.now.rows) }
         ensures empty { IfOk result (λ e. (e.trail ≡ []) × (e.levels ≡ []) × (e.conflict ≡ false)) }
     {
-        CountingEngine::start(alloc, TablesSource::lent(rows, clauses))
+        Engine::start(alloc, TablesSource::lent(rows, clauses))
     }
 
     /// The empty trail.
-    fn start(alloc: Global, source: TablesSource<'a, C>) -> Result<CountingEngine<'a, C>, Memory>
+    fn start(alloc: Global, source: TablesSource<'a, C>) -> Result<Engine<'a, C>, Memory>
         ensures { IfOk result (λ e. e ≡ record { form = source.entry.form; vars = source.entry.vars; rows = source.entry.rows; trail = []; levels = []; conflict = false }) }
     {
         let relaxation = relaxation_over(alloc, source.tables().form())?;
         let propagator = Propagator::new(alloc, source)?;
         let needs = Needs::new(alloc, &propagator.slacks())?;
         let marks = Marks::new(alloc, propagator.vars())?;
-        Ok(CountingEngine {
+        Ok(Engine {
             propagator,
             needs,
             marks,
@@ -276,9 +285,9 @@ impl<'a, C: Count> CountingEngine<'a, C> {
         }
     }
 
-    /// By how much the bound of the multipliers at the node that was judged last may rise before it is over the limit; none
-    /// where there were none. A measure to compare nodes by, and no more than a hint.
-    pub fn gap(&self, limit: Number) -> Option<Magnitude> {
+    /// By how much the bound of the multipliers at the node that was judged last may rise before it is over the limit, and at
+    /// most 2^64 - 1; none where there were none. A measure to compare nodes by, and no more than a hint.
+    pub fn gap(&self, limit: Number) -> Option<u64> {
         match &self.relaxation {
             Some(relaxation) => relaxation.gap(limit),
             None => None,
@@ -317,7 +326,7 @@ impl<'a, C: Count> CountingEngine<'a, C> {
     }
 }
 
-/// Multipliers for the rows of the form, where it has an objective.
+/// Multipliers for the rows of the form, where it has an objective whose costs have a scale.
 fn relaxation_over<'a, C: Count>(
     alloc: Global,
     form: &'a Form<C>,
@@ -327,7 +336,7 @@ fn relaxation_over<'a, C: Count>(
     if form.objective().is_empty() {
         return Ok(None);
     }
-    Ok(Some(Relaxation::new(alloc, form)?))
+    Relaxation::new(alloc, form)
 }
 
 #[cfg(test)]

@@ -35,14 +35,14 @@ impl<C: Count> Model for Offer<C> {
 }
 
 impl<C: Count> Offer<C> {
-    /// No literal.
+    /// No literal. The least cost begins with what is above all costs.
     fn none() -> Offer<C>
-        ensures { result ≡ no_offer }
+        ensures { result ≡ no_offer C.limit }
     {
         Offer {
             total: Tally::of(0),
             greatest: Tally::of(0),
-            cheapest: Tally::of(u64::MAX),
+            cheapest: Tally::limit(),
         }
     }
 
@@ -110,7 +110,7 @@ fn offer_in<C: Count>(
     requires variables { All (λ t. (1 ≤ t.lit.var) × (t.lit.var ≤ slacks.now.vars)) (terms_in terms) }
     requires marks { length marks.now ≡ slacks.now.vars }
     requires fits { sum_by (λ t. t.coef) (terms_in terms) < C.limit }
-    ensures some { ForSome result (λ offer. (offer ≡ offer_of slacks.now.form.objective slacks.now.trail (terms_in terms.entry)) × (meets_marks slacks.now.trail marks.now (terms_in terms.entry) ≡ false)) }
+    ensures some { ForSome result (λ offer. (offer ≡ offer_of C.limit slacks.now.form.objective slacks.now.trail (terms_in terms.entry)) × (meets_marks slacks.now.trail marks.now (terms_in terms.entry) ≡ false)) }
     ensures none { result ≡ None → meets_marks slacks.now.trail marks.now (terms_in terms.entry) ≡ true }
 {
     match terms {
@@ -128,7 +128,7 @@ fn offer_of_items<C: Count, T: Weighs<C>>(
     requires variables { All (λ t. (1 ≤ t.lit.var) × (t.lit.var ≤ slacks.now.vars)) (map T.term items.now) }
     requires marks { length marks.now ≡ slacks.now.vars }
     requires fits { sum_by (λ t. t.coef) (map T.term items.now) < C.limit }
-    ensures some { ForSome result (λ offer. (offer ≡ offer_of slacks.now.form.objective slacks.now.trail (map T.term items.now)) × (meets_marks slacks.now.trail marks.now (map T.term items.now) ≡ false)) }
+    ensures some { ForSome result (λ offer. (offer ≡ offer_of C.limit slacks.now.form.objective slacks.now.trail (map T.term items.now)) × (meets_marks slacks.now.trail marks.now (map T.term items.now) ≡ false)) }
     ensures none { result ≡ None → meets_marks slacks.now.trail marks.now (map T.term items.now) ≡ true }
 {
     let mut offer = Offer::none();

@@ -7,7 +7,7 @@ mod extras;
 mod laws;
 mod needs;
 
-pub use engine::{CountingEngine, Engine};
+pub use engine::Engine;
 pub use laws::clause_laws;
 pub use pb_count::Count;
 pub use pb_rows::{Clauses, MAX_CLAUSES, RowTerms, Rows};

@@ -1,3 +1,4 @@
+pub mod FlatLemmas
 pub mod NumberWidth
 pub mod Packed
 pub mod Parts

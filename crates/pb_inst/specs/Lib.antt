@@ -10,3 +10,5 @@ pub mod Constraints
 pub mod Rows
 pub mod Incumbent
 pub mod Cubes
+pub mod LiteralCodes
+pub mod FlatTerms

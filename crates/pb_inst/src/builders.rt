@@ -6,6 +6,7 @@ ghost use Rattle.pb_inst.specs.Constraints.{clause_constraint};
 ghost use Rattle.pb_inst.specs.Limits.{constraint_terms, total_magnitude, HasRoom, HasVariablesWithin};
 
 use crate::constraints::ConstraintList;
+use crate::flat_terms::TermList;
 use crate::sums::{has_variables_within, is_within_bound};
 use crate::{
     InstFault, Instance, Lit, MAX_CONSTRAINTS, MAX_TERMS, MAX_VARS, Number, Relation, SUM_BOUND,
@@ -19,21 +20,20 @@ use std::marker::Model;
 #[derive(Debug, Drop)]
 pub struct InstanceBuilder {
     alloc: Global,
-    objective: Option<Vec<Term>>,
+    objective: Option<TermList>,
     constraints: ConstraintList,
 }
 
 impl Model for InstanceBuilder {
-    ghost use Rattle.std.specs.Option.{option_map};
     ghost use Rattle.pb_inst.specs.Problem.{Statements};
 
     ghost Value = { Statements };
 
     ghost use Rattle.pb_inst.specs.Limits.{IsWithinLimits};
 
-    ghost view = { λ b. record { objective = option_map (λ terms. terms.items) b.objective; constraints = b.constraints } };
+    ghost view = { λ b. record { objective = b.objective; constraints = b.constraints } };
 
-    ghost invariant = { λ b. IsWithinLimits (record { objective = option_map (λ terms. terms.items) b.objective; constraints = b.constraints }) };
+    ghost invariant = { λ b. IsWithinLimits (record { objective = b.objective; constraints = b.constraints }) };
 }
 
 /// Why an instance was not finished, and the builder as it was.
@@ -74,7 +74,7 @@ impl InstanceBuilder {
         if terms.len() > MAX_TERMS - self.constraints.term_count() {
             return Err(InstFault::TooMany);
         }
-        self.objective = Some(Vec::from_slice(self.alloc, terms)?);
+        self.objective = Some(TermList::from_slice(self.alloc, terms)?);
         Ok(())
     }
 
@@ -152,12 +152,12 @@ impl InstanceBuilder {
         ensures { IsTrue result ↔ HasVariablesWithin n self.now }
     {
         if let Some(terms) = &self.objective
-            && !has_variables_within(terms, n)
+            && !has_variables_within(&terms.as_terms(), n)
         {
             return false;
         }
         for i in 0..self.constraints.len() {
-            if !has_variables_within(self.constraints.get(i).terms, n) {
+            if !has_variables_within(&self.constraints.get(i).terms, n) {
                 return false;
             }
         }

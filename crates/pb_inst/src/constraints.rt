@@ -2,7 +2,8 @@
 
 ghost use Rattle.std.specs.Prelude.{◌≡◌, ℕ, ◌+◌, ◌<◌, ◌≤◌, [], ◌∷◌, ◌++◌, List, length, map, sum_by, slice_get, slice_range, Some, OnOk, OnErr, pos};
 
-use crate::{Lit, MAX_TERMS, Memory, Number};
+use crate::flat_terms::TermList;
+use crate::{Lit, MAX_TERMS, Memory, Number, Terms};
 use std::alloc::Global;
 use std::marker::Model;
 
@@ -27,10 +28,10 @@ pub enum Relation {
 }
 
 /// A constraint as it is read back: the sum of the terms stands in the relation to the bound.
-#[derive(Clone, Copy, Debug)]
+#[derive(Debug, Drop)]
 pub struct Constraint<'a> {
     /// The terms as they were added, repeats included.
-    pub terms: &'a [Term],
+    pub terms: Terms<'a>,
     /// How the sum of the terms is to stand to the bound.
     pub relation: Relation,
     /// The number on the right side.
@@ -46,15 +47,13 @@ struct Row {
     bound: Number,
 }
 
-// Large instances are kept flat: with numbers of 64 bits a term takes 16 bytes, and a constraint at most 40 besides its terms.
-const _: () = prove!(size_of::<Term>() == 2 * size_of::<Number>());
-
-const _: () = prove!(size_of::<Row>() <= 40);
+// Large instances are kept flat: a constraint takes at most 32 bytes besides its terms.
+const _: () = prove!(size_of::<Row>() <= 32);
 
 /// Constraints in the order in which they were added, over one list of all their terms. Contracts see the list of them.
 #[derive(Debug, Drop)]
 pub struct ConstraintList {
-    terms: Vec<Term>,
+    terms: TermList,
     rows: Vec<Row>,
 }
 
@@ -66,9 +65,9 @@ impl Model for ConstraintList {
 
     ghost use Rattle.pb_inst.specs.Rows.{constraints_of_rows, AreRowsOf};
 
-    ghost view = { λ l. constraints_of_rows l.terms.items l.rows.items };
+    ghost view = { λ l. constraints_of_rows l.terms l.rows.items };
 
-    ghost invariant = { λ l. AreRowsOf l.terms.items l.rows.items };
+    ghost invariant = { λ l. AreRowsOf l.terms l.rows.items };
 }
 
 impl ConstraintList {
@@ -80,7 +79,7 @@ impl ConstraintList {
         ensures { result ≡ [] }
     {
         ConstraintList {
-            terms: Vec::new(alloc),
+            terms: TermList::new(alloc),
             rows: Vec::new(alloc),
         }
     }
@@ -106,7 +105,7 @@ impl ConstraintList {
     {
         let row = self.rows[i];
         Constraint {
-            terms: part(&self.terms, row.start as usize, row.end as usize),
+            terms: self.terms.part(row.start as usize, row.end as usize),
             relation: row.relation,
             bound: row.bound,
         }
@@ -140,7 +139,7 @@ impl ConstraintList {
     {
         self.rows.reserve(1)?;
         let start = self.terms.len() as u32;
-        extend_with_units(&mut self.terms, lits)?;
+        self.terms.extend_with_units(lits)?;
         let end = self.terms.len() as u32;
         self.rows.push_reserved(Row {
             start,
@@ -150,25 +149,4 @@ impl ConstraintList {
         });
         Ok(())
     }
-}
-
-/// The terms from `start` up to `end`.
-fn part(terms: &[Term], start: usize, end: usize) -> &[Term]
-    requires ordered { start ≤ end }
-    requires within { end ≤ length terms.now }
-    ensures { result.now ≡ slice_range terms.now start end }
-{
-    &terms[start..end]
-}
-
-/// Adds each literal once to the terms, or nothing where memory runs out.
-fn extend_with_units(terms: &mut Vec<Term>, lits: &[Lit]) -> Result<(), Memory>
-    ensures added { OnOk result (terms.new.items ≡ terms.old.items ++ map (λ l. record { coef = pos 1; lit = l }) lits.now) }
-    ensures unchanged { OnErr result (terms.new.items ≡ terms.old.items) }
-{
-    terms.reserve(lits.len())?;
-    for lit in lits {
-        terms.push_reserved(Term { coef: 1, lit: *lit });
-    }
-    Ok(())
 }

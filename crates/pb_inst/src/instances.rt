@@ -1,46 +1,46 @@
 //! A finished instance.
 
 ghost use Rattle.std.specs.Prelude.{◌≡◌, ◌↔◌, ◌<◌, ◌≤◌, Some, length, IsTrue, slice_get};
-ghost use Rattle.std.specs.Option.{option_copied, option_map, is_some, SomeIff};
+ghost use Rattle.std.specs.Option.{is_some, SomeIff};
 ghost use Rattle.pb_inst.specs.Constraints.{linear};
 ghost use Rattle.pb_inst.specs.Limits.{IsProper};
 ghost use Rattle.pb_inst.specs.Meaning.{IsFeasible, cost};
 
 use crate::constraints::ConstraintList;
+use crate::flat_terms::TermList;
 use crate::sums::{is_met, sum_value};
-use crate::{Assignment, Constraint, Number, Term};
+use crate::{Assignment, Constraint, Number, Terms};
 use std::marker::Model;
 
 /// Variables, an objective or none, and constraints, within all limits. Contracts see them as a `Problem`.
 #[derive(Debug, Drop)]
 pub struct Instance {
     vars: u32,
-    objective: Option<Vec<Term>>,
+    objective: Option<TermList>,
     constraints: ConstraintList,
 }
 
 impl Model for Instance {
-    ghost use Rattle.std.specs.Option.{option_map};
     ghost use Rattle.pb_inst.specs.Problem.{Problem};
 
     ghost Value = { Problem };
 
     ghost use Rattle.pb_inst.specs.Limits.{IsProper};
 
-    ghost view = { λ i. record { vars = i.vars; objective = option_map (λ terms. terms.items) i.objective; constraints = i.constraints } };
+    ghost view = { λ i. record { vars = i.vars; objective = i.objective; constraints = i.constraints } };
 
-    ghost invariant = { λ i. IsProper (record { vars = i.vars; objective = option_map (λ terms. terms.items) i.objective; constraints = i.constraints }) };
+    ghost invariant = { λ i. IsProper (record { vars = i.vars; objective = i.objective; constraints = i.constraints }) };
 }
 
 impl Instance {
     /// The instance of these parts, which keep all limits.
     pub(crate) fn of_parts(
         vars: u32,
-        objective: Option<Vec<Term>>,
+        objective: Option<TermList>,
         constraints: ConstraintList,
     ) -> Instance
-        requires { IsProper (record { vars = vars; objective = option_map (λ terms. terms.items) objective; constraints = constraints }) }
-        ensures { result ≡ record { vars = vars; objective = option_map (λ terms. terms.items) objective; constraints = constraints } }
+        requires { IsProper (record { vars = vars; objective = objective; constraints = constraints }) }
+        ensures { result ≡ record { vars = vars; objective = objective; constraints = constraints } }
     {
         Instance {
             vars,
@@ -65,12 +65,12 @@ impl Instance {
     }
 
     /// The terms of the objective as they were set, if there is one.
-    pub fn objective(&self) -> Option<&[Term]>
-        ensures value { option_copied result ≡ self.now.objective }
+    pub fn objective(&self) -> Option<Terms<'_>>
+        ensures value { result ≡ self.now.objective }
         ensures proper { IsProper self.now }
     {
         match &self.objective {
-            Some(terms) => Some(terms),
+            Some(terms) => Some(terms.as_terms()),
             None => None,
         }
     }
@@ -99,12 +99,12 @@ impl Instance {
         ensures { SomeIff result (IsFeasible self.now assignment.now) (cost self.now assignment.now) }
     {
         for i in 0..self.constraints.len() {
-            if !is_met(self.constraints.get(i), assignment) {
+            if !is_met(&self.constraints.get(i), assignment) {
                 return None;
             }
         }
         match &self.objective {
-            Some(terms) => Some(sum_value(terms, assignment)),
+            Some(terms) => Some(sum_value(&terms.as_terms(), assignment)),
             None => Some(0),
         }
     }

@@ -6,16 +6,17 @@ ghost use Rattle.pb_inst.specs.Limits.{total_magnitude, AllVariablesWithin};
 ghost use Rattle.pb_inst.specs.Meaning.{sum_value, Meets};
 ghost use Rattle.pb_inst.specs.SumLaws.{SumOfTermAndRest, SumOfTwoLists, SumIsWithinMagnitude, CostIsWithinBound};
 
-use crate::{Assignment, Constraint, Number, Relation, SUM_BOUND, Term};
+use crate::{Assignment, Constraint, Number, Relation, SUM_BOUND, Term, Terms};
 
 /// The sum of coefficients times values, repeats included. No partial sum leaves the range of a `Number`.
-pub(crate) fn sum_value(terms: &[Term], assignment: &Assignment) -> Number
+pub(crate) fn sum_value(terms: &Terms<'_>, assignment: &Assignment) -> Number
     requires variables { AllVariablesWithin (length assignment.now) terms.now }
     requires bounded { total_magnitude terms.now ≤ SUM_BOUND }
     ensures { result ≡ sum_value assignment.now terms.now }
 {
     let mut sum: Number = 0;
-    for term in terms {
+    for i in 0..terms.len() {
+        let term = terms.get(i);
         if assignment.satisfies(term.lit) {
             sum += term.coef;
         }
@@ -24,12 +25,12 @@ pub(crate) fn sum_value(terms: &[Term], assignment: &Assignment) -> Number
 }
 
 /// Whether the assignment meets the constraint.
-pub(crate) fn is_met(constraint: Constraint<'_>, assignment: &Assignment) -> bool
-    requires variables { AllVariablesWithin (length assignment.now) constraint.terms.now }
-    requires bounded { total_magnitude constraint.terms.now ≤ SUM_BOUND }
-    ensures { IsTrue result ↔ Meets assignment.now (linear constraint.entry) }
+pub(crate) fn is_met(constraint: &Constraint<'_>, assignment: &Assignment) -> bool
+    requires variables { AllVariablesWithin (length assignment.now) constraint.now.terms }
+    requires bounded { total_magnitude constraint.now.terms ≤ SUM_BOUND }
+    ensures { IsTrue result ↔ Meets assignment.now (linear constraint.now) }
 {
-    let value = sum_value(constraint.terms, assignment);
+    let value = sum_value(&constraint.terms, assignment);
     match constraint.relation {
         Relation::AtLeast => value >= constraint.bound,
         Relation::AtMost => value <= constraint.bound,
@@ -53,11 +54,11 @@ pub(crate) fn is_within_bound(terms: &[Term], bound: Number) -> bool
 }
 
 /// Whether all variables are at most n.
-pub(crate) fn has_variables_within(terms: &[Term], n: u32) -> bool
+pub(crate) fn has_variables_within(terms: &Terms<'_>, n: u32) -> bool
     ensures { IsTrue result ↔ AllVariablesWithin n terms.now }
 {
-    for term in terms {
-        if term.lit.var() > n {
+    for i in 0..terms.len() {
+        if terms.get(i).lit.var() > n {
             return false;
         }
     }

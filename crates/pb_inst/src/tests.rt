@@ -6,7 +6,7 @@ ghost use Rattle.std.specs.Prelude.{◌≡◌, length};
 
 use crate::{
     Assignment, Best, Cube, InstFault, Instance, InstanceBuilder, Lit, Number, Relation, SUM_BOUND,
-    Term, precedes,
+    Term, Terms, precedes,
 };
 use std::alloc::Global;
 use std::process::Abort;
@@ -52,6 +52,14 @@ fn add_clause(rt: &impl Abort, builder: &mut InstanceBuilder, lits: &[Lit]) {
     if let Err(fault) = builder.add_clause(lits) {
         assert_eq!(rt; fault, InstFault::Memory);
         builder.add_clause(lits).expect(rt, "a clause");
+    }
+}
+
+fn copy_into(rt: &impl Abort, terms: &Terms<'_>, list: &mut Vec<Term>)
+    ensures { list.new.items ≡ terms.now }
+{
+    if terms.copy_into(list).is_err() {
+        terms.copy_into(list).expect(rt, "a list");
     }
 }
 
@@ -112,8 +120,12 @@ fn builds_what_was_added(rt: HostRuntime) {
     assert_eq!(rt; clause.relation, Relation::AtLeast);
     assert_eq!(rt; clause.bound, 1);
     assert!(rt; clause.terms.len() == 3);
-    assert_eq!(rt; clause.terms[1].coef, 1);
-    assert_eq!(rt; clause.terms[1].lit, lit(&rt, 3, false));
+    assert_eq!(rt; clause.terms.get(1).coef, 1);
+    assert_eq!(rt; clause.terms.get(1).lit, lit(&rt, 3, false));
+    let mut list = Vec::new(rt.alloc());
+    copy_into(&rt, &clause.terms, &mut list);
+    assert!(rt; list.len() == 3);
+    assert_eq!(rt; list[2], term(&rt, 1, 2));
 }
 
 #[test]
@@ -159,6 +171,11 @@ fn sums_reach_both_ends(rt: HostRuntime) {
         Err(InstFault::TooLarge)
     );
     assert_eq!(rt; builder.set_objective(&lowest), Err(InstFault::TooLarge));
+    // The absolute coefficients add up to 2^128, which is 0 in 128 bits.
+    assert_eq!(rt;
+        builder.set_objective(&[lowest[0], lowest[0]]),
+        Err(InstFault::TooLarge)
+    );
     add(&rt, &mut builder, &halves, Relation::AtLeast, 0);
     add(&rt, &mut builder, &single, Relation::AtMost, -1);
     add(&rt, &mut builder, &negative, Relation::AtMost, 0);

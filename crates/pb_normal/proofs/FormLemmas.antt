@@ -19,7 +19,7 @@ use Rattle.pb_normal.specs.Exact.{Inequality, negated, inequalities_of, inequali
 use Rattle.pb_normal.specs.Merging.{clipped, clipped_row, opposite, HasValueOf, IsSumOf, AreNormalRows, AddsRows}
 use Rattle.pb_normal.specs.NormalForm.{PositiveRow, total_coefficient, ArePositiveTerms, IsNormal, KeepsCost}
 use Rattle.pb_normal.proofs.ExactLemmas.{least_is, surplus_is}
-use Rattle.pb_normal.proofs.RowLemmas.{total_coefficient-clipped, one_normal_row, no_normal_row, IsSumOf-negated, AddsRows-append, row_count_is}
+use Rattle.pb_normal.proofs.RowLemmas.{one_normal_row, no_normal_row, IsSumOf-negated, AddsRows-append, row_count_is}
 
 -- the sum is at least the bound
 abbrev pub at_least : List Term → ℤ → Inequality

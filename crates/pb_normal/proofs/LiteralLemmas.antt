@@ -37,6 +37,10 @@ same_sign-is true b h = sym h
 same_sign-is false true h = h
 same_sign-is false false h = refl
 
+-- the negation, by its parts
+pub negation-is : (l m : Literal) → m.var ≡ l.var → m.positive ≡ not l.positive → m ≡ negation l
+negation-is l m var sign = let whole : lit m.var m.positive ≡ lit l.var (not l.positive) = cc in whole
+
 pub same_literal-itself : (l : Literal) → same_literal l l ≡ true
 same_literal-itself l = rw (eq-eqb l.var l.var refl, same_sign-itself l.positive) refl
 

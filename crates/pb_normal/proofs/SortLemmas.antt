@@ -1,5 +1,5 @@
 -- Terms in another order have the same sum, the same magnitude and the same variables.
-use Rattle.std.proofs.Common.{◌≡◌, ℕ, ℤ, ◌≤◌, List, [], ◌++◌, sym, ◌∙◌, ap, subst, arith}
+use Rattle.std.proofs.Common.{◌≡◌, ℕ, ℤ, ◌≤◌, List, sym, ◌∙◌, subst, arith}
 use Rattle.std.specs.Prelude.{unsigned_abs, ◌+ℤ◌, ◌≤ℤ◌, pos}
 use Rattle.std.specs.List.Sorted.{IsPermutation}
 use Rattle.std.proofs.lemmas.List.Sorted.{sum_by-IsPermutation, All-permutation, length_permutation}
@@ -28,7 +28,5 @@ HasValueOf-IsPermutation xs ys base merged same h =
     }
 
 -- a copy that has been sorted
-pub sorted_copy : (terms empty copied sorted seen : List Term) → empty ≡ [] → copied ≡ empty ++ terms → IsPermutation copied sorted → seen ≡ sorted → IsPermutation terms seen
-sorted_copy terms empty copied sorted seen none copy same see =
-    let all : copied ≡ terms = copy ∙ ap (λ (ts : List Term). ts ++ terms) none in
-    subst (λ (ts : List Term). IsPermutation terms ts) (sym see) (subst (λ (ts : List Term). IsPermutation ts sorted) all same)
+pub sorted_copy : (terms copied sorted seen : List Term) → copied ≡ terms → IsPermutation copied sorted → seen ≡ sorted → IsPermutation terms seen
+sorted_copy terms copied sorted seen all same see = subst (λ (ts : List Term). IsPermutation terms ts) (sym see) (subst (λ (ts : List Term). IsPermutation ts sorted) all same)

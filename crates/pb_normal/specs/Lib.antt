@@ -4,3 +4,4 @@ pub mod Literals
 pub mod Exact
 pub mod Merging
 pub mod Layout
+pub mod Widths

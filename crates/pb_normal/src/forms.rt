@@ -19,14 +19,14 @@ use crate::terms::{FormTerm, PositiveTerm};
 use crate::unbuilt::Unbuilt;
 use pb_count::{Count, Tally};
 use pb_inst::{Constraint, Instance, Magnitude, Memory, Number, Relation};
-use std::alloc::{AllocError, Global};
+use std::alloc::Global;
 use std::marker::Model;
 
 /// Rows of positive terms, and the cost as a base and positive terms. The terms of a row add up to at least its degree,
 /// and the terms of the objective are what the cost is above its base. The degree of each row, the coefficients of a row
 /// together and those of the objective are below the limit of the numbers in which engines over the form count. Contracts
 /// see a `NormalForm`.
-#[derive(Debug, Drop)]
+#[derive(Debug)]
 pub struct Form<C: Count = u64> {
     vars: u32,
     rows: RowList<C>,
@@ -43,6 +43,18 @@ impl<C: Count> Model for Form<C> {
     ghost view = { λ f. record { vars = f.vars; rows = f.rows; base = f.base; objective = f.objective.items } };
 
     ghost invariant = { λ f. IsNormalWithin C.limit (record { vars = f.vars; rows = f.rows; base = f.base; objective = f.objective.items }) };
+}
+
+// By hand, so that who lets a form go calls this, and does not let each part go in its place.
+impl<C: Count> Drop for Form<C> {
+    fn drop(self) {
+        let Form {
+            vars: _,
+            rows: _,
+            base: _,
+            objective: _,
+        } = self;
+    }
 }
 
 impl<C: Count> Form<C> {
@@ -96,26 +108,6 @@ impl<C: Count> Form<C> {
     }
 }
 
-/// The normal form of an instance, for engines that count in 64 bits.
-pub type Normal = Form;
-
-/// The normal form of the instance. The rows stand in the order of their constraints, an equality's `>=` before its `<=`;
-/// a constraint that always holds has no row. Takes time in proportion to the terms, but for sorting those of a constraint.
-/// `Memory` says that a growth of memory was refused.
-pub fn normalise(alloc: Global, instance: &Instance) -> Result<Normal, Memory>
-    ensures exact { IfOk result (λ form. IsNormalFormOf instance.now form) }
-    ensures variables { IfOk result (λ form. form.vars ≡ instance.now.vars) }
-    ensures feasible { IfOk result (λ form. KeepsFeasible instance.now form) }
-    ensures cost { IfOk result (λ form. KeepsCost instance.now form) }
-    ensures normal { IfOk result (λ form. IsNormal form) }
-{
-    match form_of(alloc, instance) {
-        Ok(form) => Ok(form),
-        Err(Unbuilt::Memory) => Err(AllocError),
-        Err(Unbuilt::TooWide) => unreachable!(),
-    }
-}
-
 /// The normal form of the instance for engines that count in these numbers. `TooWide` says that a sum is not below their
 /// limit, which none is where that is above `SUM_BOUND`; `Memory` that a growth of memory was refused.
 pub fn form_of<C: Count>(alloc: Global, instance: &Instance) -> Result<Form<C>, Unbuilt>
@@ -129,7 +121,7 @@ pub fn form_of<C: Count>(alloc: Global, instance: &Instance) -> Result<Form<C>, 
     let mut sum = PositiveSum::new(alloc);
     let mut rows = RowList::new(alloc);
     for i in 0..instance.len() {
-        add_constraint(&mut rows, &mut sum, instance.constraint(i))?;
+        add_constraint(&mut rows, &mut sum, &instance.constraint(i))?;
     }
     merge_objective(&mut sum, instance)?;
     let objective = objective_of(alloc, &sum.terms)?;
@@ -178,8 +170,11 @@ fn merge_objective(sum: &mut PositiveSum, instance: &Instance) -> Result<(), Mem
     ensures sum { OnOk result (IsSumOf instance.now.vars (objective_terms instance.now) sum.new.base sum.new.terms.items) }
 {
     match instance.objective() {
-        Some(terms) => sum.merge(terms),
-        None => sum.merge(&[]),
+        Some(terms) => sum.merge(&terms),
+        None => {
+            sum.clear();
+            Ok(())
+        }
     }
 }
 
@@ -187,21 +182,22 @@ fn merge_objective(sum: &mut PositiveSum, instance: &Instance) -> Result<(), Mem
 fn add_constraint<C: Count>(
     rows: &mut RowList<C>,
     sum: &mut PositiveSum,
-    constraint: Constraint<'_>,
+    constraint: &Constraint<'_>,
 ) -> Result<(), Unbuilt>
-    requires bounded { constraint_magnitude (linear constraint) ≤ SUM_BOUND }
-    requires room { row_terms rows.old + 2 * length constraint.terms.now ≤ MAX_ROW_TERMS }
-    ensures rows { OnOk result ((n : ℕ) → AllVariablesWithin n constraint.entry.terms.now → AddsRows n (inequalities (linear constraint.entry)) rows.old rows.new) }
-    ensures room { OnOk result (row_terms rows.new ≤ row_terms rows.old + 2 * length constraint.entry.terms.now) }
+    requires bounded { constraint_magnitude (linear constraint.now) ≤ SUM_BOUND }
+    requires room { row_terms rows.old + 2 * length constraint.now.terms ≤ MAX_ROW_TERMS }
+    ensures rows { OnOk result ((n : ℕ) → AllVariablesWithin n constraint.now.terms → AddsRows n (inequalities (linear constraint.now)) rows.old rows.new) }
+    ensures room { OnOk result (row_terms rows.new ≤ row_terms rows.old + 2 * length constraint.now.terms) }
     ensures too_wide { result ≡ Err TooWide → C.limit ≤ SUM_BOUND }
 {
-    sum.merge(constraint.terms)?;
+    sum.merge(&constraint.terms)?;
+    let bound = constraint.bound;
     match constraint.relation {
-        Relation::AtLeast => add_at_least(rows, sum, constraint.bound),
-        Relation::AtMost => add_at_most(rows, sum, constraint.bound),
+        Relation::AtLeast => add_at_least(rows, sum, bound),
+        Relation::AtMost => add_at_most(rows, sum, bound),
         Relation::Equal => {
-            add_at_least(rows, sum, constraint.bound)?;
-            add_at_most(rows, sum, constraint.bound)
+            add_at_least(rows, sum, bound)?;
+            add_at_most(rows, sum, bound)
         }
     }
 }

@@ -7,12 +7,14 @@ mod merging;
 mod rows;
 mod terms;
 mod unbuilt;
+mod widths;
 
-pub use forms::{Form, Normal, form_of, normalise};
+pub use forms::{Form, form_of};
 pub use laws::normal_form_laws;
 use pb_inst::MAX_TERMS;
 pub use terms::{FormTerm, PositiveTerm, total_of};
 pub use unbuilt::Unbuilt;
+pub use widths::{EitherWidth, Normal, normalise};
 
 /// The most terms that all rows may have together: an equality gives two rows.
 pub const MAX_ROW_TERMS: usize = 2 * MAX_TERMS;

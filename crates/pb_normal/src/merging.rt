@@ -8,7 +8,7 @@ ghost use Rattle.pb_normal.specs.NormalForm.{positive_value, total_coefficient, 
 ghost use Rattle.pb_normal.specs.Merging.{AreJoined, AddsNonzero, AddsPositive, AddsTerm, HasValueOf, opposite};
 
 use crate::PositiveTerm;
-use pb_inst::{Magnitude, Memory, Number, Term};
+use pb_inst::{Magnitude, Memory, Number, Term, Terms};
 use std::alloc::Global;
 
 /// A base and positive terms by rising variable. Its lists keep their memory, so that one value serves for one sum after the other.
@@ -37,17 +37,25 @@ impl PositiveSum {
     }
 
     /// Becomes the sum of these terms. Where memory runs out it is of no use until it is merged again.
-    pub fn merge(&mut self, terms: &[Term]) -> Result<(), Memory>
+    pub fn merge(&mut self, terms: &Terms<'_>) -> Result<(), Memory>
         requires bounded { total_magnitude terms.now ≤ SUM_BOUND }
         ensures value { OnOk result (HasValueOf terms.now self.new.base self.new.terms.items) }
         ensures positive { OnOk result ((n : ℕ) → AllVariablesWithin n terms.now → ArePositiveTerms n self.new.terms.items) }
     {
-        self.sorted.clear();
-        self.sorted.extend_from_slice(terms)?;
+        terms.copy_into(&mut self.sorted)?;
         self.sorted.sort_unstable_by_key(|term| term.lit.var());
         self.terms.clear();
         self.base = merge_sorted(&self.sorted, &mut self.terms)?;
         Ok(())
+    }
+
+    /// Becomes the sum of no terms.
+    pub fn clear(&mut self)
+        ensures value { HasValueOf [] self.new.base self.new.terms.items }
+        ensures positive { (n : ℕ) → ArePositiveTerms n self.new.terms.items }
+    {
+        self.terms.clear();
+        self.base = 0;
     }
 
     /// Becomes the negated sum: the least value is the greatest one negated, and literals are negated.

@@ -50,11 +50,10 @@ impl<C: Count> FormTerm<C> {
         self.coef
     }
 
-    /// The term as contracts see it, where its coefficient is a number.
+    /// The term as contracts see it.
     #[inline]
     pub fn positive(self) -> PositiveTerm
-        ensures literal { result.lit ≡ self.lit }
-        ensures value { self.coef < 2 ^ 64 → result ≡ self }
+        ensures { result ≡ self }
     {
         PositiveTerm {
             coef: self.coef.number(),

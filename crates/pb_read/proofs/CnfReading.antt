@@ -16,7 +16,7 @@ use Rattle.pb_read.specs.Refusal.{first_fault, at_line, ◌or_else◌}
 use Rattle.pb_read.specs.Clauses.{Word, whole_words, placed_words, clauses_on, clauses_in, clause_instance, clause_faults, VarsUpTo}
 use Rattle.pb_read.specs.Cnf.{Header, header_words, CnfText, cnf_refusal, refusal_of_content, refusal_after_header, body_refusal}
 use Rattle.pb_read.specs.Reading.{IsMemory}
-use Rattle.pb_read.specs.Capped.{cap}
+use Rattle.pb_read.specs.Capped.{cap_count}
 use Rattle.pb_read.specs.declared.dimacs.cnf.Header as code
 use Rattle.pb_read.specs.ClauseReading.{IsWhole, Fails, capped_header}
 use Rattle.pb_read.proofs.ClausesSpelled.{length_items, one_spelling, clauses_of_words}
@@ -30,8 +30,8 @@ fault k l = record { kind = k; line = l }
 pub header_is : (o : Option Header) (x : code.Header) → option_map capped_header o ≡ Some x → x.vars ≤ MAX_VARS → x.clauses ≤ MAX_CONSTRAINTS → o ≡ Some (record { vars = x.vars; clauses = x.clauses })
 header_is None x e v c = absurd cc
 header_is (Some h) x e v c =
-    let vars : x.vars ≡ cap h.vars = cc in
-    let clauses : x.clauses ≡ cap h.clauses = cc in
+    let vars : x.vars ≡ cap_count h.vars = cc in
+    let clauses : x.clauses ≡ cap_count h.clauses = cc in
     let a : h.vars ≡ x.vars = omega (arith, vars, v) in
     let b : h.clauses ≡ x.clauses = omega (arith, clauses, c) in
     same h.vars x.vars h.clauses x.clauses a b

@@ -10,7 +10,7 @@ use Rattle.pb_read.specs.Refusal.{first_kind}
 use Rattle.pb_read.specs.declared.dimacs.word.Word.TheVariants as variants
 use Rattle.pb_inst.specs.declared.TheConstants.{MAX_VARS}
 use Rattle.pb_read.specs.Clauses.{Word, word_of, Lit, Zero, Bad, is_zero, is_over, is_whole, word_faults, whole_words}
-use Rattle.pb_read.specs.Capped.{cap}
+use Rattle.pb_read.specs.Capped.{cap_count}
 use Rattle.pb_read.specs.ClauseReading.{capped, IsBroken, Scanned, ending}
 
 abbrev record_of : ℕ → Bool → Literal
@@ -184,7 +184,7 @@ module _ (n : ℕ) (limit : n ≤ MAX_VARS) (ls : List Literal) (ended broken ov
   took_literal Bad l pushed w e is p h = absurd cc
   took_literal (Lit m) l pushed w e is p h =
       let in_limit = within_some l e is in
-      let v : var ≡ cap m.var = cc in
+      let v : var ≡ cap_count m.var = cc in
       let s : positive ≡ m.positive = cc in
       let small : var ≡ m.var = omega (arith, v, in_limit.1, limit) in
       let same : l ≡ m = in_limit.0 ∙ made small s in
@@ -198,5 +198,5 @@ module _ (n : ℕ) (limit : n ≤ MAX_VARS) (ls : List Literal) (ended broken ov
   took_over Zero w e is h = absurd cc
   took_over Bad w e is h = absurd cc
   took_over (Lit m) w e is h =
-      let v : var ≡ cap m.var = cc in
+      let v : var ≡ cap_count m.var = cc in
       take_over n ls over seen ended broken m (omega (arith, v, within_none e is, limit)) h

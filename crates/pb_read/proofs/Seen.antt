@@ -7,7 +7,7 @@ use Rattle.pb_read.specs.declared.opb.form.Place.{Place}
 use Rattle.pb_read.specs.declared.opb.form.Place.TheVariants.{Start, Terms, Coefficient, Literals, AfterRelation, AfterNumber, Whole, Wrong}
 use Rattle.pb_read.specs.declared.opb.token.Token as code
 use Rattle.pb_read.specs.Opb.{Token, End, Min, Related, Number, Lit, Bad, is_min, is_literal, has_bad_index, size}
-use Rattle.pb_read.specs.Capped.{cap, capped, read_back}
+use Rattle.pb_read.specs.Capped.{cap, cap_count, capped, read_back}
 use Rattle.pb_read.specs.Building.{signed}
 use Rattle.pb_read.specs.Places.{next_place}
 use Rattle.pb_read.specs.Drafts.{Gathered, gather, gathered, within_bound, number_after, relation_after, good_literal}
@@ -34,14 +34,14 @@ same_literal (Number n) = refl
 same_literal (Lit l) = refl
 same_literal Bad = refl
 
-zero_cap : (n : ℕ) → eqb (cap n) 0 ≡ eqb n 0
+zero_cap : (n : ℕ) → eqb (cap_count n) 0 ≡ eqb n 0
 zero_cap zero = refl
-zero_cap (suc n) = ne_eqb (cap (suc n)) 0 (λ e. absurd (omega (arith, e))) ∙ sym (ne_eqb (suc n) 0 (λ e. absurd (omega (arith, e))))
+zero_cap (suc n) = ne_eqb (cap_count (suc n)) 0 (λ e. absurd (omega (arith, e))) ∙ sym (ne_eqb (suc n) 0 (λ e. absurd (omega (arith, e))))
 
-over_cap : (n : ℕ) → ltb MAX_VARS (cap n) ≡ ltb MAX_VARS n
+over_cap : (n : ℕ) → ltb MAX_VARS (cap_count n) ≡ ltb MAX_VARS n
 over_cap n = elim (cases_Bool (ltb MAX_VARS n)) [
-  | inl t ↦ let over : MAX_VARS < n = ltb-true MAX_VARS n t in lt-ltb MAX_VARS (cap n) (omega arith) ∙ sym t
-  | inr f ↦ let under : n ≤ MAX_VARS = ltb-false MAX_VARS n f in le-ltb MAX_VARS (cap n) (omega arith) ∙ sym f
+  | inl t ↦ let over : MAX_VARS < n = ltb-true MAX_VARS n t in lt-ltb MAX_VARS (cap_count n) (omega arith) ∙ sym t
+  | inr f ↦ let under : n ≤ MAX_VARS = ltb-false MAX_VARS n f in le-ltb MAX_VARS (cap_count n) (omega arith) ∙ sym f
 ]
 
 same_index : (t : Token) → has_bad_index (same t) ≡ has_bad_index t
@@ -139,11 +139,11 @@ same_good (Related r) = refl
 same_good (Number n) = refl
 same_good Bad = refl
 same_good (Lit l) = elim (cases_Bool (has_bad_index (Lit l))) [
-  | inl t ↦ bad (of_index l.positive (cap l.var)) (same_index (Lit l) ∙ t) ∙ sym (bad l t)
+  | inl t ↦ bad (of_index l.positive (cap_count l.var)) (same_index (Lit l) ∙ t) ∙ sym (bad l t)
   | inr f ↦
       let p = or_parts (eqb l.var 0) (ltb MAX_VARS l.var) f in
       let le : l.var ≤ MAX_VARS = ltb-false MAX_VARS l.var p.1 in
-      let kept : cap l.var ≡ l.var = omega (arith, le) in
+      let kept : cap_count l.var ≡ l.var = omega (arith, le) in
       ap (λ (n : ℕ). good_literal (Lit (of_index l.positive n))) kept
 ]
   where

@@ -1,5 +1,5 @@
 -- The first token of a line's bytes, cut off by its first byte, and the value of digits.
-use Rattle.std.proofs.Common.{◌≡◌, ℕ, ◌+◌, ◌*◌, ◌-◌, ◌≤◌, ◌<◌, refl, sym, ap, subst, ◌∙◌, List, [], ◌∷◌, ◌++◌, Bool, true, false, not, cond, ◌&&◌, ◌||◌, map, length, take, drop, get_or, arith, one-add, eqb, leb, inl, inr, Some, None}
+use Rattle.std.proofs.Common.{◌≡◌, ℕ, ◌+◌, ◌*◌, ◌-◌, ◌≤◌, ◌<◌, refl, sym, ap, subst, ◌∙◌, List, [], ◌∷◌, ◌++◌, Bool, true, false, not, cond, ◌&&◌, ◌||◌, map, length, take, drop, get_or, min, arith, one-add, eqb, leb, inl, inr, Some, None}
 use Rattle.std.specs.Prelude.{take_while, codes}
 use Rattle.std.specs.List.{list_all}
 use Rattle.std.specs.Int.Digits.{number_from_digits_after}
@@ -12,26 +12,27 @@ use Rattle.pb_read.specs.Text.{is_blank, is_digit, are_digits, value}
 use Rattle.pb_read.specs.declared.opb.token.Token as code
 use Rattle.pb_inst.specs.declared.constraints.Relation.TheVariants.{AtLeast, AtMost}
 use lib.Pointwise.{pointwise}
-use Rattle.pb_read.specs.Capped.{cap, capped}
+use Rattle.pb_read.specs.Capped.{cap, cap_count, capped}
 use Rattle.pb_read.specs.TokenCuts.{word_front, after_word, value_after, sign_token, after_sign}
 use Rattle.pb_read.specs.Opb.{Token, Min, Related, Bad, is_sign, is_word_byte, same_token, token_of, line_tokens}
 
 -- ---- digits
 
-cap_step : (n d : ℕ) → cap (cap n * 10 + d) ≡ cap (n * 10 + d)
-cap_step n d = omega arith
+-- a number cut off at a limit, and cut off again after more digits
+cut_step : (limit n d : ℕ) → min (min n limit * 10 + d) limit ≡ min (n * 10 + d) limit
+cut_step limit n d = omega arith
 
-cap_after : (n : ℕ) (ds : List ℕ) → cap (number_from_digits_after 10 (cap n) ds) ≡ cap (number_from_digits_after 10 n ds)
-cap_after n [] = omega arith
-cap_after n (d ∷ ds) =
-    sym (cap_after (cap n * 10 + d) ds) ∙ ap (λ (m : ℕ). cap (number_from_digits_after 10 m ds)) (cap_step n d) ∙ cap_after (n * 10 + d) ds
+cut_after : (limit n : ℕ) (ds : List ℕ) → min (number_from_digits_after 10 (min n limit) ds) limit ≡ min (number_from_digits_after 10 n ds) limit
+cut_after limit n [] = omega arith
+cut_after limit n (d ∷ ds) =
+    sym (cut_after limit (min n limit * 10 + d) ds) ∙ ap (λ (m : ℕ). min (number_from_digits_after 10 m ds) limit) (cut_step limit n d) ∙ cut_after limit (n * 10 + d) ds
 
 pub value_digit : (n b : ℕ) (after : List ℕ) → is_digit b ≡ true → value_after n (b ∷ after) ≡ value_after (n * 10 + (b - 48)) after
 value_digit n b after t = rw (t, one-add) refl
 
-pub value_digit_capped : (n m b : ℕ) (after : List ℕ) → is_digit b ≡ true → m ≡ cap (n * 10 + (b - 48)) → cap (value_after n (b ∷ after)) ≡ cap (value_after m after)
-value_digit_capped n m b after t e =
-    ap cap (value_digit n b after t) ∙ sym (cap_after (n * 10 + (b - 48)) (map (λ d. d - 48) (take_while is_digit after))) ∙ ap (λ (x : ℕ). cap (value_after x after)) (sym e)
+pub value_digit_cut : (limit n m b : ℕ) (after : List ℕ) → is_digit b ≡ true → m ≡ min (n * 10 + (b - 48)) limit → min (value_after n (b ∷ after)) limit ≡ min (value_after m after) limit
+value_digit_cut limit n m b after t e =
+    ap (λ (x : ℕ). min x limit) (value_digit n b after t) ∙ sym (cut_after limit (n * 10 + (b - 48)) (map (λ d. d - 48) (take_while is_digit after))) ∙ ap (λ (x : ℕ). min (value_after x after) limit) (sym e)
 
 -- no digit comes next
 pub value_end : (n : ℕ) (rest : List ℕ) → is_digit (get_or rest 0 0) ≡ false → value_after n rest ≡ n
@@ -120,12 +121,12 @@ all_digits (d ∷ ds) h = elim (cases_Bool (is_digit d)) [
 ]
 
 -- the whole is a number
-pub number_of_all : (v : ℕ) (ds : List ℕ) → 0 < length ds → skip_while is_digit ds ≡ [] → v ≡ cap (value_after 0 ds) → Some v ≡ cond (are_digits ds) (Some (cap (value ds))) None
+pub number_of_all : (v : ℕ) (ds : List ℕ) → 0 < length ds → skip_while is_digit ds ≡ [] → v ≡ cap_count (value_after 0 ds) → Some v ≡ cond (are_digits ds) (Some (cap_count (value ds))) None
 number_of_all v [] some h e = absurd (omega arith)
 number_of_all v (d ∷ ds) some h e =
     let a = all_digits (d ∷ ds) h in
     let p = and_parts (is_digit d) (list_all is_digit ds) a.each in
-    let same : v ≡ cap (value (d ∷ ds)) = e ∙ ap (λ (x : List ℕ). cap (value x)) a.whole in
+    let same : v ≡ cap_count (value (d ∷ ds)) = e ∙ ap (λ (x : List ℕ). cap_count (value x)) a.whole in
     rw (p.0, p.1, same) refl
 
 not_all : (ds : List ℕ) → 0 < length (skip_while is_digit ds) → list_all is_digit ds ≡ false
@@ -140,7 +141,7 @@ and_false true = refl
 and_false false = refl
 
 -- something else comes after the digits
-pub number_of_part : (ds : List ℕ) → 0 < length (skip_while is_digit ds) → None ≡ cond (are_digits ds) (Some (cap (value ds))) None
+pub number_of_part : (ds : List ℕ) → 0 < length (skip_while is_digit ds) → None ≡ cond (are_digits ds) (Some (cap_count (value ds))) None
 number_of_part ds h = rw (not_all ds h, and_false (first_is is_digit ds)) refl
 
 -- ---- the digits of a word

@@ -1,6 +1,6 @@
 -- Tokens as the code has them, in which a number over every bound is the greatest that is read.
 use Rattle.std.specs.Prelude.{ℕ, pos, min, Bool, unsigned_abs, int_lt, neg_ℤ, if◌then◌else◌}
-use Rattle.pb_read.specs.declared.digits.TheConstants.{GREATEST_READ}
+use Rattle.pb_read.specs.declared.digits.TheConstants.{GREATEST_READ, GREATEST_COUNT}
 use Rattle.pb_read.specs.declared.opb.token.Token as code
 use Rattle.pb_read.specs.declared.opb.token.Token.TheVariants as variants
 use Rattle.pb_read.specs.Runs.{first_is}
@@ -12,12 +12,16 @@ use Rattle.std.specs.Prelude.{List, [], ◌∷◌, length, ◌==◌, ◌||◌, O
 abbrev pub cap : ℕ → ℕ
 cap n = min n GREATEST_READ
 
+-- an index or a count as the code has it
+abbrev pub cap_count : ℕ → ℕ
+cap_count n = min (cap n) GREATEST_COUNT
+
 abbrev pub capped : opb.Token → code.Token
 capped opb.End = variants.End
 capped opb.Min = variants.Min
 capped (opb.Related r) = variants.Related r
 capped (opb.Number n) = variants.Number (int_lt n (pos 0)) (cap (unsigned_abs n))
-capped (opb.Lit l) = variants.Literal l.positive (cap l.var)
+capped (opb.Lit l) = variants.Literal l.positive (cap_count l.var)
 capped opb.Bad = variants.Bad
 
 -- the first token of a line's bytes and the bytes after it, where there is one

@@ -4,7 +4,7 @@ use Rattle.std.specs.List.{list_any}
 use Rattle.pb_inst.specs.Literal.{Literal}
 use Rattle.pb_read.specs.declared.dimacs.word.Word as code
 use Rattle.pb_read.specs.declared.dimacs.word.Word.TheVariants as variants
-use Rattle.pb_read.specs.Capped.{cap}
+use Rattle.pb_read.specs.Capped.{cap_count}
 use Rattle.pb_read.specs.Text.{Placed, items, words, numbered, content_of, is_marked}
 use Rattle.pb_read.specs.Clauses as clauses
 use Rattle.pb_read.specs.Clauses.{is_zero, is_over, is_whole, literal_count, clause_faults, clauses_in, whole_words, greatest_var}
@@ -18,7 +18,7 @@ use Rattle.pb_read.specs.Cnf as cnf
 use Rattle.pb_read.specs.declared.dimacs.cnf.Header.{Header}
 
 abbrev pub capped : clauses.Word → code.Word
-capped (clauses.Lit l) = variants.Literal l.positive (cap l.var)
+capped (clauses.Lit l) = variants.Literal l.positive (cap_count l.var)
 capped clauses.Zero = variants.Zero
 capped clauses.Bad = variants.Bad
 
@@ -124,4 +124,4 @@ pub record IsWhole (announced : Option ℕ) (n : ℕ) (r : ClauseReader) (taken 
 
 -- the numbers of a header as the code has them
 abbrev pub capped_header : cnf.Header → Header
-capped_header h = record { vars = cap h.vars; clauses = cap h.clauses }
+capped_header h = record { vars = cap_count h.vars; clauses = cap_count h.clauses }

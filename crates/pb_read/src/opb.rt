@@ -26,14 +26,14 @@ pub fn read_opb(alloc: Global, text: &[u8]) -> Result<Instance, ReadFault>
     ensures refused { IfErr result (λ f. IsMemory f ⊎ (opb_refusal text.now ≡ Some f)) }
 {
     let least = announced_vars(text);
-    if least > u64::from(MAX_VARS) {
+    if least > MAX_VARS {
         return Err(ReadFault {
             kind: ReadKind::TooMany,
             line: 1,
         });
     }
     let builder = read_statements(alloc, text)?;
-    let vars = builder.greatest.max(least as u32);
+    let vars = builder.greatest.max(least);
     match builder.instance.finish(vars) {
         Ok(instance) => Ok(instance),
         Err(_) => unreachable!(),

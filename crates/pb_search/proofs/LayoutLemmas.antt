@@ -35,14 +35,14 @@ rows_mean p f cubes s law feasible (clauses, rows, are) a = (
 )
 
 -- what a state has that was made over the form, to make the cubes false
-pub record IsMade (f : NormalForm) (cubes : List (List Literal)) (t : SearchState) : Type 0 where
+pub record IsMade {C : Type 0} (f : NormalForm) (cubes : List (List Literal)) (t : SearchState C) : Type 0 where
   pub form : t.engine.form ≡ f
   pub vars : t.engine.vars ≡ f.vars
   pub rows : HasRowsOf f cubes t.engine
   pub candidate : length t.candidate ≡ f.vars
   pub room : f.vars ≤ vec_capacity t.branches
 
-made_state : (p : Problem) (f : NormalForm) (cubes : List (List Literal)) (t : SearchState) → ClausesSayCubesAreFalse → f.vars ≡ p.vars → KeepsFeasible p f → KeepsCost p f → p.vars ≤ MAX_VARS → IsMade f cubes t → IsStateOf p t
+made_state : {C : Type 0} (p : Problem) (f : NormalForm) (cubes : List (List Literal)) (t : SearchState C) → ClausesSayCubesAreFalse → f.vars ≡ p.vars → KeepsFeasible p f → KeepsCost p f → p.vars ≤ MAX_VARS → IsMade f cubes t → IsStateOf p t
 made_state p f cubes t law vars feasible costs few made = record {
   engine = record {
     vars = made.vars ∙ vars;
@@ -54,7 +54,7 @@ made_state p f cubes t law vars feasible costs few made = record {
   room = subst (λ (n : ℕ). n ≤ vec_capacity t.branches) vars made.room;
 }
 
-pub laid_out : (p : Problem) (f : NormalForm) (pieces : CubeList) (cube rest : SearchState) → ClausesSayCubesAreFalse → f.vars ≡ p.vars → KeepsFeasible p f → KeepsCost p f → p.vars ≤ MAX_VARS → pieces.vars ≡ p.vars → IsMade f [] cube → IsMade f pieces.cubes rest → IsLaidOut p pieces cube rest
+pub laid_out : {C : Type 0} (p : Problem) (f : NormalForm) (pieces : CubeList) (cube rest : SearchState C) → ClausesSayCubesAreFalse → f.vars ≡ p.vars → KeepsFeasible p f → KeepsCost p f → p.vars ≤ MAX_VARS → pieces.vars ≡ p.vars → IsMade f [] cube → IsMade f pieces.cubes rest → IsLaidOut p pieces cube rest
 laid_out p f pieces cube rest law vars feasible costs few same none all = record {
   vars = same;
   cube_state = made_state p f [] cube law vars feasible costs few none;

@@ -1,6 +1,6 @@
 -- Full trails, and subtrees that may be left.
 use Rattle.std.proofs.Common.{◌≡◌, ◌≢◌, ℕ, ◌+◌, ◌-◌, ◌≤◌, List, length, refl, sym, ◌∙◌, ap, subst, arith, Bool, true, false, cond, inl, inr, ◌⊎◌, Option, None, Some}
-use Rattle.std.specs.Prelude.{slice_index_or, unwrap_or, ℤ, ◌≤ℤ◌, IsSomeAnd}
+use Rattle.std.specs.Prelude.{slice_index_or, unwrap_or, ℤ, ◌≤ℤ◌, IsSomeAnd, IfSome}
 use Rattle.std.specs.Option.{option_map}
 use Rattle.std.proofs.lemmas.List.{ext_get_or}
 use Rattle.std.proofs.Math.ListN.{get_or-eq_default}
@@ -149,6 +149,11 @@ one_sided_within p s t limit l engine sound is fixed = record {
     no_dearer : (a : List Bool) → IsBefore p a t.assignment → normal_cost s.form a ≤ℤ limit
     no_dearer a (inl less) = (let same : normal_cost s.form a ≡ cost p a = engine.costs a in let best : t.cost ≡ cost p t.assignment = sound.cost_is in omega (arith, ints))
     no_dearer a (inr equal) = (let same : normal_cost s.form a ≡ cost p a = engine.costs a in let best : t.cost ≡ cost p t.assignment = sound.cost_is in omega (arith, ints, equal.0))
+
+-- the same for what is held
+pub one_sided_held : (p : Problem) (s : EngineState) (held : Option Solution) (limit : ℤ) (l : Literal) → IsEngineOf p s → IfSome held (λ t. IsSolution p t) → option_map (λ (t : Solution). t.cost) held ≡ Some limit → IsForcedWithin s limit l → IsOpenOnOneSide p s held l
+one_sided_held p s None limit l engine sound is fixed = let bad : ⊥ = cc in absurd bad
+one_sided_held p s (Some t) limit l engine sound is fixed = let cost_is : t.cost ≡ limit = cc in one_sided_within p s t limit l engine sound cost_is fixed
 
 -- what is held has the cost and the assignment that are told
 pub held_is : (held : Option Solution) (c : ℤ) (a : List Bool) → option_map (λ (s : Solution). s.cost) held ≡ Some c → option_map (λ (s : Solution). s.assignment) held ≡ Some a → held ≡ Some (record { cost = c; assignment = a })

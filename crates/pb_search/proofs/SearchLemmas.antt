@@ -70,14 +70,14 @@ pub none_closed : (p : Problem) (s : EngineState) (held : Option Solution) → H
 none_closed p s held none a h better = none a (record { makes_true = h.makes_true; meets_rows = h.solution.meets_rows })
 
 -- expanding a node keeps the place in the search tree
-expanded_at : (root : List Literal) (t u : SearchState) → SameBranches t u → IsSoundTrail u.engine → IsAtPath root t.engine t.branches.items → IsAtPath root u.engine u.branches.items
+expanded_at : {C : Type 0} (root : List Literal) (t u : SearchState C) → SameBranches t u → IsSoundTrail u.engine → IsAtPath root t.engine t.branches.items → IsAtPath root u.engine u.branches.items
 expanded_at root t u same sound at = record {
   assumed = same.assumptions ∙ at.assumed ∙ ap (λ v. root ++ decided v.items) (sym same.branches);
   variables = subst (λ v. All (λ (b : Branch). b.lit.var ≤ u.engine.vars) v.items) (sym same.branches) (subst (λ (n : ℕ). All (λ (b : Branch). b.lit.var ≤ n) t.branches.items) (sym same.constraints.vars) at.variables);
   sound = sound;
 }
 
-pub expanded_state : (p : Problem) (t u : SearchState) → SameBranches t u → IsStateOf p t → IsStateOf p u
+pub expanded_state : {C : Type 0} (p : Problem) (t u : SearchState C) → SameBranches t u → IsStateOf p t → IsStateOf p u
 expanded_state p t u same h = record {
   engine = same_engine p t.engine u.engine same.constraints h.engine;
   few_variables = h.few_variables;
@@ -85,7 +85,7 @@ expanded_state p t u same h = record {
   room = subst (λ v. p.vars ≤ vec_capacity v) (sym same.branches) h.room;
 }
 
-pub state_moves : (p : Problem) (u w : SearchState) → SameConstraints u.engine w.engine → vec_capacity w.branches ≡ vec_capacity u.branches → length w.candidate ≡ length u.candidate → IsStateOf p u → IsStateOf p w
+pub state_moves : {C : Type 0} (p : Problem) (u w : SearchState C) → SameConstraints u.engine w.engine → vec_capacity w.branches ≡ vec_capacity u.branches → length w.candidate ≡ length u.candidate → IsStateOf p u → IsStateOf p w
 state_moves p u w same room candidate h = record {
   engine = same_engine p u.engine w.engine same h.engine;
   few_variables = h.few_variables;
@@ -94,7 +94,7 @@ state_moves p u w same room candidate h = record {
 }
 
 -- after an expansion that left the node open
-pub open_next : (p : Problem) (start : EngineState) (t u : SearchState) (next : Branch) (old new : Option Solution) → SameBranches t u → IsSoundTrail u.engine → IsFree u.engine next.lit → IsFreshOrOneSided p u.engine new next → IsNotAfter p old new → IsUnderWay p start t old → IsNext p start u next new
+pub open_next : {C : Type 0} (p : Problem) (start : EngineState) (t u : SearchState C) (next : Branch) (old new : Option Solution) → SameBranches t u → IsSoundTrail u.engine → IsFree u.engine next.lit → IsFreshOrOneSided p u.engine new next → IsNotAfter p old new → IsUnderWay p start t old → IsNext p start u next new
 open_next p start t u next old new same sound free sides later h =
     let at = expanded_at (assumptions start) t u same sound h.at_path in
     let constraints = same_constraints_onward start t.engine u.engine h.constraints same.constraints in
@@ -112,7 +112,7 @@ open_next p start t u next old new same sound free sides later h =
     }
 
 -- after an expansion that closed the node
-pub closed_leaving : (p : Problem) (start : EngineState) (t u : SearchState) (old new : Option Solution) → SameBranches t u → IsSoundTrail u.engine → IsClosed p u.engine new → IsNotAfter p old new → IsUnderWay p start t old → IsLeaving p start u new
+pub closed_leaving : {C : Type 0} (p : Problem) (start : EngineState) (t u : SearchState C) (old new : Option Solution) → SameBranches t u → IsSoundTrail u.engine → IsClosed p u.engine new → IsNotAfter p old new → IsUnderWay p start t old → IsLeaving p start u new
 closed_leaving p start t u old new same sound closed later h =
     let at = expanded_at (assumptions start) t u same sound h.at_path in
     let constraints = same_constraints_onward start t.engine u.engine h.constraints same.constraints in
@@ -126,14 +126,14 @@ closed_leaving p start t u old new same sound closed later h =
     }
 
 -- a decision was taken back
-pub record IsStep (p : Problem) (t u : SearchState) (b : Branch) : Type 0 where
+pub record IsStep {C : Type 0} (p : Problem) (t u : SearchState C) (b : Branch) : Type 0 where
   pub popped : t.branches.items ≡ u.branches.items ++ b ∷ []
   pub constraints : SameConstraints t.engine u.engine
   pub at_path : (root : List Literal) → IsAtPath root t.engine t.branches.items → IsAtPath root u.engine u.branches.items
   pub made_for : IsStateOf p t → IsStateOf p u
   pub free : IsFree u.engine b.lit
 
-pub step_of : (p : Problem) (t u : SearchState) (e : EngineState) (b : Branch) → t.branches.items ≡ u.branches.items ++ b ∷ [] → SameConstraints t.engine e → ((root : List Literal) → IsAtPath root t.engine t.branches.items → IsAtPath root e u.branches.items) → IsFree e b.lit → vec_capacity u.branches ≡ vec_capacity t.branches → length u.candidate ≡ length t.candidate → u.engine ≡ e → IsStep p t u b
+pub step_of : {C : Type 0} (p : Problem) (t u : SearchState C) (e : EngineState) (b : Branch) → t.branches.items ≡ u.branches.items ++ b ∷ [] → SameConstraints t.engine e → ((root : List Literal) → IsAtPath root t.engine t.branches.items → IsAtPath root e u.branches.items) → IsFree e b.lit → vec_capacity u.branches ≡ vec_capacity t.branches → length u.candidate ≡ length t.candidate → u.engine ≡ e → IsStep p t u b
 step_of p t u e b popped same at free room candidate is =
     let constraints : SameConstraints t.engine u.engine = subst (λ (x : EngineState). SameConstraints t.engine x) (sym is) same in
     record {
@@ -145,7 +145,7 @@ step_of p t u e b popped same at free room candidate is =
     }
 
 -- nothing is left to try at the decision that was taken back
-pub leaving_on : (p : Problem) (start : EngineState) (t u : SearchState) (b : Branch) (held : Option Solution) → IsStep p t u b → (b.flipped ≡ true) ⊎ IsClosed p u.engine held → IsLeaving p start t held → IsLeaving p start u held
+pub leaving_on : {C : Type 0} (p : Problem) (start : EngineState) (t u : SearchState C) (b : Branch) (held : Option Solution) → IsStep p t u b → (b.flipped ≡ true) ⊎ IsClosed p u.engine held → IsLeaving p start t held → IsLeaving p start u held
 leaving_on p start t u b held step spent h =
     let constraints = same_constraints_onward start t.engine u.engine h.constraints step.constraints in
     let at = step.at_path (assumptions start) h.at_path in
@@ -166,7 +166,7 @@ leaving_on p start t u b held step spent h =
     no_choice flipped (inr closed) isnt none = none closed
 
 -- the other value of the decision that was taken back is tried next
-pub turn_next : (p : Problem) (start : EngineState) (t u : SearchState) (b next : Branch) (held : Option Solution) → IsStep p t u b → IsOtherValue b next → IsLeaving p start t held → IsNext p start u next held
+pub turn_next : {C : Type 0} (p : Problem) (start : EngineState) (t u : SearchState C) (b next : Branch) (held : Option Solution) → IsStep p t u b → IsOtherValue b next → IsLeaving p start t held → IsNext p start u next held
 turn_next p start t u b next held step other h = record {
   made_for = step.made_for h.made_for;
   at_path = step.at_path (assumptions start) h.at_path;
@@ -176,7 +176,7 @@ turn_next p start t u b next held step other h = record {
 }
 
 -- what an expansion found lies below the start
-pub expanded_own : (p : Problem) (start : EngineState) (t u : SearchState) (old new : Incumbent) → SameBranches t u → IsSoundTrail u.engine → (new ≡ old) ⊎ IsSomeAnd new.held (λ s. Completes u.engine s.assignment) → IsUnderWay p start t old.held → IsOwn start old new
+pub expanded_own : {C : Type 0} (p : Problem) (start : EngineState) (t u : SearchState C) (old new : Incumbent) → SameBranches t u → IsSoundTrail u.engine → (new ≡ old) ⊎ IsSomeAnd new.held (λ s. Completes u.engine s.assignment) → IsUnderWay p start t old.held → IsOwn start old new
 expanded_own p start t u old new same sound (inl is) h = inl is
 expanded_own p start t u old new same sound (inr found) h =
     inr (within new.held found)
@@ -186,7 +186,7 @@ expanded_own p start t u old new same sound (inr found) h =
     within (Some s) k = below_start (assumptions start) start u.engine u.branches.items s.assignment (same_constraints_onward start t.engine u.engine h.constraints same.constraints) (expanded_at (assumptions start) t u same sound h.at_path) k
 
 -- the search begins
-pub begins : (p : Problem) (t : SearchState) (held : Option Solution) → IsStateOf p t → IsSoundTrail t.engine → t.branches.items ≡ [] → IsUnderWay p t.engine t held
+pub begins : {C : Type 0} (p : Problem) (t : SearchState C) (held : Option Solution) → IsStateOf p t → IsSoundTrail t.engine → t.branches.items ≡ [] → IsUnderWay p t.engine t held
 begins p t held made sound empty = record {
   made_for = made;
   at_path = record {
@@ -199,7 +199,7 @@ begins p t held made sound empty = record {
 }
 
 -- the decision is made, and what is held may have moved on
-pub goes_on : (p : Problem) (start : EngineState) (t u : SearchState) (next : Branch) (old new : Option Solution) → IsNext p start t next old → IsNotAfter p old new → IsAtPath (assumptions start) u.engine u.branches.items → u.branches.items ≡ t.branches.items ++ next ∷ [] → SameConstraints t.engine u.engine → IsStateOf p u → IsUnderWay p start u new
+pub goes_on : {C : Type 0} (p : Problem) (start : EngineState) (t u : SearchState C) (next : Branch) (old new : Option Solution) → IsNext p start t next old → IsNotAfter p old new → IsAtPath (assumptions start) u.engine u.branches.items → u.branches.items ≡ t.branches.items ++ next ∷ [] → SameConstraints t.engine u.engine → IsStateOf p u → IsUnderWay p start u new
 goes_on p start t u next old new h later at added same made = record {
   made_for = made;
   at_path = at;
@@ -226,7 +226,7 @@ if_none_map None P Q f h = f h
 if_none_map (Some b) P Q f h = h
 
 -- a search is laid out as before where the state of the remainder has the same constraints
-pub rest_laid_out : (p : Problem) (pieces : CubeList) (cube rest new : SearchState) → IsLaidOut p pieces cube rest → IsStateOf p new → SameConstraints rest.engine new.engine → IsLaidOut p pieces cube new
+pub rest_laid_out : {C : Type 0} (p : Problem) (pieces : CubeList) (cube rest new : SearchState C) → IsLaidOut p pieces cube rest → IsStateOf p new → SameConstraints rest.engine new.engine → IsLaidOut p pieces cube new
 rest_laid_out p pieces cube rest new h made same = record {
   vars = h.vars;
   cube_state = h.cube_state;
@@ -236,7 +236,7 @@ rest_laid_out p pieces cube rest new h made same = record {
 }
 
 -- what a branch that is next says at the instance that the search began with
-pub at_next : (p q : Problem) (start : EngineState) (t u : SearchState) (b : Branch) (old new : Option Solution) → q ≡ p → (IsUnderWay q start t old → IsNext q start u b new) → IsUnderWay p start t old → IsNext p start u b new
+pub at_next : {C : Type 0} (p q : Problem) (start : EngineState) (t u : SearchState C) (b : Branch) (old new : Option Solution) → q ≡ p → (IsUnderWay q start t old → IsNext q start u b new) → IsUnderWay p start t old → IsNext p start u b new
 at_next p q start t u b old new same f h = at_problem p q (λ (x : Problem). IsUnderWay x start t old) (λ (x : Problem). IsNext x start u b new) same f h
 
 -- the decision that is made leaves fewer steps

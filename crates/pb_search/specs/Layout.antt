@@ -13,7 +13,7 @@ use Rattle.pb_cubes.specs.Pieces.{CubeList}
 use Rattle.pb_search.specs.declared.search_state.SearchState.{SearchState}
 use Rattle.pb_search.specs.SearchState.{IsStateOf}
 
-pub record IsLaidOut (p : Problem) (pieces : CubeList) (cube rest : SearchState) : Type 0 where
+pub record IsLaidOut {C : Type 0} (p : Problem) (pieces : CubeList) (cube rest : SearchState C) : Type 0 where
   pub vars : pieces.vars ≡ p.vars
   pub cube_state : IsStateOf p cube
   pub rest_state : IsStateOf p rest

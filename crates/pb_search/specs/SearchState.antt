@@ -24,7 +24,7 @@ pub record IsEngineOf (p : Problem) (s : EngineState) : Type 0 where
   pub costs : KeepsCost p s.form
 
 -- the state was made for this instance
-pub record IsStateOf (p : Problem) (t : SearchState) : Type 0 where
+pub record IsStateOf {C : Type 0} (p : Problem) (t : SearchState C) : Type 0 where
   pub engine : IsEngineOf p t.engine
   pub few_variables : p.vars ≤ MAX_VARS
   pub candidate : length t.candidate ≡ p.vars
@@ -48,7 +48,7 @@ pub record IsFree (s : EngineState) (l : Literal) : Type 0 where
   pub no_conflict : s.conflict ≡ false
 
 -- the constraints, assumptions, decisions and room are the same
-pub record SameBranches (old new : SearchState) : Type 0 where
+pub record SameBranches {C : Type 0} (old new : SearchState C) : Type 0 where
   pub constraints : SameConstraints old.engine new.engine
   pub assumptions : assumptions new.engine ≡ assumptions old.engine
   pub branches : new.branches ≡ old.branches
@@ -99,21 +99,21 @@ abbrev pub IsFreshOrOneSided : Problem → EngineState → Option Solution → B
 IsFreshOrOneSided p s held b = (b.flipped ≡ false) ⊎ IsOneSided p s held b.lit
 
 -- where a search stands that began at the trail of `start`: every solution below the start that is before what is held lies below an open branch
-pub record IsUnderWay (p : Problem) (start : EngineState) (t : SearchState) (held : Option Solution) : Type 0 where
+pub record IsUnderWay {C : Type 0} (p : Problem) (start : EngineState) (t : SearchState C) (held : Option Solution) : Type 0 where
   pub made_for : IsStateOf p t
   pub at_path : IsAtPath (assumptions start) t.engine t.branches.items
   pub constraints : SameConstraints start t.engine
   pub all_open : (a : List Bool) → SatisfiesUnder start (assumptions start) a → IsImprovement p a held → LiesOpen a t.branches.items
 
 -- the same, once the place is closed: every such solution leaves the path at an open branch
-pub record IsLeaving (p : Problem) (start : EngineState) (t : SearchState) (held : Option Solution) : Type 0 where
+pub record IsLeaving {C : Type 0} (p : Problem) (start : EngineState) (t : SearchState C) (held : Option Solution) : Type 0 where
   pub made_for : IsStateOf p t
   pub at_path : IsAtPath (assumptions start) t.engine t.branches.items
   pub constraints : SameConstraints start t.engine
   pub all_leave : (a : List Bool) → SatisfiesUnder start (assumptions start) a → IsImprovement p a held → LeavesOpen a t.branches.items
 
 -- the same as under way, once this decision is made
-pub record IsNext (p : Problem) (start : EngineState) (t : SearchState) (next : Branch) (held : Option Solution) : Type 0 where
+pub record IsNext {C : Type 0} (p : Problem) (start : EngineState) (t : SearchState C) (next : Branch) (held : Option Solution) : Type 0 where
   pub made_for : IsStateOf p t
   pub at_path : IsAtPath (assumptions start) t.engine t.branches.items
   pub constraints : SameConstraints start t.engine

@@ -7,7 +7,7 @@ ghost use Rattle.pb_engine.specs.Soundness.{IsSoundTrail};
 ghost use Rattle.pb_search.specs.SearchState.{DifferAt, HasOnesWithin, IsNotBefore};
 ghost use Rattle.pb_search.specs.AgreedPrefix.{KnowsPrefix, KnowsHeldPrefix};
 
-use pb_engine::Engine;
+use pb_engine::{Count, Engine};
 use pb_inst::{Assignment, Best, Lit};
 
 /// The prefix of variables on which the trail has the ones of the best assignment: each of the first `count` variables
@@ -60,7 +60,7 @@ impl AgreedPrefix {
 
     /// Whether the trail has a 1 where the assignment has 0, and before it every 1 of the assignment. It looks at the
     /// literals that joined the trail since the last time.
-    pub fn has_surplus(&mut self, engine: &Engine<'_>, held: &Assignment) -> bool
+    pub fn has_surplus<C: Count>(&mut self, engine: &Engine<'_, C>, held: &Assignment) -> bool
         requires known { KnowsPrefix engine.now.trail held.now self.old }
         ensures later { IsTrue result → IsNotBefore engine.now.trail held.now }
         ensures known { KnowsPrefix engine.now.trail held.now self.new }
@@ -83,7 +83,7 @@ impl AgreedPrefix {
 
     /// Counts on up to the first variable where the trail, with zeros elsewhere, and the assignment differ. Gives how many
     /// variables come before it.
-    pub fn extend(&mut self, engine: &Engine<'_>, held: &Assignment) -> u32
+    pub fn extend<C: Count>(&mut self, engine: &Engine<'_, C>, held: &Assignment) -> u32
         requires known { KnowsPrefix engine.now.trail held.now self.old }
         ensures ones { HasOnesWithin engine.now.trail held.now 0 result }
         ensures within { result ≤ length held.now }
@@ -96,7 +96,7 @@ impl AgreedPrefix {
     }
 
     /// Before the literals from this one on are taken back: what they made known is forgotten.
-    pub fn forget_from(&mut self, engine: &Engine<'_>, lit: Lit, best: &Best<'_>)
+    pub fn forget_from<C: Count>(&mut self, engine: &Engine<'_, C>, lit: Lit, best: &Best<'_>)
         requires sound { IsSoundTrail engine.now }
         requires known { KnowsHeldPrefix engine.now.trail best.now.held self.old }
         ensures known { KnowsHeldPrefix engine.now.trail best.now.held self.new }
@@ -109,7 +109,7 @@ impl AgreedPrefix {
     }
 
     /// The same where an assignment is held. It goes from the end of the trail back to the literal.
-    fn forget_down_to(&mut self, engine: &Engine<'_>, lit: Lit, held: &Assignment)
+    fn forget_down_to<C: Count>(&mut self, engine: &Engine<'_, C>, lit: Lit, held: &Assignment)
         requires sound { IsSoundTrail engine.now }
         requires known { KnowsPrefix engine.now.trail held.now self.old }
         ensures known { KnowsPrefix engine.now.trail held.now self.new }
@@ -126,7 +126,7 @@ impl AgreedPrefix {
     }
 
     /// The same for the last one of the literals seen.
-    fn forget_last(&mut self, engine: &Engine<'_>, last: Lit, held: &Assignment)
+    fn forget_last<C: Count>(&mut self, engine: &Engine<'_, C>, last: Lit, held: &Assignment)
         requires sound { IsSoundTrail engine.now }
         requires some { 1 ≤ self.old.seen }
         requires last { last ≡ slice_index_or engine.now.trail (self.old.seen - 1) last }
@@ -138,7 +138,7 @@ impl AgreedPrefix {
     }
 
     /// After literals were taken back: nothing is known where one of those seen is gone.
-    pub fn cut(&mut self, engine: &Engine<'_>)
+    pub fn cut<C: Count>(&mut self, engine: &Engine<'_, C>)
         ensures known { (n : ℕ) → (longer : List Literal) → (held : Option Solution) → engine.now.trail ≡ take n longer → KnowsHeldPrefix longer held self.old → KnowsHeldPrefix engine.now.trail held self.new }
     {
         if self.seen > engine.trail_len() {
@@ -164,7 +164,7 @@ fn count_without(held: &Assignment, count: u32, last: Lit) -> u32
 }
 
 /// Whether the variable is one of the first `count`, the trail makes it true and the assignment does not.
-fn is_surplus(engine: &Engine<'_>, held: &Assignment, count: u32, var: u32) -> bool
+fn is_surplus<C: Count>(engine: &Engine<'_, C>, held: &Assignment, count: u32, var: u32) -> bool
     requires within { count ≤ length held.now }
     requires ones { HasOnesWithin engine.now.trail held.now 0 count }
     ensures { IsTrue result → IsNotBefore engine.now.trail held.now }
@@ -179,7 +179,12 @@ fn is_surplus(engine: &Engine<'_>, held: &Assignment, count: u32, var: u32) -> b
 }
 
 /// Such a variable among those of the trail's literals from the place on.
-fn surplus_from(engine: &Engine<'_>, held: &Assignment, count: u32, from: usize) -> Option<u32>
+fn surplus_from<C: Count>(
+    engine: &Engine<'_, C>,
+    held: &Assignment,
+    count: u32,
+    from: usize,
+) -> Option<u32>
     requires within { count ≤ length held.now }
     requires ones { HasOnesWithin engine.now.trail held.now 0 count }
     ensures { IfSome result (λ _. IsNotBefore engine.now.trail held.now) }
@@ -195,7 +200,7 @@ fn surplus_from(engine: &Engine<'_>, held: &Assignment, count: u32, from: usize)
 
 /// How many variables come before the first one, after the first `from`, where the trail, with zeros elsewhere, and the
 /// assignment differ; all where there is none.
-fn agreed_from(engine: &Engine<'_>, held: &Assignment, from: u32) -> u32
+fn agreed_from<C: Count>(engine: &Engine<'_, C>, held: &Assignment, from: u32) -> u32
     requires within { from ≤ length held.now }
     requires ones { HasOnesWithin engine.now.trail held.now 0 from }
     ensures ones { HasOnesWithin engine.now.trail held.now 0 result }

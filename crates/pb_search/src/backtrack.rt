@@ -12,12 +12,12 @@ use crate::agreed_prefix::AgreedPrefix;
 use crate::branch::Branch;
 use crate::pruning::is_spent;
 use crate::search_state::SearchState;
-use pb_engine::Engine;
+use pb_engine::{Count, Engine};
 use pb_inst::Best;
 
 /// Takes back the last decision, and gives it; none where there is none.
-fn undo_decision(
-    engine: &mut Engine<'_>,
+fn undo_decision<C: Count>(
+    engine: &mut Engine<'_, C>,
     path: &mut Vec<Branch>,
     best: &Best<'_>,
     agreed: &mut AgreedPrefix,
@@ -42,8 +42,8 @@ fn undo_decision(
 
 /// Takes back the decisions up to the last one whose other value is still to be tried, and gives the decision for that
 /// value; none where there is none.
-pub fn backtrack(
-    state: &mut SearchState<'_>,
+pub fn backtrack<C: Count>(
+    state: &mut SearchState<'_, C>,
     best: &Best<'_>,
     agreed: &mut AgreedPrefix,
 ) -> Option<Branch>

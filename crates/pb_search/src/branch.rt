@@ -6,7 +6,7 @@ ghost use Rattle.pb_search.specs.Solutions.{SameConstraints};
 ghost use Rattle.pb_search.specs.SearchState.{IsAtPath, IsAtSomePath, IsFree};
 ghost use Rattle.pb_search.specs.Budget.{one_more};
 
-use pb_engine::Engine;
+use pb_engine::{Count, Engine};
 use pb_inst::{Lit, Number};
 
 /// A decision of the search.
@@ -42,8 +42,8 @@ impl Hints {
 }
 
 /// Adds a decision to the path, assumes its literal, and takes one off what is left of the budget.
-pub fn decide(
-    engine: &mut Engine<'_>,
+pub fn decide<C: Count>(
+    engine: &mut Engine<'_, C>,
     path: &mut Vec<Branch>,
     branch: Branch,
     left: &mut Option<u64>,

@@ -7,13 +7,13 @@ ghost use Rattle.pb_search.specs.AgreedPrefix.{KnowsHeldPrefix};
 use crate::agreed_prefix::AgreedPrefix;
 use crate::branch::{Branch, Hints};
 use crate::pruning::{Pruning, check_bound};
-use pb_engine::Engine;
+use pb_engine::{Count, Engine};
 use pb_inst::{Best, Lit, Number};
 
 /// What the bound says of the subtree below the trail, the bound itself, and a literal without a value whose negation has
 /// nothing to give: none where none is known.
-pub fn judge_node(
-    engine: &mut Engine<'_>,
+pub fn judge_node<C: Count>(
+    engine: &mut Engine<'_, C>,
     best: &Best<'_>,
     agreed: &mut AgreedPrefix,
 ) -> (Pruning, Option<Number>, Option<Lit>)
@@ -39,7 +39,7 @@ pub fn judge_node(
 }
 
 /// A literal without a value whose negation costs too much to come before the best assignment, or none.
-fn fixed_literal(engine: &mut Engine<'_>, best: &Best<'_>) -> Option<Lit>
+fn fixed_literal<C: Count>(engine: &mut Engine<'_, C>, best: &Best<'_>) -> Option<Lit>
     requires engine { IsEngineOf best.now.problem engine.old }
     ensures fixed { IfSome result (IsOpenOnOneSide best.now.problem engine.old best.now.held) }
     ensures unchanged { engine.new ≡ engine.old }

@@ -11,11 +11,11 @@ ghost use Rattle.pb_search.specs.SearchState.{IsFilledFrom, IsClosed, IsEngineOf
 
 use crate::Share;
 use crate::agreed_prefix::AgreedPrefix;
-use pb_engine::Engine;
-use pb_inst::{Assignment, Best, Number};
+use pb_engine::{Count, Engine};
+use pb_inst::{Assignment, Best, Number, SUM_BOUND};
 
 /// Writes the trail into the assignment, with 0 for every other variable.
-fn fill(engine: &Engine<'_>, into: &mut Assignment)
+fn fill<C: Count>(engine: &Engine<'_, C>, into: &mut Assignment)
     requires { length into.old ≡ engine.now.vars }
     ensures same_length { length into.new ≡ length into.old }
     ensures filled { IsFilledFrom engine.now.trail into.new }
@@ -27,8 +27,8 @@ fn fill(engine: &Engine<'_>, into: &mut Assignment)
 }
 
 /// At a full trail that meets all constraints: hands its assignment to the incumbent, and an improvement to the share.
-pub fn take_leaf<S: Share>(
-    engine: &Engine<'_>,
+pub fn take_leaf<C: Count, S: Share>(
+    engine: &Engine<'_, C>,
     candidate: &mut Assignment,
     best: &mut Best<'_>,
     share: &mut S,
@@ -66,7 +66,7 @@ pub fn borrow<S: Share>(scratch: &mut Assignment, best: &mut Best<'_>, share: &m
     ensures same_lending { S.lends share.new ≡ S.lends share.old }
 {
     // What is lent may be torn or not feasible. Only an improvement that `take` finds feasible is held.
-    let below = best.cost().unwrap_or(Number::MAX);
+    let below = best.cost().unwrap_or(SUM_BOUND as Number);
     if !share.borrow(below, scratch) {
         return false;
     }

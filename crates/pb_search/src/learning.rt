@@ -1,21 +1,21 @@
 //! What the order of decisions learns at a node: how far the last decision brought it. No answer depends on it, so nothing
 //! is promised.
 
-use crate::order::Order;
+use crate::order::{Gain, Order};
 use crate::pruning::Pruning;
 use crate::search_state::SearchState;
-use pb_engine::Engine;
-use pb_inst::{Best, Lit, Magnitude};
+use pb_engine::{Count, Engine};
+use pb_inst::{Best, Lit};
 
 /// A decision, and by how much the bound may rise above it before it is over the best cost.
 #[derive(Clone, Copy)]
 pub struct Decided {
     lit: Lit,
-    gap: Magnitude,
+    gap: Gain,
 }
 
 /// The last decision, and by how much the bound of the multipliers above it may rise; none where they were not used there.
-pub fn last_decided(state: &SearchState<'_>, best: &Best<'_>) -> Option<Decided> {
+pub fn last_decided<C: Count>(state: &SearchState<'_, C>, best: &Best<'_>) -> Option<Decided> {
     // Below a literal that was fixed no bound is asked for, so the one above it is not known.
     if state.engine.is_fixing() {
         return None;
@@ -29,7 +29,11 @@ pub fn last_decided(state: &SearchState<'_>, best: &Best<'_>) -> Option<Decided>
 }
 
 /// By how much the bound of the multipliers may still rise at a node that was judged.
-pub fn gap_left(engine: &Engine<'_>, best: &Best<'_>, pruning: Pruning) -> Option<Magnitude> {
+pub fn gap_left<C: Count>(
+    engine: &Engine<'_, C>,
+    best: &Best<'_>,
+    pruning: Pruning,
+) -> Option<Gain> {
     if pruning == Pruning::Closed {
         return Some(0);
     }
@@ -37,7 +41,7 @@ pub fn gap_left(engine: &Engine<'_>, best: &Best<'_>, pruning: Pruning) -> Optio
 }
 
 /// Learns from what a decision left of the gap.
-pub fn learn(order: &mut Order, decided: Option<Decided>, left: Option<Magnitude>) {
+pub fn learn(order: &mut Order, decided: Option<Decided>, left: Option<Gain>) {
     if let Some(decided) = decided
         && let Some(left) = left
     {

@@ -16,6 +16,8 @@ mod learning;
 mod node;
 mod order;
 mod outcome;
+mod piece_search;
+mod piece_tables;
 mod pruning;
 mod root;
 mod search;

@@ -21,7 +21,7 @@ use crate::order::next_decision;
 use crate::outcome::Outcome;
 use crate::pruning::Pruning;
 use crate::search_state::SearchState;
-use pb_engine::Step;
+use pb_engine::{Count, Step};
 use pb_inst::Best;
 
 /// After how many decisions the search asks its share for an assignment.
@@ -29,8 +29,8 @@ const BORROW_INTERVAL: u32 = 256;
 
 /// Expands the node where the trail stands: propagates, compares the bound, and takes a full trail. Gives the decision to
 /// make next, or none where no completion of the trail is before what is held.
-fn expand_node<S: Share>(
-    state: &mut SearchState<'_>,
+fn expand_node<C: Count, S: Share>(
+    state: &mut SearchState<'_, C>,
     best: &mut Best<'_>,
     share: &mut S,
     agreed: &mut AgreedPrefix,
@@ -82,8 +82,8 @@ fn expand_node<S: Share>(
 
 /// Expands the node where the search stands, and backtracks where nothing is left below it. Gives the decision to make
 /// next, or none where the search is finished.
-fn next_branch<S: Share>(
-    state: &mut SearchState<'_>,
+fn next_branch<C: Count, S: Share>(
+    state: &mut SearchState<'_, C>,
     best: &mut Best<'_>,
     share: &mut S,
     agreed: &mut AgreedPrefix,
@@ -110,8 +110,8 @@ fn next_branch<S: Share>(
 
 /// Searches all solutions below the trail, or stops where it would need one decision more than are left. No call of it
 /// recurses, and it takes no memory.
-pub fn search_subtree<S: Share>(
-    state: &mut SearchState<'_>,
+pub fn search_subtree<C: Count, S: Share>(
+    state: &mut SearchState<'_, C>,
     best: &mut Best<'_>,
     share: &mut S,
     left: &mut Option<u64>,

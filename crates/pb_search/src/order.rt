@@ -8,12 +8,13 @@ mod initial;
 
 use activity::Activities;
 pub use decide::next_decision;
+pub use gains::Gain;
 use gains::LearnedGains;
 use heap::Heap;
 use initial::{initial_activities, initial_phases};
-use pb_engine::{Engine, RowTerms};
-use pb_inst::{Cube, Lit, Magnitude, Memory};
-use pb_normal::Normal;
+use pb_engine::{Count, Engine, RowTerms};
+use pb_inst::{Cube, Lit, Memory};
+use pb_normal::Form;
 use std::alloc::Global;
 
 /// How many variables of the heap there are to a node from one change of what leads the order to the next, so that putting
@@ -22,7 +23,6 @@ const REBUILT_AT_A_NODE: u32 = 16;
 
 /// The literals in which variables are first decided, those of the variables of the greatest activity first, or of the
 /// greatest activity by what they gained.
-#[derive(Drop)]
 pub struct Order {
     activities: Activities,
     heap: Heap,
@@ -32,14 +32,26 @@ pub struct Order {
     phases: Vec<Lit>,
 }
 
+// By hand, so that letting go of an order is a call wherever it is done, and its parts are written out here alone.
+impl Drop for Order {
+    fn drop(self) {
+        let Order {
+            activities: _,
+            heap: _,
+            waited: _,
+            phases: _,
+        } = self;
+    }
+}
+
 impl Order {
     /// All variables of the normal form. Where cubes are to be false, their variables come first.
-    pub fn new(alloc: Global, normal: &Normal, negated: &[Cube]) -> Result<Order, Memory> {
-        let entries = initial_activities(alloc, normal, negated)?;
-        let gains = LearnedGains::new(alloc, vars_with_gains(normal))?;
+    pub fn new<C: Count>(alloc: Global, form: &Form<C>, negated: &[Cube]) -> Result<Order, Memory> {
+        let entries = initial_activities(alloc, form, negated)?;
+        let gains = LearnedGains::new(alloc, vars_with_gains(form))?;
         let activities = Activities::new(entries, gains);
-        let heap = Heap::new(alloc, normal.vars(), &activities)?;
-        let phases = initial_phases(alloc, normal)?;
+        let heap = Heap::new(alloc, form.vars(), &activities)?;
+        let phases = initial_phases(alloc, form)?;
         Ok(Order {
             activities,
             heap,
@@ -70,7 +82,7 @@ impl Order {
     }
 
     /// Bumps the activities of the variables of the row at which the engine found a conflict.
-    pub fn bump_conflict(&mut self, engine: &Engine<'_>) {
+    pub fn bump_conflict<C: Count>(&mut self, engine: &Engine<'_, C>) {
         // Where a row could not be met the search is hard, so its variables come sooner from now on. Beside the order that
         // the search begins with, kept as it is, this took 2 to 7 times fewer decisions on some kinds of instances, and at
         // most 1.3 times as many on others.
@@ -92,7 +104,7 @@ impl Order {
     }
 
     /// The decision for the literal raised the bound so much.
-    pub fn learn(&mut self, lit: Lit, gain: Magnitude) {
+    pub fn learn(&mut self, lit: Lit, gain: Gain) {
         self.activities.learn(lit, gain);
         if self.activities.is_led_by_gains() {
             self.heap.moved(lit.var() - 1, &self.activities);
@@ -118,9 +130,9 @@ impl Order {
 }
 
 /// Of how many variables gains are kept: of none where there is nothing to pay.
-fn vars_with_gains(normal: &Normal) -> usize {
-    if normal.objective().is_empty() {
+fn vars_with_gains<C: Count>(form: &Form<C>) -> usize {
+    if form.objective().is_empty() {
         return 0;
     }
-    normal.vars() as usize
+    form.vars() as usize
 }

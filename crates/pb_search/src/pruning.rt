@@ -7,7 +7,7 @@ ghost use Rattle.pb_search.specs.AgreedPrefix.{KnowsPrefix, KnowsHeldPrefix};
 
 use crate::agreed_prefix::AgreedPrefix;
 use crate::branch::Branch;
-use pb_engine::Engine;
+use pb_engine::{Count, Engine};
 use pb_inst::{Assignment, Best, Number};
 
 /// What the bound says of a subtree.
@@ -23,8 +23,8 @@ pub enum Pruning {
 }
 
 /// What the bound says of the subtree below the trail, and the bound itself: none where none was taken.
-pub fn check_bound(
-    engine: &mut Engine<'_>,
+pub fn check_bound<C: Count>(
+    engine: &mut Engine<'_, C>,
     best: &Best<'_>,
     agreed: &mut AgreedPrefix,
 ) -> (Pruning, Option<Number>)
@@ -55,7 +55,11 @@ pub fn check_bound(
 }
 
 /// The least bound that closes the subtree: the best cost where the order of assignments closes it at a tie, else more.
-fn closing_bound(engine: &Engine<'_>, best: &Best<'_>, agreed: &mut AgreedPrefix) -> Number
+fn closing_bound<C: Count>(
+    engine: &Engine<'_, C>,
+    best: &Best<'_>,
+    agreed: &mut AgreedPrefix,
+) -> Number
     requires engine { IsEngineOf best.now.problem engine.now }
     requires known { KnowsHeldPrefix engine.now.trail best.now.held agreed.old }
     ensures known { KnowsHeldPrefix engine.now.trail best.now.held agreed.new }
@@ -73,8 +77,8 @@ fn closing_bound(engine: &Engine<'_>, best: &Best<'_>, agreed: &mut AgreedPrefix
 }
 
 /// Compares a bound of the trail's completions with the best cost. Where they are equal the order of assignments decides.
-fn judge_bound(
-    engine: &Engine<'_>,
+fn judge_bound<C: Count>(
+    engine: &Engine<'_, C>,
     bound: Number,
     best: &Best<'_>,
     agreed: &mut AgreedPrefix,
@@ -102,7 +106,11 @@ fn judge_bound(
 
 /// The same where the bound equals the cost of this assignment. Of assignments of one cost the lexicographically first is
 /// wanted, so that the answer is a function of the instance alone.
-fn judge_tie(engine: &Engine<'_>, held: &Assignment, agreed: &mut AgreedPrefix) -> Pruning
+fn judge_tie<C: Count>(
+    engine: &Engine<'_, C>,
+    held: &Assignment,
+    agreed: &mut AgreedPrefix,
+) -> Pruning
     requires room { length held.now ≡ engine.now.vars }
     requires known { KnowsPrefix engine.now.trail held.now agreed.old }
     ensures closed { result ≡ Pruning.Closed → IsNotBefore engine.now.trail held.now }
@@ -125,8 +133,8 @@ fn judge_tie(engine: &Engine<'_>, held: &Assignment, agreed: &mut AgreedPrefix) 
 
 /// Whether nothing is left to try at a branch whose decision was taken back: both values were tried, or by now no
 /// completion of the trail before it comes before the best assignment.
-pub fn is_spent(
-    engine: &mut Engine<'_>,
+pub fn is_spent<C: Count>(
+    engine: &mut Engine<'_, C>,
     branch: &Branch,
     best: &Best<'_>,
     agreed: &mut AgreedPrefix,
@@ -157,7 +165,11 @@ pub fn is_spent(
 
 /// Whether the best assignment was found below the trail, where nothing was held before, and another one of its cost may
 /// come before it.
-fn is_tied_below(engine: &Engine<'_>, best: &Best<'_>, agreed: &mut AgreedPrefix) -> bool
+fn is_tied_below<C: Count>(
+    engine: &Engine<'_, C>,
+    best: &Best<'_>,
+    agreed: &mut AgreedPrefix,
+) -> bool
     requires engine { IsEngineOf best.now.problem engine.now }
     requires known { KnowsHeldPrefix engine.now.trail best.now.held agreed.old }
     ensures known { KnowsHeldPrefix engine.now.trail best.now.held agreed.new }

@@ -1,83 +1,45 @@
 //! Searches of pieces.
 
-ghost use Rattle.std.specs.Prelude.{◌≡◌, ◌⊎◌, ◌≤◌, [], false, List, Bool, All, length, IfOk, Some, IfSome, IfNone, IsSomeAnd};
-ghost use Rattle.pb_inst.specs.Incumbent.{IsSound};
+ghost use Rattle.std.specs.Prelude.{◌≡◌, ◌⊎◌, ◌≤◌, false, length, IfOk, Some, IfSome, IfNone, IsSomeAnd};
 ghost use Rattle.pb_normal.specs.NormalForm.{KeepsCost, KeepsFeasible};
 ghost use Rattle.pb_cubes.specs.Pieces.{LiesIn};
-ghost use Rattle.pb_search.specs.Held.{IsImprovement, IsNotAfter, MovesOn};
-ghost use Rattle.pb_search.specs.Solutions.{SameConstraints, SatisfiesUnder};
-ghost use Rattle.pb_search.specs.SearchState.{IsStateOf};
+ghost use Rattle.pb_search.specs.Held.{IsNotAfter};
 ghost use Rattle.pb_search.specs.Budget.{IsLeftOf};
 
 use crate::Share;
-use crate::incumbent::borrow;
-use crate::node::search_subtree;
 use crate::outcome::Outcome;
-use crate::root::{assume_cube, return_to_root};
-use crate::search_state::SearchState;
+use crate::piece_search::PieceSearch;
 use crate::tables::SearchTables;
-use pb_cubes::{Piece, Pieces};
-use pb_engine::{Step, clause_laws};
-use pb_inst::{Best, Instance, Lit, Memory};
-use pb_normal::Normal;
+use pb_cubes::Pieces;
+use pb_inst::{Best, Instance, Memory};
+use pb_normal::{EitherWidth, Normal};
 use std::alloc::Global;
 use std::marker::Model;
 
-/// Searches all solutions of the state's constraints under the assumption that the cube is true, or stops where it would
-/// need one decision more than are left.
-fn search_under<S: Share>(
-    state: &mut SearchState<'_>,
-    cube: &[Lit],
-    best: &mut Best<'_>,
-    share: &mut S,
-    left: &mut Option<u64>,
-) -> Outcome
-    requires state { IsStateOf best.old.problem state.old }
-    requires variables { All (λ l. l.var ≤ state.old.engine.vars) cube.now }
-    ensures searched { result ≡ Outcome.Whole → (a : List Bool) → SatisfiesUnder state.old.engine cube.now a → ¬ IsImprovement best.old.problem a best.new.held }
-    ensures used_up { result ≡ Outcome.Cut → left.new ≡ Some 0 }
-    ensures budget { IsLeftOf left.old left.new }
-    ensures moves_on { MovesOn best.old best.new }
-    ensures held_sound { IsSound best.new }
-    ensures own { S.lends share.old ≡ false → (best.new ≡ best.old) ⊎ IsSomeAnd best.new.held (λ s. SatisfiesUnder state.old.engine cube.now s.assignment) }
-    ensures kept { S.keeps share.old share.new }
-    ensures same_lending { S.lends share.new ≡ S.lends share.old }
-    ensures made_for { IsStateOf best.old.problem state.new }
-    ensures constraints { SameConstraints state.old.engine state.new.engine }
-{
-    // Before the first bound is compared: what another piece gave may close this one at its root.
-    borrow(&mut state.candidate, best, share);
-    state.branches.clear();
-    if return_to_root(&mut state.engine) == Step::Conflict {
-        return Outcome::Whole;
-    }
-    if assume_cube(&mut state.engine, cube) == Step::Conflict {
-        return Outcome::Whole;
-    }
-    search_subtree(state, best, share, left)
-}
-
 /// What the searches of an instance's pieces need: an engine for the cubes and one for the remainder, which all searches
-/// use again, and the room for decisions and assignments.
-#[derive(Drop)]
+/// use again, and the room for decisions and assignments. They count in numbers of the normal form's width.
 pub struct Search<'a> {
-    instance: &'a Instance,
-    pieces: &'a Pieces,
-    cube: SearchState<'a>,
-    rest: SearchState<'a>,
+    at_width: EitherWidth<PieceSearch<'a, u64>, PieceSearch<'a, u128>>,
     decisions: u64,
 }
 
 impl<'a> Model for Search<'a> {
     ghost use Rattle.pb_search.specs.Budget.{Searcher};
+    ghost use Rattle.pb_normal.specs.Widths.{either};
 
     ghost Value = { Searcher };
 
-    ghost use Rattle.pb_search.specs.Layout.{IsLaidOut};
+    ghost view = { λ s. record { division = either s.at_width; decisions = s.decisions } };
+}
 
-    ghost view = { λ s. record { division = record { problem = s.instance.now; cubes = s.pieces.now.cubes }; decisions = s.decisions } };
-
-    ghost invariant = { λ s. IsLaidOut s.instance.now s.pieces.now s.cube s.rest };
+// By hand, so that letting go of a search is a call wherever it is done.
+impl<'a> Drop for Search<'a> {
+    fn drop(self) {
+        let Search {
+            at_width: _,
+            decisions: _,
+        } = self;
+    }
 }
 
 impl<'a> Search<'a> {
@@ -96,15 +58,16 @@ impl<'a> Search<'a> {
         requires pieces { pieces.now.vars ≡ instance.now.vars }
         ensures { IfOk result (λ s. s ≡ record { division = record { problem = instance.now; cubes = pieces.now.cubes }; decisions = 0 }) }
     {
-        let _vars = instance.vars();
-        clause_laws();
-        let cube = SearchState::new(alloc, normal, &[])?;
-        let rest = SearchState::new(alloc, normal, pieces.cubes())?;
+        let at_width = match normal.form() {
+            EitherWidth::Narrow(form) => {
+                EitherWidth::Narrow(PieceSearch::new(alloc, instance, form, pieces)?)
+            }
+            EitherWidth::Wide(form) => {
+                EitherWidth::Wide(PieceSearch::new(alloc, instance, form, pieces)?)
+            }
+        };
         Ok(Search {
-            instance,
-            pieces,
-            cube,
-            rest,
+            at_width,
             decisions: 0,
         })
     }
@@ -113,12 +76,12 @@ impl<'a> Search<'a> {
     pub fn over(alloc: Global, tables: &'a SearchTables<'a>) -> Result<Search<'a>, Memory>
         ensures { IfOk result (λ s. s ≡ record { division = tables.now; decisions = 0 }) }
     {
-        let (cube, rest) = tables.states(alloc)?;
+        let at_width = match tables.at_width() {
+            EitherWidth::Narrow(tables) => EitherWidth::Narrow(PieceSearch::over(alloc, tables)?),
+            EitherWidth::Wide(tables) => EitherWidth::Wide(PieceSearch::over(alloc, tables)?),
+        };
         Ok(Search {
-            instance: tables.instance(),
-            pieces: tables.pieces(),
-            cube,
-            rest,
+            at_width,
             decisions: 0,
         })
     }
@@ -184,9 +147,9 @@ impl<'a> Search<'a> {
         ensures same_instance { best.new.problem ≡ best.old.problem }
         ensures unchanged { self.new ≡ self.old }
     {
-        match self.pieces.piece(piece) {
-            Piece::Cube(cube) => search_under(&mut self.cube, cube.lits(), best, share, left),
-            Piece::Rest(_) => search_under(&mut self.rest, &[], best, share, left),
+        match &mut self.at_width {
+            EitherWidth::Narrow(search) => search.search(piece, best, share, left),
+            EitherWidth::Wide(search) => search.search(piece, best, share, left),
         }
     }
 }

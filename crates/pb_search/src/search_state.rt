@@ -8,38 +8,49 @@ ghost use Rattle.pb_engine.specs.Tables.{AreBeside};
 
 use crate::branch::{Branch, Hints};
 use crate::order::Order;
-use pb_engine::{Clauses, Engine, Rows};
+use pb_engine::{Clauses, Count, Engine, Rows};
 use pb_inst::{Assignment, Cube, Memory};
-use pb_normal::Normal;
+use pb_normal::Form;
 use std::alloc::Global;
 
 /// An engine, the decisions on its trail, room for one assignment, and the order in which variables are decided.
-#[derive(Drop)]
-pub struct SearchState<'a> {
-    pub engine: Engine<'a>,
+pub struct SearchState<'a, C: Count> {
+    pub engine: Engine<'a, C>,
     pub branches: Vec<Branch>,
     pub candidate: Assignment,
     pub order: Order,
 }
 
-impl<'a> SearchState<'a> {
+// By hand, so that letting go of a state is a call wherever it is done, and its parts are written out here alone.
+impl<'a, C: Count> Drop for SearchState<'a, C> {
+    fn drop(self) {
+        let SearchState {
+            engine: _,
+            branches: _,
+            candidate: _,
+            order: _,
+        } = self;
+    }
+}
+
+impl<'a, C: Count> SearchState<'a, C> {
     /// A state over the normal form, whose solutions make each of the cubes false. There may be `MAX_CUBES` of them.
     pub fn new(
         alloc: Global,
-        normal: &'a Normal,
+        form: &'a Form<C>,
         negated: &'a [Cube],
-    ) -> Result<SearchState<'a>, Memory>
+    ) -> Result<SearchState<'a, C>, Memory>
         requires few { length negated.now ≤ MAX_CUBES }
-        requires variables { All (λ cube. All (λ l. l.var ≤ normal.now.vars) cube) negated.now }
-        ensures form { IfOk result (λ t. t.engine.form ≡ normal.now) }
-        ensures vars { IfOk result (λ t. t.engine.vars ≡ normal.now.vars) }
-        ensures rows { IfOk result (λ t. (clauses : List PositiveRow) × (t.engine.rows ≡ normal.now.rows ++ clauses) × AreClausesOf negated.now clauses) }
-        ensures candidate { IfOk result (λ t. length t.candidate ≡ normal.now.vars) }
-        ensures room { IfOk result (λ t. normal.now.vars ≤ vec_capacity t.branches) }
+        requires variables { All (λ cube. All (λ l. l.var ≤ form.now.vars) cube) negated.now }
+        ensures form { IfOk result (λ t. t.engine.form ≡ form.now) }
+        ensures vars { IfOk result (λ t. t.engine.vars ≡ form.now.vars) }
+        ensures rows { IfOk result (λ t. (clauses : List PositiveRow) × (t.engine.rows ≡ form.now.rows ++ clauses) × AreClausesOf negated.now clauses) }
+        ensures candidate { IfOk result (λ t. length t.candidate ≡ form.now.vars) }
+        ensures room { IfOk result (λ t. form.now.vars ≤ vec_capacity t.branches) }
     {
         // The engine comes last: an early return past it would let go of it field by field, and cost a minute to prove.
-        let (branches, candidate, order) = make_room(alloc, normal, negated)?;
-        let engine = Engine::new(alloc, normal, negated)?;
+        let (branches, candidate, order) = make_room(alloc, form, negated)?;
+        let engine = Engine::new(alloc, form, negated)?;
         Ok(SearchState {
             engine,
             branches,
@@ -51,10 +62,10 @@ impl<'a> SearchState<'a> {
     /// A state over rows and clauses that are lent. Of the cubes to be false only the order of decisions knows.
     pub fn over(
         alloc: Global,
-        rows: &'a Rows<'a>,
+        rows: &'a Rows<'a, C>,
         clauses: &'a Clauses,
         negated: &[Cube],
-    ) -> Result<SearchState<'a>, Memory>
+    ) -> Result<SearchState<'a, C>, Memory>
         requires { AreBeside rows.now clauses.now }
         ensures form { IfOk result (λ t. t.engine.form ≡ rows.now.form) }
         ensures vars { IfOk result (λ t. t.engine.vars ≡ rows.now.form.vars) }
@@ -83,17 +94,17 @@ impl<'a> SearchState<'a> {
 
 /// What a state has beside its engine: room for a decision of each variable and for one assignment, and the order of
 /// decisions.
-fn make_room(
+fn make_room<C: Count>(
     alloc: Global,
-    normal: &Normal,
+    form: &Form<C>,
     negated: &[Cube],
 ) -> Result<(Vec<Branch>, Assignment, Order), Memory>
-    ensures branches { IfOk result (λ t. normal.now.vars ≤ vec_capacity t.0) }
-    ensures candidate { IfOk result (λ t. length t.1 ≡ normal.now.vars) }
+    ensures branches { IfOk result (λ t. form.now.vars ≤ vec_capacity t.0) }
+    ensures candidate { IfOk result (λ t. length t.1 ≡ form.now.vars) }
 {
-    let vars = normal.vars();
+    let vars = form.vars();
     let branches = Vec::with_capacity(alloc, vars as usize)?;
     let candidate = Assignment::new(alloc, vars)?;
-    let order = Order::new(alloc, normal, negated)?;
+    let order = Order::new(alloc, form, negated)?;
     Ok((branches, candidate, order))
 }

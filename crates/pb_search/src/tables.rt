@@ -2,37 +2,35 @@
 
 ghost use Rattle.std.specs.Prelude.{◌≡◌, IfOk};
 ghost use Rattle.pb_normal.specs.NormalForm.{KeepsCost, KeepsFeasible};
-ghost use Rattle.pb_search.specs.Layout.{IsLaidOut, pieces_of};
+ghost use Rattle.pb_normal.specs.Widths.{lent};
 
-use crate::search_state::SearchState;
+use crate::piece_tables::PieceTables;
 use pb_cubes::Pieces;
-use pb_engine::{Clauses, Rows, clause_laws};
 use pb_inst::{Instance, Memory};
-use pb_normal::Normal;
+use pb_normal::{EitherWidth, Normal};
 use std::alloc::Global;
 use std::marker::Model;
 
 /// The rows of an instance's normal form and the clauses of its remainder, with where each literal occurs. They are built
-/// once and lent to the searches of all workers.
-#[derive(Drop)]
+/// once and lent to the searches of all workers. They count in numbers of the normal form's width.
 pub struct SearchTables<'a> {
-    instance: &'a Instance,
-    pieces: &'a Pieces,
-    rows: Rows<'a>,
-    none: Clauses,
-    rest: Clauses,
+    at_width: EitherWidth<PieceTables<'a, u64>, PieceTables<'a, u128>>,
 }
 
 impl<'a> Model for SearchTables<'a> {
     ghost use Rattle.pb_search.specs.Done.{Division};
+    ghost use Rattle.pb_normal.specs.Widths.{either};
 
     ghost Value = { Division };
 
-    ghost use Rattle.pb_search.specs.Layout.{AreTables};
+    ghost view = { λ t. either t.at_width };
+}
 
-    ghost view = { λ t. record { problem = t.instance.now; cubes = t.pieces.now.cubes } };
-
-    ghost invariant = { λ t. AreTables t.instance.now t.pieces.now t.rows t.none t.rest };
+// By hand, so that letting go of tables is a call wherever it is done.
+impl<'a> Drop for SearchTables<'a> {
+    fn drop(self) {
+        let SearchTables { at_width: _ } = self;
+    }
 }
 
 impl<'a> SearchTables<'a> {
@@ -49,41 +47,24 @@ impl<'a> SearchTables<'a> {
         requires pieces { pieces.now.vars ≡ instance.now.vars }
         ensures { IfOk result (λ t. t ≡ record { problem = instance.now; cubes = pieces.now.cubes }) }
     {
-        let _vars = instance.vars();
-        let rows = Rows::new(alloc, normal)?;
-        let none = Clauses::new(alloc, &rows, &[])?;
-        let rest = Clauses::new(alloc, &rows, pieces.cubes())?;
-        Ok(SearchTables {
-            instance,
-            pieces,
-            rows,
-            none,
-            rest,
-        })
+        let at_width = match normal.form() {
+            EitherWidth::Narrow(form) => {
+                EitherWidth::Narrow(PieceTables::new(alloc, instance, form, pieces)?)
+            }
+            EitherWidth::Wide(form) => {
+                EitherWidth::Wide(PieceTables::new(alloc, instance, form, pieces)?)
+            }
+        };
+        Ok(SearchTables { at_width })
     }
 
-    pub(crate) fn instance(&self) -> &'a Instance
-        ensures { result.now ≡ self.now.problem }
+    /// The tables at their width.
+    pub(crate) fn at_width(&self) -> EitherWidth<&PieceTables<'a, u64>, &PieceTables<'a, u128>>
+        ensures { lent result ≡ self.now }
     {
-        self.instance
-    }
-
-    pub(crate) fn pieces(&self) -> &'a Pieces
-        ensures { result.now ≡ pieces_of self.now.problem self.now.cubes }
-    {
-        self.pieces
-    }
-
-    /// A state for the searches of cubes, and one for that of the remainder.
-    pub(crate) fn states(
-        &'a self,
-        alloc: Global,
-    ) -> Result<(SearchState<'a>, SearchState<'a>), Memory>
-        ensures { IfOk result (λ t. IsLaidOut self.now.problem (pieces_of self.now.problem self.now.cubes) t.0 t.1) }
-    {
-        clause_laws();
-        let cube = SearchState::over(alloc, &self.rows, &self.none, &[])?;
-        let rest = SearchState::over(alloc, &self.rows, &self.rest, self.pieces.cubes())?;
-        Ok((cube, rest))
+        match &self.at_width {
+            EitherWidth::Narrow(tables) => EitherWidth::Narrow(tables),
+            EitherWidth::Wide(tables) => EitherWidth::Wide(tables),
+        }
     }
 }

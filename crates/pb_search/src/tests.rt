@@ -1,5 +1,5 @@
-//! Searches of worked instances, searches whose share hands over any bits, and small instances beside the listing of all
-//! assignments.
+//! Searches of worked instances, searches whose share hands over any bits, small instances beside the listing of all
+//! assignments, and both widths beside each other.
 
 mod budgets;
 mod efforts;
@@ -9,4 +9,5 @@ pub mod listing;
 mod pieces;
 mod shares;
 mod unconstrained;
+mod widths;
 mod worked;

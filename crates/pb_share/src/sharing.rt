@@ -1,7 +1,8 @@
 //! The share through which workers lend each other what they found: rows and the least word of the board.
-ghost use Rattle.std.specs.Prelude.{◌≡◌, ◌≢◌, ◌<◌, ◌≤◌, ◌+◌, ◌^◌, ◌++◌, ◌∷◌, [], refl, length, nat_lt, pos, ◌+ℤ◌};
+ghost use Rattle.std.specs.Prelude.{◌≡◌, ◌≢◌, ◌<◌, ◌≤◌, ◌+◌, ◌^◌, ◌++◌, ◌∷◌, [], refl, length, nat_lt, ℕ, ℤ, ◌≤ℤ◌};
 ghost use Rattle.std.proofs.Common.{◌∙◌};
 ghost use Rattle.pb_board.specs.Seats.{BoardView, SeatView};
+ghost use Rattle.pb_share.specs.Keys.{IsKeyOf};
 ghost use Rattle.pb_share.specs.Sharing.{BoardShareView, KeepsClaims};
 
 use pb_board::{Board, Seat};
@@ -10,7 +11,12 @@ use pb_search::Share;
 use std::marker::Model;
 
 /// What a cost is raised by to be a key of the board: 2^63.
-const KEY_OFFSET: i128 = 9_223_372_036_854_775_808;
+const KEY_OFFSET: Number = 9_223_372_036_854_775_808;
+
+/// The least cost with a key of its own, -2^63, and the greatest one.
+const LOWEST: Number = -9_223_372_036_854_775_808;
+
+const HIGHEST: Number = 9_223_372_036_854_775_807;
 
 /// A worker's ways to the others: its seat on the board, its own row, and the rows of the others, which it reads in turn.
 #[derive(Drop)]
@@ -109,11 +115,14 @@ impl<'b> Share for BoardShare<'b> {
     }
 }
 
-/// The key of a cost on the board: the cost and 2^63, so keys stand in the order of costs.
+/// The key of a cost on the board: the cost and 2^63, cut off at both ends of 64 bits. So keys never fall where costs grow, and
+/// costs from -2^63 to 2^63 - 1 have keys of their own. Of two costs with one key neither is lent for the other.
 fn key_of(cost: Number) -> u64
-    ensures { pos result ≡ cost +ℤ pos (2 ^ 63) }
+    ensures key { IsKeyOf cost result }
+    ensures rising { (other : ℤ) (key : ℕ) → IsKeyOf other key → cost ≤ℤ other → result ≤ key }
 {
-    (i128::from(cost) + KEY_OFFSET) as u64
+    let within = cost.clamp(LOWEST, HIGHEST);
+    (within + KEY_OFFSET) as u64
 }
 
 /// The worker whose turn comes after the last one's, without this one. It is this one only where there is no other.

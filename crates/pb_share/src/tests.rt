@@ -46,8 +46,11 @@ fn offered_key(alloc: Global, cost: Number) -> Result<u64, Fail> {
     Ok(board.least(&mut seat))
 }
 
-/// Costs in their order, the least and the greatest among them, with their keys.
-const KEYS: [(Number, u64); 7] = [
+/// Costs in their order, with their keys: the ends of all costs, and both sides of each end of the keys.
+const KEYS: [(Number, u64); 14] = [
+    (-85_070_591_730_234_615_865_843_651_857_942_052_863, 0),
+    (-9_223_372_036_854_775_809, 0),
+    (-9_223_372_036_854_775_808, 0),
     (-9_223_372_036_854_775_807, 1),
     (-2, 9_223_372_036_854_775_806),
     (-1, 9_223_372_036_854_775_807),
@@ -55,9 +58,16 @@ const KEYS: [(Number, u64); 7] = [
     (3, 9_223_372_036_854_775_811),
     (9_223_372_036_854_775_806, 18_446_744_073_709_551_614),
     (9_223_372_036_854_775_807, 18_446_744_073_709_551_615),
+    (9_223_372_036_854_775_808, 18_446_744_073_709_551_615),
+    (9_223_372_036_854_775_809, 18_446_744_073_709_551_615),
+    (18_446_744_073_709_551_616, 18_446_744_073_709_551_615),
+    (
+        85_070_591_730_234_615_865_843_651_857_942_052_863,
+        18_446_744_073_709_551_615,
+    ),
 ];
 
-// Keys stand in the order of costs up to both ends. That of the greatest cost is what a board without an offer has.
+// Keys never fall, and rise with each cost of 64 bits. The greatest key is also what a board without an offer has.
 #[test]
 fn keys_keep_the_order_of_costs(rt: HostRuntime) -> Result<(), Fail> {
     for (cost, key) in KEYS {

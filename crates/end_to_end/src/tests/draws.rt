@@ -17,8 +17,27 @@ const LEAST_LARGE: Number = 1_000_000_000_000;
 pub enum Width {
     /// From 1 to 9.
     Small,
-    /// From 10^12 to less than 3 * 10^17, so that no sum of a statement passes its limit.
+    /// From 10^12 to less than 3 * 10^17, so that the sums of a statement stay below 2^63.
     Large,
+}
+
+/// How a drawn instance is written: an assignment is feasible or not whatever these numbers are.
+#[derive(Clone, Copy, Debug)]
+pub struct Change {
+    /// By what each coefficient and each bound is multiplied.
+    pub scale: Number,
+    /// What every assignment costs beside that.
+    pub shift: Number,
+}
+
+impl Change {
+    /// The instance as it is drawn.
+    pub const NONE: Change = Change { scale: 1, shift: 0 };
+
+    /// What an assignment costs that has this cost as the instance is drawn.
+    pub fn cost(self, cost: Number) -> Number {
+        cost.saturating_mul(self.scale).saturating_add(self.shift)
+    }
 }
 
 /// An instance, and what divides it.
@@ -30,9 +49,14 @@ pub struct Drawn {
 }
 
 impl Drawn {
-    /// The instance of this number. All have an objective.
-    pub fn new(alloc: Global, width: Width, number: u64) -> Result<Drawn, AllocError> {
-        let mut draws = Draws::new(width, number);
+    /// The instance of this number, so written. All have an objective.
+    pub fn new(
+        alloc: Global,
+        width: Width,
+        number: u64,
+        change: Change,
+    ) -> Result<Drawn, AllocError> {
+        let mut draws = Draws::new(width, number, change);
         let text = draws.text(alloc)?;
         let cubes = draws.cubes(alloc)?;
         let split = draws.below(4);
@@ -45,6 +69,7 @@ impl Drawn {
 struct Draws {
     random: Pcg32,
     width: Width,
+    change: Change,
     vars: u32,
     /// The bits of a planted assignment, that of x1 in the lowest one. It meets most constraints, so that most instances are
     /// feasible.
@@ -52,10 +77,11 @@ struct Draws {
 }
 
 impl Draws {
-    fn new(width: Width, number: u64) -> Draws {
+    fn new(width: Width, number: u64, change: Change) -> Draws {
         let mut draws = Draws {
             random: Pcg32::new(number, 1),
             width,
+            change,
             vars: MOST_VARS,
             planted: 0,
         };
@@ -88,7 +114,7 @@ impl Draws {
             Width::Large => {
                 let shift = self.between(6, 24);
                 let above = self.random.next_u64().wrapping_shr(shift);
-                LEAST_LARGE.saturating_add(Number::try_from(above).unwrap_or(0))
+                LEAST_LARGE.saturating_add(Number::from(above))
             }
         }
     }
@@ -105,7 +131,13 @@ impl Draws {
         }
     }
 
-    /// So many terms, of which many have equal coefficients, and their sum under the assignment of these bits.
+    /// The number as it is written.
+    fn scaled(&self, number: Number) -> Number {
+        number.saturating_mul(self.change.scale)
+    }
+
+    /// So many terms, of which many have equal coefficients, and their sum under the assignment of these bits before it is
+    /// scaled.
     fn sum(
         &mut self,
         alloc: Global,
@@ -119,7 +151,8 @@ impl Draws {
             let coef = self.coefficient(magnitudes);
             let (var, positive) = self.literal();
             let sign = if positive { "" } else { "~" };
-            let term = format!(in alloc; "{coef} {sign}x{var} ")?;
+            let scaled = self.scaled(coef);
+            let term = format!(in alloc; "{scaled} {sign}x{var} ")?;
             terms.push_str(term.as_str())?;
             let is_set = bits.wrapping_shr(var.wrapping_sub(1)) % 2 == 1;
             if is_set == positive {
@@ -149,16 +182,27 @@ impl Draws {
             1 | 2 => ("<=", value.saturating_add(slack)),
             _ => (">=", value.saturating_sub(slack)),
         };
+        let bound = self.scaled(bound);
         format!(in alloc; "{terms}{relation} {bound} ;\n")
+    }
+
+    /// The terms of a variable and its negation that cost what every assignment costs; none where that is nothing.
+    fn shift(&self, alloc: Global) -> Result<String, AllocError> {
+        let shift = self.change.shift;
+        if shift == 0 {
+            return Ok(String::new(alloc));
+        }
+        format!(in alloc; "{shift} x1 {shift} ~x1 ")
     }
 
     /// The instance: costs of as many literals as there are variables, and 5 to 10 constraints.
     fn text(&mut self, alloc: Global) -> Result<String, AllocError> {
         let vars = self.vars;
         let rows = self.between(5, 10);
+        let shift = self.shift(alloc)?;
         let (costs, _) = self.sum(alloc, vars, 0)?;
         let mut text = format!(in alloc;
-            "* #variable= {vars} #constraint= {rows}\nmin: {costs};\n"
+            "* #variable= {vars} #constraint= {rows}\nmin: {shift}{costs};\n"
         )?;
         for _ in 0..rows {
             let constraint = self.constraint(alloc)?;

@@ -12,5 +12,5 @@ fn limits_are_powers_of_two(rt: HostRuntime) {
     assert_eq!(rt; MAX_CUBES, (1 << 20) - 1);
     assert_eq!(rt; MAX_WORKERS, 1 << 6);
     assert_eq!(rt; MAX_SPLIT, 12);
-    assert_eq!(rt; SUM_BOUND, (1 << 63) - 1);
+    assert_eq!(rt; SUM_BOUND, (1 << 126) - 1);
 }

@@ -1,7 +1,7 @@
 //! Small random instances with an objective, in pieces and with workers, beside a listing of all their assignments.
 
 use super::Asked;
-use super::draws::{Drawn, Width};
+use super::draws::{Change, Drawn, Width};
 use super::oracle::assert_as_listed;
 use pb_solve::{Format, Status};
 use std::alloc::Global;
@@ -45,7 +45,7 @@ fn assert_optima<R: Abort + Threads + Sync>(
     let mut feasible = 0u32;
     let mut infeasible = 0u32;
     for number in 0..INSTANCES {
-        let drawn = Drawn::new(alloc, width, number)?;
+        let drawn = Drawn::new(alloc, width, number, Change::NONE)?;
         let status = assert_drawn(rt, alloc, &drawn)?;
         if status == Status::Optimum {
             feasible = feasible.saturating_add(1);

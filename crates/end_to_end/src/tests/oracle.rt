@@ -3,6 +3,7 @@
 
 ghost use Rattle.std.specs.Prelude.{◌≡◌, length, IfOk};
 
+use super::draws::Change;
 use super::{Asked, assert_report};
 use pb_inst::{Assignment, Instance, Memory, Number, precedes};
 use pb_read::{ReadFault, read_cnf, read_cubes, read_icnf, read_opb};
@@ -29,20 +30,37 @@ pub fn assert_as_listed<R: Abort + Threads + Sync>(
     asked: Asked<'_>,
     workers: &[u32],
 ) -> Result<Status, Fail> {
-    let (report, status) = expected_report(rt, alloc, asked)?;
+    assert_changed_as_listed(rt, alloc, asked, asked.text, Change::NONE, workers)
+}
+
+/// The same on a text that is the listed one as it is changed: its report is that of the listed one, but for the cost.
+pub fn assert_changed_as_listed<R: Abort + Threads + Sync>(
+    rt: &R,
+    alloc: Global,
+    listed: Asked<'_>,
+    text: &[u8],
+    change: Change,
+    workers: &[u32],
+) -> Result<Status, Fail> {
+    let (report, status) = expected_report(rt, alloc, listed, change)?;
     for workers in workers {
         let workers = *workers;
-        let asked = Asked { workers, ..asked };
+        let asked = Asked {
+            text,
+            workers,
+            ..listed
+        };
         assert_report(rt, alloc, asked, report.as_bytes(), status);
     }
     Ok(status)
 }
 
-/// The report and the status of a run.
+/// The report and the status of a run on the text as it is changed.
 fn expected_report(
     rt: &impl Abort,
     alloc: Global,
     asked: Asked<'_>,
+    change: Change,
 ) -> Result<(String, Status), Fail> {
     let instance = match read(alloc, asked.format, asked.text) {
         Ok(instance) => instance,
@@ -57,7 +75,7 @@ fn expected_report(
     if asked.split > instance.vars() {
         return refusal(String::from_str(alloc, "c refused split: BadSplit")?);
     }
-    answer(alloc, asked.format, &instance)
+    answer(alloc, asked.format, &instance, change)
 }
 
 /// The report with this line in front.
@@ -66,8 +84,13 @@ fn refusal(mut report: String) -> Result<(String, Status), Fail> {
     Ok((report, Status::Unsupported))
 }
 
-/// The report of the least assignment.
-fn answer(alloc: Global, format: Format, instance: &Instance) -> Result<(String, Status), Fail> {
+/// The report of the least assignment, with its cost in the changed instance.
+fn answer(
+    alloc: Global,
+    format: Format,
+    instance: &Instance,
+    change: Change,
+) -> Result<(String, Status), Fail> {
     let Some(least) = list_least(alloc, instance)? else {
         let report = String::from_str(alloc, "s UNSATISFIABLE\n")?;
         return Ok((report, Status::Unsatisfiable));
@@ -75,7 +98,7 @@ fn answer(alloc: Global, format: Format, instance: &Instance) -> Result<(String,
     let values = spelled(alloc, instance.vars(), least.bits)?;
     let values = value_line(alloc, format, &values)?;
     if instance.has_objective() {
-        let cost = least.cost;
+        let cost = change.cost(least.cost);
         let report = format!(in alloc; "o {cost}\ns OPTIMUM FOUND\n{values}")?;
         return Ok((report, Status::Optimum));
     }

@@ -2,7 +2,7 @@
 
 ghost use Rattle.std.specs.Prelude.{◌≡◌, ◌≤◌, true, All};
 
-use crate::{Count, CountingEngine, Engine, MAX_CLAUSES, RowTerms, Step};
+use crate::{Count, Engine, MAX_CLAUSES, RowTerms, Step};
 use pb_inst::{Cube, InstanceBuilder, Lit, Magnitude, Number, Relation, Term};
 use pb_normal::{Form, form_of};
 use std::alloc::Global;
@@ -107,16 +107,12 @@ fn literal(rt: &impl Abort, engine: &Engine<'_>, place: usize) -> Lit {
 }
 
 /// The number of rows.
-pub fn rows<C: Count>(engine: &CountingEngine<'_, C>) -> usize {
+pub fn rows<C: Count>(engine: &Engine<'_, C>) -> usize {
     engine.propagator.slacks().rows()
 }
 
 /// The slack of a row by its counter, or none where it is negative.
-pub fn slack<C: Count>(
-    rt: &impl Abort,
-    engine: &CountingEngine<'_, C>,
-    row: usize,
-) -> Option<Magnitude> {
+pub fn slack<C: Count>(rt: &impl Abort, engine: &Engine<'_, C>, row: usize) -> Option<Magnitude> {
     let slacks = engine.propagator.slacks();
     assert!(rt; row < slacks.rows());
     slacks

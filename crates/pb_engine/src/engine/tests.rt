@@ -2,9 +2,10 @@
 
 use crate::Step;
 use crate::engine::courses::{Course, Move, Terms};
+use pb_inst::Number;
 
 /// `3 x1 2 x2 1 x3 >= 4`
-const THREE: (Terms<'static>, i64) = (&[(3, 1), (2, 2), (1, 3)], 4);
+const THREE: (Terms<'static>, Number) = (&[(3, 1), (2, 2), (1, 3)], 4);
 
 #[test]
 fn forces_what_is_greater_than_the_slack(rt: HostRuntime) {

@@ -6,19 +6,19 @@ ghost use Rattle.pb_read.specs.Cnf.{CnfText, cnf_refusal, header_words};
 ghost use Rattle.pb_read.specs.ClauseReading.{capped_header};
 ghost use Rattle.pb_read.specs.Reading.{IsMemory};
 
-use crate::digits::digits_value;
+use crate::digits::digits_count;
 use crate::dimacs::clause_reader::ClauseReader;
 use crate::dimacs::content_lines::ContentLines;
 use crate::dimacs::word::next_word;
 use crate::fault::{ReadFault, ReadKind};
-use pb_inst::{Instance, MAX_CONSTRAINTS, MAX_VARS, Magnitude};
+use pb_inst::{Instance, MAX_CONSTRAINTS, MAX_VARS};
 use std::alloc::Global;
 
-/// How many variables and clauses a text announces. A number over `GREATEST_READ` is `GREATEST_READ`.
+/// How many variables and clauses a text announces. A number over `GREATEST_COUNT` is `GREATEST_COUNT`.
 #[derive(Clone, Copy, Debug, PartialEq, Eq)]
 pub(crate) struct Header {
-    vars: Magnitude,
-    clauses: Magnitude,
+    vars: u32,
+    clauses: u32,
 }
 
 /// What a line announces that is `p`, `cnf` and two numbers.
@@ -36,8 +36,8 @@ fn read_header(line: &[u8]) -> Option<Header>
         return None;
     }
     Some(Header {
-        vars: digits_value(vars)?,
-        clauses: digits_value(clauses)?,
+        vars: digits_count(vars)?,
+        clauses: digits_count(clauses)?,
     })
 }
 
@@ -55,13 +55,13 @@ pub fn read_cnf(alloc: Global, text: &[u8]) -> Result<Instance, ReadFault>
             line: number,
         });
     };
-    if vars > Magnitude::from(MAX_VARS) || clauses > MAX_CONSTRAINTS as Magnitude {
+    if vars > MAX_VARS || clauses as usize > MAX_CONSTRAINTS {
         return Err(ReadFault {
             kind: ReadKind::TooMany,
             line: number,
         });
     }
-    let (vars, count) = (vars as u32, clauses as usize);
+    let count = clauses as usize;
     let mut reader = ClauseReader::new(alloc, Some(count), vars);
     reader.take_rest(&mut lines)?;
     reader.end()?;

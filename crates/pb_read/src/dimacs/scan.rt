@@ -8,20 +8,19 @@ ghost use Rattle.pb_read.specs.ClauseReading.{capped, IsProperWord, Scanned};
 
 use crate::dimacs::word::{Word, next_word, word_of};
 use crate::fault::ReadKind;
-use pb_inst::{Lit, MAX_VARS, Magnitude, Memory};
+use pb_inst::{Lit, MAX_VARS, Memory};
 use std::alloc::Global;
 use std::vec::Vec;
 
 /// The literal, where its variable is at most the limit.
-fn literal_within(positive: bool, var: Magnitude, limit: u32) -> Option<Lit>
+fn literal_within(positive: bool, var: u32, limit: u32) -> Option<Lit>
     requires positive { 0 < var }
     requires limit { limit ≤ MAX_VARS }
     ensures { result ≡ (if nat_le var limit then Some (record { var = var; positive = positive }) else None) }
 {
-    if var > Magnitude::from(limit) {
+    if var > limit {
         return None;
     }
-    let var = u32::try_from(var).ok()?;
     Lit::new(var, positive).ok()
 }
 

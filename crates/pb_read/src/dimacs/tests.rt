@@ -227,7 +227,8 @@ fn assert_clause(rt: &impl Abort, instance: &Instance, i: usize, expected: Liter
     assert_eq!(rt; constraint.relation, Relation::AtLeast, "{text:?}");
     assert_eq!(rt; constraint.bound, one, "{text:?}");
     assert_eq!(rt; constraint.terms.len(), expected.len(), "{text:?}");
-    for (term, literal) in constraint.terms.iter().zip(expected) {
+    for (k, literal) in expected.iter().enumerate() {
+        let term = constraint.terms.get(k);
         assert_eq!(rt; term.coef, one, "{text:?}");
         assert_literal(rt, term.lit, *literal, text);
     }

@@ -5,14 +5,13 @@ ghost use Rattle.pb_read.specs.Text.{is_blank, words};
 ghost use Rattle.pb_read.specs.Clauses as clauses;
 ghost use Rattle.pb_read.specs.ClauseReading.{capped, IsNextWord, IsProperWord};
 
-use crate::digits::digits_value;
+use crate::digits::digits_count;
 use crate::line::{after_blanks, is_blank};
-use pb_inst::Magnitude;
 
-/// A word, in which an index over `GREATEST_READ` is `GREATEST_READ`.
+/// A word, in which an index over `GREATEST_COUNT` is `GREATEST_COUNT`.
 #[derive(Clone, Copy, Debug, PartialEq, Eq)]
 pub(crate) enum Word {
-    Literal { positive: bool, var: Magnitude },
+    Literal { positive: bool, var: u32 },
     Zero,
     Bad,
 }
@@ -48,14 +47,14 @@ pub(crate) fn word_of(word: &[u8]) -> Word
     ensures proper { IsProperWord result }
 {
     match word {
-        [b'-', digits @ ..] => match digits_value(digits) {
+        [b'-', digits @ ..] => match digits_count(digits) {
             Some(0) | None => Word::Bad,
             Some(var) => Word::Literal {
                 positive: false,
                 var,
             },
         },
-        _ => match digits_value(word) {
+        _ => match digits_count(word) {
             None => Word::Bad,
             Some(0) => Word::Zero,
             Some(var) => Word::Literal {

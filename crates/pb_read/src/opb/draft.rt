@@ -96,7 +96,7 @@ fn has_bad_index(token: Token) -> bool
     ensures { result ≡ opb.has_bad_index (read_back token) }
 {
     match token {
-        Token::Literal { var, .. } => var == 0 || var > Magnitude::from(MAX_VARS),
+        Token::Literal { var, .. } => var == 0 || var > MAX_VARS,
         _ => false,
     }
 }
@@ -120,7 +120,7 @@ fn good_literal(token: Token) -> Option<Lit>
             if has_bad_index(token) {
                 return None;
             }
-            Lit::new(var as u32, positive).ok()
+            Lit::new(var, positive).ok()
         }
         _ => None,
     }

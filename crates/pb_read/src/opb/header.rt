@@ -1,11 +1,11 @@
 //! The number of variables that the first line may give.
 ghost use Rattle.std.specs.Prelude.{◌≡◌, ◌≤◌, option_map, length, take, drop, take_while};
-ghost use Rattle.pb_read.specs.Capped.{cap, ends_word};
+ghost use Rattle.pb_read.specs.Capped.{cap_count, ends_word};
 ghost use Rattle.pb_read.specs.Runs.{skip_while};
 ghost use Rattle.pb_read.specs.Text.{is_digit};
 ghost use Rattle.pb_read.specs.Opb as opb;
 
-use crate::digits::{digits_value, is_digit};
+use crate::digits::{digits_count, is_digit};
 use crate::line::{after_gap, after_margin, is_blank};
 use bstr::ByteSlice;
 
@@ -33,27 +33,27 @@ fn ends_word(rest: &[u8]) -> bool
 }
 
 /// One or more digits, and then a blank or the end.
-fn leading_number(bytes: &[u8]) -> Option<u64>
-    ensures { result ≡ option_map cap (opb.leading_number bytes.now) }
+fn leading_number(bytes: &[u8]) -> Option<u32>
+    ensures { result ≡ option_map cap_count (opb.leading_number bytes.now) }
 {
     let (digits, rest) = bytes.split_at(digits_len(bytes));
     if !ends_word(rest) {
         return None;
     }
-    digits_value(digits)
+    digits_count(digits)
 }
 
-fn header_of(line: &[u8]) -> Option<u64>
-    ensures { result ≡ option_map cap (opb.header_of line.now) }
+fn header_of(line: &[u8]) -> Option<u32>
+    ensures { result ≡ option_map cap_count (opb.header_of line.now) }
 {
     let comment = after_margin(line).strip_prefix(b"*".as_slice())?;
     let number = after_gap(comment).strip_prefix(b"#variable=".as_slice())?;
     leading_number(after_gap(number))
 }
 
-/// The number of the header, or the greatest `u64` where it is larger, and 0 where the first line is none.
-pub(crate) fn announced_vars(text: &[u8]) -> u64
-    ensures { result ≡ cap (opb.header text.now) }
+/// The number of the header, or `GREATEST_COUNT` where it is larger, and 0 where the first line is none.
+pub(crate) fn announced_vars(text: &[u8]) -> u32
+    ensures { result ≡ cap_count (opb.header text.now) }
 {
     match text.lines_with_terminator().next() {
         Some(line) => header_of(line).unwrap_or(0),

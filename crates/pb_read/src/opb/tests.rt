@@ -26,7 +26,10 @@ struct Refused {
     line: u64,
 }
 
-const MOST: Number = 9_223_372_036_854_775_807;
+/// The greatest number of 64 bits with a sign.
+const MOST_OF_64_BITS: Number = 9_223_372_036_854_775_807;
+
+const MOST: Number = 85_070_591_730_234_615_865_843_651_857_942_052_863;
 
 const ACCEPTED: &[Accepted] = &[
     Accepted {
@@ -66,10 +69,28 @@ const ACCEPTED: &[Accepted] = &[
         constraints: &[(&[(1, 1), (1, 2)], Relation::AtMost, 1)],
     },
     Accepted {
-        text: b"9223372036854775806 x1 >= 1 ;\n",
+        text: b"85070591730234615865843651857942052862 x1 >= 1 ;\n",
         vars: 1,
         objective: None,
         constraints: &[(&[(MOST - 1, 1)], Relation::AtLeast, 1)],
+    },
+    Accepted {
+        text: b"9223372036854775807 x1 >= 1 ;\n",
+        vars: 1,
+        objective: None,
+        constraints: &[(&[(MOST_OF_64_BITS, 1)], Relation::AtLeast, 1)],
+    },
+    Accepted {
+        text: b"min: 9223372036854775808 x1 ;\n",
+        vars: 1,
+        objective: Some(&[(MOST_OF_64_BITS + 1, 1)]),
+        constraints: &[],
+    },
+    Accepted {
+        text: b"1 x1 >= -9223372036854775807 ;\n",
+        vars: 1,
+        objective: None,
+        constraints: &[(&[(1, 1)], Relation::AtLeast, -MOST_OF_64_BITS)],
     },
     Accepted {
         text: b"2 x1 3 ~x1 >= 3 ;\n",
@@ -96,13 +117,13 @@ const ACCEPTED: &[Accepted] = &[
         constraints: &[(&[(1, 1), (1, 2)], Relation::AtLeast, 2)],
     },
     Accepted {
-        text: b"min: 9223372036854775807 x1 ;\n1 x1 >= 1 ;\n",
+        text: b"min: 85070591730234615865843651857942052863 x1 ;\n1 x1 >= 1 ;\n",
         vars: 1,
         objective: Some(&[(MOST, 1)]),
         constraints: &[(&[(1, 1)], Relation::AtLeast, 1)],
     },
     Accepted {
-        text: b"min: -9223372036854775807 x1 ;\n",
+        text: b"min: -85070591730234615865843651857942052863 x1 ;\n",
         vars: 1,
         objective: Some(&[(-MOST, 1)]),
         constraints: &[],
@@ -126,7 +147,7 @@ const ACCEPTED: &[Accepted] = &[
         constraints: &[(&[(1, 1)], Relation::AtLeast, 1)],
     },
     Accepted {
-        text: b"1 x1 >= -9223372036854775806 ;\n",
+        text: b"1 x1 >= -85070591730234615865843651857942052862 ;\n",
         vars: 1,
         objective: None,
         constraints: &[(&[(1, 1)], Relation::AtLeast, 1 - MOST)],
@@ -144,7 +165,7 @@ const ACCEPTED: &[Accepted] = &[
         constraints: &[(&[(1, 1)], Relation::AtLeast, 0)],
     },
     Accepted {
-        text: b"-9223372036854775807 x1 >= 0 ;",
+        text: b"-85070591730234615865843651857942052863 x1 >= 0 ;",
         vars: 1,
         objective: None,
         constraints: &[(&[(-MOST, 1)], Relation::AtLeast, 0)],
@@ -165,7 +186,7 @@ const ACCEPTED: &[Accepted] = &[
 
 const REFUSED: &[Refused] = &[
     Refused {
-        text: b"9223372036854775807 x1 >= 1 ;\n",
+        text: b"85070591730234615865843651857942052863 x1 >= 1 ;\n",
         kind: ReadKind::TooLarge,
         line: 1,
     },
@@ -190,7 +211,7 @@ const REFUSED: &[Refused] = &[
         line: 1,
     },
     Refused {
-        text: b"min: 9223372036854775808 x1 ;\n",
+        text: b"min: 85070591730234615865843651857942052864 x1 ;\n",
         kind: ReadKind::TooLarge,
         line: 1,
     },
@@ -215,12 +236,12 @@ const REFUSED: &[Refused] = &[
         line: 1,
     },
     Refused {
-        text: b"1 x1 >= -9223372036854775807 ;\n",
+        text: b"1 x1 >= -85070591730234615865843651857942052863 ;\n",
         kind: ReadKind::TooLarge,
         line: 1,
     },
     Refused {
-        text: b"9223372036854775807 x0 >= 1 ;\n",
+        text: b"85070591730234615865843651857942052863 x0 >= 1 ;\n",
         kind: ReadKind::BadVariable,
         line: 1,
     },
@@ -302,9 +323,10 @@ fn read(rt: &impl Abort, alloc: Global, text: &[u8]) -> Result<Instance, ReadFau
     }
 }
 
-fn assert_terms(rt: &impl Abort, terms: &[Term], expected: Terms, text: &[u8]) {
+fn assert_terms(rt: &impl Abort, terms: &pb_inst::Terms<'_>, expected: Terms, text: &[u8]) {
     assert_eq!(rt; terms.len(), expected.len(), "{text:?}");
-    for (term, (coef, var)) in terms.iter().zip(expected) {
+    for (i, (coef, var)) in expected.iter().enumerate() {
+        let term = terms.get(i);
         assert_eq!(rt; term.coef, *coef, "{text:?}");
         assert_eq!(rt; term.lit.positive(), *var > 0, "{text:?}");
         assert_eq!(rt; u64::from(term.lit.var()), var.unsigned_abs(), "{text:?}");
@@ -315,7 +337,7 @@ fn assert_spelled(rt: &impl Abort, instance: &Instance, expected: &Accepted) {
     let text = expected.text;
     assert_eq!(rt; instance.vars(), expected.vars, "{text:?}");
     match (instance.objective(), expected.objective) {
-        (Some(terms), Some(expected)) => assert_terms(rt, terms, expected, text),
+        (Some(terms), Some(expected)) => assert_terms(rt, &terms, expected, text),
         (terms, expected) => {
             assert!(rt; terms.is_none() && expected.is_none(), "{text:?}");
         }
@@ -323,7 +345,7 @@ fn assert_spelled(rt: &impl Abort, instance: &Instance, expected: &Accepted) {
     assert_eq!(rt; instance.len(), expected.constraints.len(), "{text:?}");
     for (i, (terms, relation, bound)) in expected.constraints.iter().enumerate() {
         let constraint = instance.constraint(i);
-        assert_terms(rt, constraint.terms, terms, text);
+        assert_terms(rt, &constraint.terms, terms, text);
         assert_eq!(rt; constraint.relation, *relation, "{text:?}");
         assert_eq!(rt; constraint.bound, *bound, "{text:?}");
     }

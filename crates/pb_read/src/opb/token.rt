@@ -6,18 +6,18 @@ ghost use Rattle.pb_read.specs.Opb as opb;
 ghost use Rattle.pb_read.specs.Capped.{cap, capped, IsNextToken};
 ghost use Rattle.pb_read.specs.TokenCuts.{word_front, after_word, sign_token, after_sign};
 
-use crate::digits::leading_value;
+use crate::digits::{count_of, leading_value};
 use crate::line::{after_blanks, is_blank};
 use pb_inst::{Magnitude, Relation};
 
-/// A token, in which a number or an index over `GREATEST_READ` is `GREATEST_READ`.
+/// A token, in which a number over `GREATEST_READ` is `GREATEST_READ`, and an index over `GREATEST_COUNT` is that.
 #[derive(Clone, Copy, Debug, PartialEq, Eq)]
 pub(crate) enum Token {
     End,
     Min,
     Related(Relation),
     Number { negative: bool, size: Magnitude },
-    Literal { positive: bool, var: Magnitude },
+    Literal { positive: bool, var: u32 },
     Bad,
 }
 
@@ -80,7 +80,10 @@ fn literal(positive: bool, bytes: &[u8]) -> (Token, &[u8])
     ensures rest { result.1.now ≡ after_word bytes.now }
 {
     match word_value(bytes) {
-        (Some(var), rest) => (Token::Literal { positive, var }, rest),
+        (Some(number), rest) => {
+            let var = count_of(number);
+            (Token::Literal { positive, var }, rest)
+        }
         (None, rest) => (Token::Bad, rest),
     }
 }

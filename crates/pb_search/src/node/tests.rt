@@ -5,16 +5,17 @@ ghost use Rattle.pb_engine.specs.Soundness.{IsSoundTrail};
 ghost use Rattle.pb_search.specs.SearchState.{IsStateOf};
 
 use super::next_branch;
+use crate::Alone;
 use crate::agreed_prefix::AgreedPrefix;
 use crate::branch::decide;
+use crate::piece_tables::PieceTables;
 use crate::search_state::SearchState;
 use crate::tests::instances::{Row, instance, nothing, shown};
 use crate::tests::listing::{Random, least};
-use crate::{Alone, SearchTables};
 use pb_cubes::Pieces;
-use pb_engine::Engine;
+use pb_engine::{Count, Engine};
 use pb_inst::{Best, Instance, Number, Relation};
-use pb_normal::normalise;
+use pb_normal::form_of;
 use std::alloc::Global;
 use std::process::Abort;
 
@@ -40,7 +41,7 @@ fn amount(random: &mut Random) -> Number {
 }
 
 /// Shifts multipliers at random, so many at most. Some of the rows that are named are not there.
-fn shift_some(engine: &mut Engine<'_>, random: &mut Random, most: u32)
+fn shift_some<C: Count>(engine: &mut Engine<'_, C>, random: &mut Random, most: u32)
     ensures { engine.new ≡ engine.old }
 {
     for _ in 0..random.below(most.saturating_add(1)) {
@@ -71,7 +72,7 @@ impl Effects {
     }
 
     /// Shifts multipliers before a decision, and notes what they do before and after.
-    fn shift(&mut self, engine: &mut Engine<'_>, random: &mut Random, most: u32)
+    fn shift<C: Count>(&mut self, engine: &mut Engine<'_, C>, random: &mut Random, most: u32)
         ensures { engine.new ≡ engine.old }
     {
         self.decisions = self.decisions.saturating_add(1);
@@ -94,8 +95,8 @@ impl Effects {
 }
 
 /// Searches all solutions below the trail as `search_subtree` does, and shifts multipliers before each decision.
-fn search_shifted(
-    state: &mut SearchState<'_>,
+fn search_shifted<C: Count>(
+    state: &mut SearchState<'_, C>,
     best: &mut Best<'_>,
     random: &mut Random,
     most: u32,
@@ -113,8 +114,8 @@ fn search_shifted(
     effects
 }
 
-/// What such a search finds, and what the multipliers did in it.
-fn found(
+/// What such a search finds that counts in numbers of type `C`, and what the multipliers did in it.
+fn found<C: Count>(
     rt: &impl Abort,
     alloc: Global,
     instance: &Instance,
@@ -124,8 +125,10 @@ fn found(
     let vars = instance.vars();
     let pieces = Pieces::new(vars, Vec::new(alloc)).expect(rt, "pieces");
     assert!(rt; pieces.vars() == vars);
-    let normal = normalise(alloc, instance).expect(rt, "memory");
-    let tables = SearchTables::new(alloc, instance, &normal, &pieces).expect(rt, "memory");
+    let Ok(form) = form_of::<C>(alloc, instance) else {
+        panic!(rt; "no form");
+    };
+    let tables = PieceTables::new(alloc, instance, &form, &pieces).expect(rt, "memory");
     let (mut state, _rest) = tables.states(alloc).expect(rt, "memory");
     assert!(rt; state.branches.is_empty());
     assert!(rt; state.engine.level() == 0);
@@ -263,7 +266,7 @@ fn costly(random: &mut Random, rt: &impl Abort, alloc: Global, unit: Number) -> 
 }
 
 /// Whatever is proposed for the multipliers, be the coefficients small or large, the search finds what the listing of all
-/// assignments gives; and what is proposed has effects, on bounds and on the way of the search.
+/// assignments gives, in 64 bits and in 128; and what is proposed has effects, on bounds and on the way of the search.
 #[test]
 fn no_answer_depends_on_the_multipliers(rt: HostRuntime) {
     let alloc = rt.alloc();
@@ -274,14 +277,19 @@ fn no_answer_depends_on_the_multipliers(rt: HostRuntime) {
         let unit = if number % 2 == 0 { 1 } else { LARGE };
         let instance = costly(&mut random, &rt, alloc, unit);
         let want = least(&rt, alloc, &instance);
-        let (alone, untouched) = found(&rt, alloc, &instance, &mut random, 0);
+        let (alone, untouched) = found::<u64>(&rt, alloc, &instance, &mut random, 0);
         assert_eq!(rt; alone.as_str(), want.as_str(), "instance {number}");
-        let (shifted, touched) = found(&rt, alloc, &instance, &mut random, 8);
+        let mut again = random;
+        let (shifted, touched) = found::<u64>(&rt, alloc, &instance, &mut random, 8);
         assert_eq!(rt;
             shifted.as_str(),
             want.as_str(),
             "instance {number} with shifts"
         );
+        if number % 3 == 0 {
+            let (wide, _) = found::<u128>(&rt, alloc, &instance, &mut again, 8);
+            assert_eq!(rt; wide.as_str(), want.as_str(), "wide instance {number}");
+        }
         effects.add(touched);
         let is_feasible = want.as_str() != "none";
         feasible = feasible.saturating_add(u32::from(is_feasible));

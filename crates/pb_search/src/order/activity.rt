@@ -1,7 +1,7 @@
 //! Activities of variables, which conflicts bump. No answer depends on them, so nothing is promised.
 
-use super::gains::LearnedGains;
-use pb_inst::{Lit, Magnitude};
+use super::gains::{Gain, LearnedGains};
+use pb_inst::Lit;
 
 /// An activity, scaled up. The greatest one stands for all that are greater.
 pub type Activity = u64;
@@ -46,7 +46,7 @@ impl Activities {
     }
 
     /// The decision for the literal gained so much.
-    pub fn learn(&mut self, lit: Lit, gain: Magnitude) {
+    pub fn learn(&mut self, lit: Lit, gain: Gain) {
         self.gains.learn(lit, gain);
     }
 

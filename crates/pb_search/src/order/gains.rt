@@ -1,7 +1,10 @@
 //! What decisions did to the bound of the multipliers. No answer depends on it, so nothing is promised.
 
-use pb_inst::{Lit, Magnitude, Memory};
+use pb_inst::{Lit, Memory};
 use std::alloc::Global;
+
+/// By how much a decision raised the bound. The greatest one stands for all that are greater.
+pub type Gain = u64;
 
 /// How much a factor of a variable may be, and how finely it is told.
 pub type Factor = u64;
@@ -19,12 +22,12 @@ const PRIOR: u128 = 1075;
 const MAX_QUOTIENT: u128 = 1_048_576;
 
 /// Where sums of gains are halved, 2^60.
-const MANY: Magnitude = 1_152_921_504_606_846_976;
+const MANY: Gain = 1_152_921_504_606_846_976;
 
 /// The sum of some gains, and how many there are.
 #[derive(Clone, Copy)]
 struct Gains {
-    sum: Magnitude,
+    sum: Gain,
     count: u64,
 }
 
@@ -35,7 +38,7 @@ impl Gains {
     }
 
     /// One gain more.
-    fn add(&mut self, gain: Magnitude) {
+    fn add(&mut self, gain: Gain) {
         self.sum = self.sum.saturating_add(gain);
         self.count = self.count.saturating_add(1);
         if self.sum > MANY {
@@ -101,7 +104,7 @@ impl LearnedGains {
     }
 
     /// The decision for the literal gained so much.
-    pub fn learn(&mut self, lit: Lit, gain: Magnitude) {
+    pub fn learn(&mut self, lit: Lit, gain: Gain) {
         self.all.add(gain);
         let mean = self.all.mean();
         let Some(variable) = self.variables.get_mut(lit.var() as usize - 1) else {

@@ -1,6 +1,6 @@
 //! Instances, cubes and assignments by the numbers of their literals, and searches of pieces.
 
-ghost use Rattle.std.specs.Prelude.{◌≡◌, length};
+ghost use Rattle.std.specs.Prelude.{◌≡◌, ◌+◌, ◌≤◌, length};
 
 use crate::{Search, Share};
 use pb_cubes::Pieces;
@@ -195,10 +195,25 @@ pub fn search_pieces<S: Share>(
 {
     let vars = instance.vars();
     assert!(rt; pieces.vars() == vars);
+    assert!(rt; end <= pieces.len());
     let normal = normalise(alloc, instance).expect(rt, "memory");
     let mut search = Search::new(alloc, instance, &normal, pieces).expect(rt, "memory");
+    run_pieces(&mut search, first, end, best, share);
+}
+
+/// Runs the search on the pieces from `first` to before `end`, one after the other.
+pub fn run_pieces<S: Share>(
+    search: &mut Search<'_>,
+    first: u32,
+    end: u32,
+    best: &mut Best<'_>,
+    share: &mut S,
+)
+    requires pieces { end ≤ length search.old.division.cubes + 1 }
+    requires same_instance { best.old.problem ≡ search.old.division.problem }
+    ensures { best.new.problem ≡ best.old.problem }
+{
     for piece in first..end {
-        assert!(rt; piece < pieces.len());
         search.run(piece, best, share, None);
     }
 }

@@ -63,7 +63,8 @@ impl Random {
         }
     }
 
-    fn instance(&mut self, rt: &impl Abort, alloc: Global, vars: u32) -> Instance {
+    /// An objective, most often, and some constraints.
+    pub fn instance(&mut self, rt: &impl Abort, alloc: Global, vars: u32) -> Instance {
         let costly = self.below(5);
         let objective = if costly == 0 {
             Vec::new(alloc)
@@ -107,7 +108,7 @@ impl Random {
     }
 
     /// Some cubes: a split, or any lists of literals.
-    fn cubes(&mut self, rt: &impl Abort, alloc: Global, instance: &Instance) -> Vec<Cube> {
+    pub fn cubes(&mut self, rt: &impl Abort, alloc: Global, instance: &Instance) -> Vec<Cube> {
         let vars = instance.vars();
         if self.below(2) == 0 {
             let k = self.below(vars.min(3).saturating_add(1));

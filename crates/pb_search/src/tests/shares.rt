@@ -6,7 +6,7 @@ use super::instances::{
 };
 use super::lenders::{InTurn, Lender};
 use pb_cubes::Pieces;
-use pb_inst::{Number, Relation};
+use pb_inst::{Number, Relation, SUM_BOUND};
 use std::alloc::Global;
 use std::process::Abort;
 
@@ -89,7 +89,7 @@ fn the_share_is_asked_and_told(rt: HostRuntime) {
     let mut best = nothing(&rt, alloc, &tied);
     search_pieces(&rt, alloc, &tied, &pieces, 0, 1, &mut best, &mut share);
     assert_eq!(rt; share.asked, 1);
-    assert_eq!(rt; share.first_below, Some(Number::MAX));
+    assert_eq!(rt; share.first_below, Some(SUM_BOUND as Number));
     assert_eq!(rt; share.last_offered, Some(3));
     let offered = share.offered;
     search_pieces(&rt, alloc, &tied, &pieces, 0, 1, &mut best, &mut share);

@@ -1,4 +1,4 @@
-use Rattle.std.proofs.Common.{◌≡◌, ℕ, ◌+◌, ◌*◌, ◌^◌, ◌<◌, ◌≤◌, length, get_or, take}
+use Rattle.std.proofs.Common.{◌≡◌, ℕ, ◌+◌, ◌*◌, ◌≤◌, length, get_or, take}
 use Rattle.pb_inst.specs.Literal.{Literal}
 use Rattle.pb_normal.specs.Literals.{weight_of}
 use Rattle.pb_rows.specs.Index.{literal_place}
@@ -8,7 +8,6 @@ use Rattle.pb_dual.proofs.reduced_costs.reprice.Given as goal
 abbrev pub invariant-loop-term : goal.invariant-loop-term
 invariant-loop-term g l = record {
   count : length l.costs ≡ length l.initial.costs;
-  small : (k : ℕ) → get_or l.costs k 0 < 2 ^ 64;
   each : (m : Literal) → 1 ≤ m.var → m.var ≤ length l.values → get_or l.costs (literal_place m) 0 + l.to * weight_of m (take l.term-index l.terms) ≡ get_or l.initial.costs (literal_place m) 0 + l.from * weight_of m (take l.term-index l.terms);
   sum : l.sum ≡ parts l.costs l.values;
 }

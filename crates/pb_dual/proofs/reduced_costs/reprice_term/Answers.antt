@@ -1,27 +1,49 @@
-use Rattle.std.proofs.Common.{◌≡◌, ℕ, ◌+◌, ◌-◌, ◌*◌, ◌^◌, None, get_or, set, arith, ap}
+use Rattle.std.proofs.Common.{◌≡◌, ℕ, ◌+◌, ◌-◌, ◌*◌, ◌^◌, ◌≤◌, ◌<◌, None, Bool, List, length, get_or, set, arith, ap, sym, ◌∙◌}
+use Rattle.std.proofs.lemmas.Grind.{get_or_default_zero}
+use Rattle.pb_inst.specs.Literal.{Literal}
 use Rattle.pb_rows.specs.Index.{literal_place}
+use Rattle.pb_rows.proofs.CostLemmas.{place_below}
 use Rattle.pb_dual.specs.ReducedCosts.{part, parts}
-use Rattle.pb_dual.proofs.ChangeLemmas.{part-within, parts-most, parts-repriced}
+use Rattle.pb_dual.proofs.ChangeLemmas.{part-within, parts-most, parts-repriced, repriced-most, sum-fits}
 use Rattle.pb_dual.proofs.reduced_costs.reprice_term.Goals as goal
 
 pub overflow_sub-sum : goal.overflow_sub-sum
-overflow_sub-sum c =
-    let l = c.args.term.lit in
-    let within = part-within c.args.costs.now c.args.values.now l.var c.place_of-place.ensures.within.0 c.requires.variable in
-    omega (arith, c.part-before.ensures, c.requires.sum)
+overflow_sub-sum g c =
+    let variable = ap (λ (m : Literal). m.var) c.lit-lit.ensures in
+    let within = part-within c.args.costs.now c.args.values.now c.lit-lit.result.var c.place_of-here.ensures.within.0 (omega (arith, c.requires.variable)) in
+    omega (arith, c.part-before.ensures, c.number.ensures, c.requires.sum)
 
 pub overflow_add-sum : goal.overflow_add-sum
-overflow_add-sum c =
-    let most = parts-most c.args.costs.now c.args.values.now (2 ^ 64) (λ k. omega (arith, c.requires.small k)) in
-    omega (arith, c.requires.sum, c.requires.few)
+overflow_add-sum g c =
+    let l = c.lit-lit.result in
+    let old = c.args.costs.now in
+    let values = c.args.values.now in
+    let most = 3 * g.C.Count.origin in
+    let high : l.var ≤ length values = omega (arith, c.requires.variable, ap (λ (m : Literal). m.var) c.lit-lit.ensures) in
+    let low = c.place_of-here.ensures.within.0 in
+    let own : get_or old c.place_of-here.result 0 ≡ get_or old (literal_place c.args.term.lit) 0 = ap (λ (p : ℕ). get_or old p 0) c.place_of-here.ensures.place ∙ ap (λ (m : Literal). get_or old (literal_place m) 0) c.lit-lit.ensures in
+    let given = ap (λ (k : ℕ). c.args.from * k) c.coef-coef.ensures in
+    let product : c.mul.result ≡ c.args.from * c.coef-coef.result = c.mul.ensures in
+    let read : c.index-costs-here.result ≡ get_or old c.place_of-here.result 0 = c.index-costs-here.is ∙ get_or_default_zero old c.place_of-here.result c.index-costs-here.result (omega (arith, c.place_of-here.ensures.place, c.requires.count, place_below l (length values) low high)) in
+    let sum : c.add.result ≡ c.index-costs-here.result + c.mul.result = c.add.ensures in
+    let rest : c.sub.result ≡ c.add.result - c.mul-2.result = c.sub.ensures in
+    let new : c.sub.result ≤ most = omega (arith, c.requires.fits) in
+    let after = repriced-most old (length values) l c.sub.result most low high c.requires.count new c.requires.small (get_or values (l.var - 1) None) in
+    let same = ap (λ (p : ℕ). part (set old p c.sub.result) l.var (get_or values (l.var - 1) None)) c.place_of-here.ensures.place in
+    let all = parts-most old values most c.requires.small in
+    let fits = sum-fits (length values) g.C.Count.origin (parts old values) (part (set old (literal_place l) c.sub.result) l.var (get_or values (l.var - 1) None)) c.requires.few g.C.Count.origin_small all after in
+    omega (arith, fits.1, c.part-after.ensures, c.number-2.ensures, c.requires.sum)
 
 pub returns-clause-sum : goal.returns-clause-sum
-returns-clause-sum c =
-    let l = c.args.term.lit in
+returns-clause-sum g c =
+    let l = c.lit-lit.result in
     let old = c.args.costs.now in
-    let n = get_or old c.place_of-place.result 0 + c.args.from * c.args.term.coef - c.args.to * c.args.term.coef in
-    let changed = parts-repriced old c.args.values.now l n c.place_of-place.ensures.within.0 c.requires.variable in
-    let within = part-within old c.args.values.now l.var c.place_of-place.ensures.within.0 c.requires.variable in
-    let placed : parts (set old c.place_of-place.result n) c.args.values.now ≡ parts (set old (literal_place l) n) c.args.values.now = ap (λ (p : ℕ). parts (set old p n) c.args.values.now) c.place_of-place.ensures.place in
-    let same : part (set old c.place_of-place.result n) l.var (get_or c.args.values.now (l.var - 1) None) ≡ part (set old (literal_place l) n) l.var (get_or c.args.values.now (l.var - 1) None) = ap (λ (p : ℕ). part (set old p n) l.var (get_or c.args.values.now (l.var - 1) None)) c.place_of-place.ensures.place in
-    omega (arith, c.part-before.ensures, c.part-after.ensures, c.requires.sum)
+    let values = c.args.values.now in
+    let n = c.sub.result in
+    let high : l.var ≤ length values = omega (arith, c.requires.variable, ap (λ (m : Literal). m.var) c.lit-lit.ensures) in
+    let low = c.place_of-here.ensures.within.0 in
+    let changed = parts-repriced old values l n low high in
+    let within = part-within old values l.var low high in
+    let placed = ap (λ (p : ℕ). parts (set old p n) values) c.place_of-here.ensures.place in
+    let same = ap (λ (p : ℕ). part (set old p n) l.var (get_or values (l.var - 1) None)) c.place_of-here.ensures.place in
+    omega (arith, c.part-before.ensures, c.part-after.ensures, c.number.ensures, c.number-2.ensures, c.requires.sum)

@@ -2,7 +2,6 @@ use Rattle.std.proofs.Common.{◌≡◌, ◌<◌, ◌≤◌, ℕ, List, [], ◌�
 use Rattle.std.proofs.lemmas.Bool.{eqb-true}
 use Rattle.std.proofs.lemmas.List.{take_all}
 use Rattle.pb_inst.specs.Literal.{Literal}
-use Rattle.pb_inst.specs.declared.TheConstants.{SUM_BOUND}
 use Rattle.pb_normal.specs.declared.terms.PositiveTerm.{PositiveTerm}
 use Rattle.pb_normal.specs.NormalForm.{NormalForm}
 use Rattle.pb_engine.specs.DisjointRows.{extras}
@@ -50,8 +49,7 @@ returns-clause-payment g c =
     let paid : c.paid.result ≡ reached s.trail s.form.objective = c.paid.ensures ∙ (c.count.ensures.needs.counters.paid_is ∙ ap (λ (t : List Literal). reached t s.form.objective) (take_all c.count.new.self.counted s.trail (omega (arith, c.count.ensures.all)))) in
     let vars : s.vars ≡ s.form.vars = subst (λ (k : Tracked). k.vars ≡ k.form.vars) c.tables.ensures c.vars-vars.ensures.form in
     let adds = c.extras-extras.ensures.extras ∙ ap (λ (n : ℕ). extras s.form.objective s.trail (replicate n false) s.rows) vars in
-    let small : sum_by (λ (t : PositiveTerm). t.coef) s.form.objective ≤ SUM_BOUND = subst (λ (k : Tracked). sum_by (λ (t : PositiveTerm). t.coef) k.form.objective ≤ SUM_BOUND) c.tables.ensures c.vars-vars.ensures.normal.limits.coefficients in
-    let value : c.number.result ≡ c.add.result = c.number.ensures (omega (arith, c.add.ensures)) in
+    let value : c.number.result ≡ c.add.result = c.number.ensures in
     value ∙ (c.add.ensures ∙ omega arith)
 
 pub returns-clause-small : goal.returns-clause-small
@@ -64,6 +62,5 @@ returns-clause-small g c =
     let paid : c.paid.result ≡ reached s.trail s.form.objective = c.paid.ensures ∙ (c.count.ensures.needs.counters.paid_is ∙ ap (λ (t : List Literal). reached t s.form.objective) (take_all c.count.new.self.counted s.trail (omega (arith, c.count.ensures.all)))) in
     let vars : s.vars ≡ s.form.vars = subst (λ (k : Tracked). k.vars ≡ k.form.vars) c.tables.ensures c.vars-vars.ensures.form in
     let adds = c.extras-extras.ensures.extras ∙ ap (λ (n : ℕ). extras s.form.objective s.trail (replicate n false) s.rows) vars in
-    let small : sum_by (λ (t : PositiveTerm). t.coef) s.form.objective ≤ SUM_BOUND = subst (λ (k : Tracked). sum_by (λ (t : PositiveTerm). t.coef) k.form.objective ≤ SUM_BOUND) c.tables.ensures c.vars-vars.ensures.normal.limits.coefficients in
-    let value : c.number.result ≡ c.add.result = c.number.ensures (omega (arith, c.add.ensures)) in
+    let value : c.number.result ≡ c.add.result = c.number.ensures in
     omega (arith, c.add.ensures)

@@ -25,6 +25,6 @@ returns-in-Weighted g c =
     let found = c.offer_of_items.result in
     let plain = map-id c.in-Weighted.terms.now ∙ ap terms_in (sym c.in-Weighted.is) in
     record {
-      some = subst (λ (ts : List PositiveTerm). ForSome found (λ (o : Offer). (o ≡ offer_of objective trail ts) × (meets_marks trail marks ts ≡ false))) plain c.offer_of_items.ensures.some;
+      some = subst (λ (ts : List PositiveTerm). ForSome found (λ (o : Offer). (o ≡ offer_of g.C.Count.limit objective trail ts) × (meets_marks trail marks ts ≡ false))) plain c.offer_of_items.ensures.some;
       none = subst (λ (ts : List PositiveTerm). found ≡ None → meets_marks trail marks ts ≡ true) plain c.offer_of_items.ensures.none;
     }

@@ -5,6 +5,6 @@ use Rattle.pb_engine.proofs.extras.offer_of_items.Given as goal
 
 abbrev pub invariant-loop-item : goal.invariant-loop-item
 invariant-loop-item g l = record {
-  offer_is : l.offer ≡ offer_of l.slacks.form.objective l.slacks.trail (take l.item-index (map g.T.Weighs.term l.items));
+  offer_is : l.offer ≡ offer_of g.C.Count.limit l.slacks.form.objective l.slacks.trail (take l.item-index (map g.T.Weighs.term l.items));
   unmet : meets_marks l.slacks.trail l.marks (take l.item-index (map g.T.Weighs.term l.items)) ≡ false;
 }

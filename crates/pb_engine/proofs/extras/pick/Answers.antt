@@ -1,7 +1,9 @@
-use Rattle.std.proofs.Common.{◌≡◌, ◌<◌, ℕ, List, Bool, false, [], length, get_or, take, cond, refl, ap, sym, subst, ◌∙◌, arith, sum_by}
+use Rattle.std.proofs.Common.{◌≡◌, ◌<◌, ◌≤◌, ℕ, List, Bool, false, [], length, get_or, take, cond, refl, ap, sym, subst, ◌∙◌, arith, sum_by}
 use Rattle.std.proofs.lemmas.List.{take_all}
+use Rattle.pb_inst.specs.declared.TheConstants.{SUM_BOUND}
 use Rattle.pb_inst.specs.Literal.{Literal}
 use Rattle.pb_normal.specs.declared.terms.PositiveTerm.{PositiveTerm}
+use Rattle.pb_normal.specs.NormalForm.{total_coefficient}
 use Rattle.pb_rows.specs.Constraints.{row_at, AreRowsOver, HaveRisingVariables}
 use Rattle.pb_engine.specs.DisjointRows.{need, extra, meets_marks, marked_by}
 use Rattle.pb_engine.specs.Needs.{IsLackOf}
@@ -24,9 +26,10 @@ extra-extra-requires-clause-positive g c = λ some reach.
     let needed : c.need.result ≡ need objective s.trail row = c.need.ensures ∙ need-is g.C.Count.limit objective s.trail row (get_or c.args.needs.now.lacks.items c.args.row 0) each in
     let terms : terms_in c.terms-terms.result ≡ row.terms = c.terms-terms.ensures ∙ ap (λ (k : Tracked). (row_at k.rows c.args.row).terms) c.tables-tables.ensures in
     let told = c.in-Some.ensures.some c.in-Some.offer refl in
-    let offer : c.in-Some.offer ≡ offer_of objective s.trail row.terms = told.0 ∙ ap (offer_of objective s.trail) terms in
+    let offer : c.in-Some.offer ≡ offer_of g.C.Count.limit objective s.trail row.terms = told.0 ∙ ap (offer_of g.C.Count.limit objective s.trail) terms in
     let unmet : meets_marks s.trail c.args.marks.now row.terms ≡ false = ap (meets_marks s.trail c.args.marks.now) (sym terms) ∙ told.1 in
-    let value : extra_in c.in-Some.offer c.need.result ≡ extra objective s.trail row = extra-is objective s.trail row c.in-Some.offer c.need.result offer needed in
+    let small : (total_coefficient s.form.objective < g.C.Count.limit) × (total_coefficient s.form.objective ≤ SUM_BOUND) = subst (λ (k : Tracked). (total_coefficient k.form.objective < g.C.Count.limit) × (total_coefficient k.form.objective ≤ SUM_BOUND)) c.tables-tables.ensures (c.vars-vars.ensures.objective, c.vars-vars.ensures.normal.limits.coefficients) in
+    let value : extra_in c.in-Some.offer c.need.result ≡ extra objective s.trail row = extra-is g.C.Count.limit objective s.trail row c.in-Some.offer c.need.result offer needed (omega arith) (omega arith) in
     let greatest_is = ap (λ (o : Offer). o.greatest) offer in
     let total_is = ap (λ (o : Offer). o.total) offer in
     omega (arith, some-greatest objective s.trail row.terms c.need.result some (omega arith))
@@ -42,9 +45,10 @@ extra-extra-requires-clause-fits g c =
     let needed : c.need.result ≡ need objective s.trail row = c.need.ensures ∙ need-is g.C.Count.limit objective s.trail row (get_or c.args.needs.now.lacks.items c.args.row 0) each in
     let terms : terms_in c.terms-terms.result ≡ row.terms = c.terms-terms.ensures ∙ ap (λ (k : Tracked). (row_at k.rows c.args.row).terms) c.tables-tables.ensures in
     let told = c.in-Some.ensures.some c.in-Some.offer refl in
-    let offer : c.in-Some.offer ≡ offer_of objective s.trail row.terms = told.0 ∙ ap (offer_of objective s.trail) terms in
+    let offer : c.in-Some.offer ≡ offer_of g.C.Count.limit objective s.trail row.terms = told.0 ∙ ap (offer_of g.C.Count.limit objective s.trail) terms in
     let unmet : meets_marks s.trail c.args.marks.now row.terms ≡ false = ap (meets_marks s.trail c.args.marks.now) (sym terms) ∙ told.1 in
-    let value : extra_in c.in-Some.offer c.need.result ≡ extra objective s.trail row = extra-is objective s.trail row c.in-Some.offer c.need.result offer needed in
+    let small : (total_coefficient s.form.objective < g.C.Count.limit) × (total_coefficient s.form.objective ≤ SUM_BOUND) = subst (λ (k : Tracked). (total_coefficient k.form.objective < g.C.Count.limit) × (total_coefficient k.form.objective ≤ SUM_BOUND)) c.tables-tables.ensures (c.vars-vars.ensures.objective, c.vars-vars.ensures.normal.limits.coefficients) in
+    let value : extra_in c.in-Some.offer c.need.result ≡ extra objective s.trail row = extra-is g.C.Count.limit objective s.trail row c.in-Some.offer c.need.result offer needed (omega arith) (omega arith) in
     let P : Tracked → Type 0 = λ k. HaveRisingVariables k.rows × AreRowsOver k.vars k.rows × (sum_by (λ (t : PositiveTerm). t.coef) k.form.objective < g.C.Count.limit) in
     let facts : P s = subst P c.tables-tables.ensures (c.vars-vars.ensures.rising, c.vars-vars.ensures.rows, c.vars-vars.ensures.objective) in
     let within : AreWithin (length c.args.marks.now) row.terms = subst (λ (n : ℕ). AreWithin n row.terms) (sym c.requires.marks) (facts.1 c.args.row (record { terms = []; degree = 0 }) c.requires.row) in
@@ -61,9 +65,10 @@ returns-then-is_zero-clause-extra g c =
     let needed : c.need.result ≡ need objective s.trail row = c.need.ensures ∙ need-is g.C.Count.limit objective s.trail row (get_or c.args.needs.now.lacks.items c.args.row 0) each in
     let terms : terms_in c.terms-terms.result ≡ row.terms = c.terms-terms.ensures ∙ ap (λ (k : Tracked). (row_at k.rows c.args.row).terms) c.tables-tables.ensures in
     let told = c.in-Some.ensures.some c.in-Some.offer refl in
-    let offer : c.in-Some.offer ≡ offer_of objective s.trail row.terms = told.0 ∙ ap (offer_of objective s.trail) terms in
+    let offer : c.in-Some.offer ≡ offer_of g.C.Count.limit objective s.trail row.terms = told.0 ∙ ap (offer_of g.C.Count.limit objective s.trail) terms in
     let unmet : meets_marks s.trail c.args.marks.now row.terms ≡ false = ap (meets_marks s.trail c.args.marks.now) (sym terms) ∙ told.1 in
-    let value : extra_in c.in-Some.offer c.need.result ≡ extra objective s.trail row = extra-is objective s.trail row c.in-Some.offer c.need.result offer needed in
+    let small : (total_coefficient s.form.objective < g.C.Count.limit) × (total_coefficient s.form.objective ≤ SUM_BOUND) = subst (λ (k : Tracked). (total_coefficient k.form.objective < g.C.Count.limit) × (total_coefficient k.form.objective ≤ SUM_BOUND)) c.tables-tables.ensures (c.vars-vars.ensures.objective, c.vars-vars.ensures.normal.limits.coefficients) in
+    let value : extra_in c.in-Some.offer c.need.result ≡ extra objective s.trail row = extra-is g.C.Count.limit objective s.trail row c.in-Some.offer c.need.result offer needed (omega arith) (omega arith) in
     let off = not_picked objective s.trail c.args.marks.now row (sym value ∙ (sym c.extra-extra.ensures ∙ is_zero-true c.is_zero.result c.extra-extra.result c.is_zero.ensures c.if-is_zero.true)) in
     c.of-then-is_zero.ensures ∙ sym (ap (λ (b : Bool). cond b (extra objective s.trail row) 0) off)
 
@@ -78,9 +83,10 @@ returns-then-is_zero-clause-marks g c =
     let needed : c.need.result ≡ need objective s.trail row = c.need.ensures ∙ need-is g.C.Count.limit objective s.trail row (get_or c.args.needs.now.lacks.items c.args.row 0) each in
     let terms : terms_in c.terms-terms.result ≡ row.terms = c.terms-terms.ensures ∙ ap (λ (k : Tracked). (row_at k.rows c.args.row).terms) c.tables-tables.ensures in
     let told = c.in-Some.ensures.some c.in-Some.offer refl in
-    let offer : c.in-Some.offer ≡ offer_of objective s.trail row.terms = told.0 ∙ ap (offer_of objective s.trail) terms in
+    let offer : c.in-Some.offer ≡ offer_of g.C.Count.limit objective s.trail row.terms = told.0 ∙ ap (offer_of g.C.Count.limit objective s.trail) terms in
     let unmet : meets_marks s.trail c.args.marks.now row.terms ≡ false = ap (meets_marks s.trail c.args.marks.now) (sym terms) ∙ told.1 in
-    let value : extra_in c.in-Some.offer c.need.result ≡ extra objective s.trail row = extra-is objective s.trail row c.in-Some.offer c.need.result offer needed in
+    let small : (total_coefficient s.form.objective < g.C.Count.limit) × (total_coefficient s.form.objective ≤ SUM_BOUND) = subst (λ (k : Tracked). (total_coefficient k.form.objective < g.C.Count.limit) × (total_coefficient k.form.objective ≤ SUM_BOUND)) c.tables-tables.ensures (c.vars-vars.ensures.objective, c.vars-vars.ensures.normal.limits.coefficients) in
+    let value : extra_in c.in-Some.offer c.need.result ≡ extra objective s.trail row = extra-is g.C.Count.limit objective s.trail row c.in-Some.offer c.need.result offer needed (omega arith) (omega arith) in
     let off = not_picked objective s.trail c.args.marks.now row (sym value ∙ (sym c.extra-extra.ensures ∙ is_zero-true c.is_zero.result c.extra-extra.result c.is_zero.ensures c.if-is_zero.true)) in
     sym (ap (λ (b : Bool). cond b (marked_by s.trail c.args.marks.now row.terms) c.args.marks.now) off)
 
@@ -95,9 +101,10 @@ returns-else-is_zero-clause-extra g c =
     let needed : c.need.result ≡ need objective s.trail row = c.need.ensures ∙ need-is g.C.Count.limit objective s.trail row (get_or c.args.needs.now.lacks.items c.args.row 0) each in
     let terms : terms_in c.terms-terms.result ≡ row.terms = c.terms-terms.ensures ∙ ap (λ (k : Tracked). (row_at k.rows c.args.row).terms) c.tables-tables.ensures in
     let told = c.in-Some.ensures.some c.in-Some.offer refl in
-    let offer : c.in-Some.offer ≡ offer_of objective s.trail row.terms = told.0 ∙ ap (offer_of objective s.trail) terms in
+    let offer : c.in-Some.offer ≡ offer_of g.C.Count.limit objective s.trail row.terms = told.0 ∙ ap (offer_of g.C.Count.limit objective s.trail) terms in
     let unmet : meets_marks s.trail c.args.marks.now row.terms ≡ false = ap (meets_marks s.trail c.args.marks.now) (sym terms) ∙ told.1 in
-    let value : extra_in c.in-Some.offer c.need.result ≡ extra objective s.trail row = extra-is objective s.trail row c.in-Some.offer c.need.result offer needed in
+    let small : (total_coefficient s.form.objective < g.C.Count.limit) × (total_coefficient s.form.objective ≤ SUM_BOUND) = subst (λ (k : Tracked). (total_coefficient k.form.objective < g.C.Count.limit) × (total_coefficient k.form.objective ≤ SUM_BOUND)) c.tables-tables.ensures (c.vars-vars.ensures.objective, c.vars-vars.ensures.normal.limits.coefficients) in
+    let value : extra_in c.in-Some.offer c.need.result ≡ extra objective s.trail row = extra-is g.C.Count.limit objective s.trail row c.in-Some.offer c.need.result offer needed (omega arith) (omega arith) in
     let on = is-picked objective s.trail c.args.marks.now row (λ none. is_zero-false c.is_zero.result c.extra-extra.result c.is_zero.ensures c.if-is_zero.false (c.extra-extra.ensures ∙ (value ∙ none))) unmet in
     c.extra-extra.ensures ∙ (value ∙ sym (ap (λ (b : Bool). cond b (extra objective s.trail row) 0) on))
 
@@ -112,8 +119,9 @@ returns-else-is_zero-clause-marks g c =
     let needed : c.need.result ≡ need objective s.trail row = c.need.ensures ∙ need-is g.C.Count.limit objective s.trail row (get_or c.args.needs.now.lacks.items c.args.row 0) each in
     let terms : terms_in c.terms-terms.result ≡ row.terms = c.terms-terms.ensures ∙ ap (λ (k : Tracked). (row_at k.rows c.args.row).terms) c.tables-tables.ensures in
     let told = c.in-Some.ensures.some c.in-Some.offer refl in
-    let offer : c.in-Some.offer ≡ offer_of objective s.trail row.terms = told.0 ∙ ap (offer_of objective s.trail) terms in
+    let offer : c.in-Some.offer ≡ offer_of g.C.Count.limit objective s.trail row.terms = told.0 ∙ ap (offer_of g.C.Count.limit objective s.trail) terms in
     let unmet : meets_marks s.trail c.args.marks.now row.terms ≡ false = ap (meets_marks s.trail c.args.marks.now) (sym terms) ∙ told.1 in
-    let value : extra_in c.in-Some.offer c.need.result ≡ extra objective s.trail row = extra-is objective s.trail row c.in-Some.offer c.need.result offer needed in
+    let small : (total_coefficient s.form.objective < g.C.Count.limit) × (total_coefficient s.form.objective ≤ SUM_BOUND) = subst (λ (k : Tracked). (total_coefficient k.form.objective < g.C.Count.limit) × (total_coefficient k.form.objective ≤ SUM_BOUND)) c.tables-tables.ensures (c.vars-vars.ensures.objective, c.vars-vars.ensures.normal.limits.coefficients) in
+    let value : extra_in c.in-Some.offer c.need.result ≡ extra objective s.trail row = extra-is g.C.Count.limit objective s.trail row c.in-Some.offer c.need.result offer needed (omega arith) (omega arith) in
     let on = is-picked objective s.trail c.args.marks.now row (λ none. is_zero-false c.is_zero.result c.extra-extra.result c.is_zero.ensures c.if-is_zero.false (c.extra-extra.ensures ∙ (value ∙ none))) unmet in
     c.mark.ensures ∙ (ap (marked_by s.trail c.args.marks.now) terms ∙ sym (ap (λ (b : Bool). cond b (marked_by s.trail c.args.marks.now row.terms) c.args.marks.now) on))

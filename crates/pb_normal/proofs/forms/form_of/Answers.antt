@@ -1,11 +1,10 @@
-use Rattle.std.proofs.Common.{◌∙◌, ◌++◌, ◌≤◌, List, ap, arith, rules, FitsSigned}
+use Rattle.std.proofs.Common.{◌≤◌, arith, rules, FitsSigned}
 use Rattle.std.proofs.lemmas.Int.{to_z-of_z}
 use Rattle.pb_inst.proofs.NumberWidth.{number_width}
 use Rattle.pb_inst.specs.Constraints.{linear}
 use Rattle.pb_inst.specs.Limits.{constraint_magnitude, AllVariablesWithin}
 use Rattle.pb_inst.specs.Problem.{LinearConstraint}
 use Rattle.pb_inst.specs.declared.TheConstants.{SUM_BOUND}
-use Rattle.pb_normal.specs.declared.terms.PositiveTerm.{PositiveTerm}
 use Rattle.pb_normal.proofs.FormLemmas.{form_is, form_is_normal, form_keeps_cost}
 use Rattle.pb_normal.proofs.RowLemmas.{read_all, room_for, no_rows_yet, rows_step, all_rows, rows_mean}
 use Rattle.pb_normal.proofs.forms.form_of.Goals as goal

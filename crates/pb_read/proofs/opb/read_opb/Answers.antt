@@ -11,38 +11,38 @@ use Rattle.pb_read.proofs.opb.read_opb.Goals as goal
 pub returns-in_err-builder-clause-only : goal.returns-in_err-builder-clause-only
 returns-in_err-builder-clause-only c = λ i t.
     let p = err_from_is_err_and c.from_residual.result c.from_residual.ensures.1 in
-    let small : ltb MAX_VARS (header c.args.text.now) ≡ false = le-ltb MAX_VARS (header c.args.text.now) (omega (arith, c.announced_vars-least.ensures, c.if-least-from.false)) in
+    let small : ltb MAX_VARS (header c.args.text.now) ≡ false = le-ltb MAX_VARS (header c.args.text.now) (omega (arith, c.announced_vars-least.ensures, c.if-least-gt-MAX_VARS.false)) in
     rw (p.1, p.2) (spells_none c.args.text.now c.in_err-builder.field-0.0 i (refusal_of c.args.text.now c.in_err-builder.field-0.0 small c.in_err-builder.ensures.err) t)
 
 pub unreachable-requires : goal.unreachable-requires
 unreachable-requires c =
     let text = c.args.text.now in
     let b = c.in_ok-builder.builder in
-    let small : ltb MAX_VARS (header c.args.text.now) ≡ false = le-ltb MAX_VARS (header c.args.text.now) (omega (arith, c.announced_vars-least.ensures, c.if-least-from.false)) in
+    let small : ltb MAX_VARS (header c.args.text.now) ≡ false = le-ltb MAX_VARS (header c.args.text.now) (omega (arith, c.announced_vars-least.ensures, c.if-least-gt-MAX_VARS.false)) in
     let h = c.in_ok-builder.ensures.ok in
-    let vars : c.max-vars.result ≡ max (header c.args.text.now) (greatest_index (terms_of b.instance.objective b.instance.constraints)) = omega (arith, c.max-vars.ensures, c.announced_vars-least.ensures, c.if-least-from.false, h.1.index) in
+    let vars : c.max-vars.result ≡ max (header c.args.text.now) (greatest_index (terms_of b.instance.objective b.instance.constraints)) = omega (arith, c.max-vars.ensures, c.announced_vars-least.ensures, c.if-least-gt-MAX_VARS.false, h.1.index) in
     let t = built_spells c.args.text.now b.instance.objective b.instance.constraints c.max-vars.result small h.0 h.1.same vars in
     false≢true (c.in-Err.ensures.accepts.1 (t.limits.variable_count, t.limits.variables))
 
 pub returns-clause-found : goal.returns-clause-found
 returns-clause-found c =
     let b = c.in_ok-builder.builder in
-    let small : ltb MAX_VARS (header c.args.text.now) ≡ false = le-ltb MAX_VARS (header c.args.text.now) (omega (arith, c.announced_vars-least.ensures, c.if-least-from.false)) in
+    let small : ltb MAX_VARS (header c.args.text.now) ≡ false = le-ltb MAX_VARS (header c.args.text.now) (omega (arith, c.announced_vars-least.ensures, c.if-least-gt-MAX_VARS.false)) in
     let h = c.in_ok-builder.ensures.ok in
-    let vars : c.max-vars.result ≡ max (header c.args.text.now) (greatest_index (terms_of b.instance.objective b.instance.constraints)) = omega (arith, c.max-vars.ensures, c.announced_vars-least.ensures, c.if-least-from.false, h.1.index) in
+    let vars : c.max-vars.result ≡ max (header c.args.text.now) (greatest_index (terms_of b.instance.objective b.instance.constraints)) = omega (arith, c.max-vars.ensures, c.announced_vars-least.ensures, c.if-least-gt-MAX_VARS.false, h.1.index) in
     let t = built_spells c.args.text.now b.instance.objective b.instance.constraints c.max-vars.result small h.0 h.1.same vars in
     subst (OpbText c.args.text.now) (sym c.in-Ok.ensures.finished) t
 
 pub returns-clause-only : goal.returns-clause-only
 returns-clause-only c = λ i u. one_instance c.args.text.now c.in-Ok.instance i (returns-clause-found c) u
 
-pub returns-then-least-from-clause-refused : goal.returns-then-least-from-clause-refused
-returns-then-least-from-clause-refused c =
-    let over : MAX_VARS < header c.args.text.now = omega (arith, c.announced_vars-least.ensures, c.if-least-from.true) in
+pub returns-then-least-gt-MAX_VARS-clause-refused : goal.returns-then-least-gt-MAX_VARS-clause-refused
+returns-then-least-gt-MAX_VARS-clause-refused c =
+    let over : MAX_VARS < header c.args.text.now = omega (arith, c.announced_vars-least.ensures, c.if-least-gt-MAX_VARS.true) in
     inr (refused_by_header c.args.text.now (lt-ltb MAX_VARS (header c.args.text.now) over))
 
 pub returns-in_err-builder-clause-refused : goal.returns-in_err-builder-clause-refused
 returns-in_err-builder-clause-refused c =
     let p = err_from_is_err_and c.from_residual.result c.from_residual.ensures.1 in
-    let small : ltb MAX_VARS (header c.args.text.now) ≡ false = le-ltb MAX_VARS (header c.args.text.now) (omega (arith, c.announced_vars-least.ensures, c.if-least-from.false)) in
+    let small : ltb MAX_VARS (header c.args.text.now) ≡ false = le-ltb MAX_VARS (header c.args.text.now) (omega (arith, c.announced_vars-least.ensures, c.if-least-gt-MAX_VARS.false)) in
     rw (p.1, p.2) (refusal_of c.args.text.now c.in_err-builder.field-0.0 small c.in_err-builder.ensures.err)

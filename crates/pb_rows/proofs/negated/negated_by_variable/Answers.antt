@@ -3,6 +3,7 @@ use mathlib.Core.Bool.{beq}
 use Rattle.pb_inst.specs.Literal.{Literal}
 use Rattle.pb_inst.specs.declared.literals.Lit.{Lit}
 use Rattle.pb_normal.specs.Literals.{negation}
+use Rattle.pb_normal.proofs.LiteralLemmas.{negation-is}
 use Rattle.pb_rows.specs.Clauses.{IsClauseOf, clause_row}
 use Rattle.pb_rows.proofs.NegatedLemmas.{IsClauseSoFar, so_far_push, so_far_stays, contradiction_found, clause_of_all}
 use Rattle.pb_rows.proofs.negated.negated_by_variable.Goals as goal
@@ -50,7 +51,7 @@ loop-lit-preserved c =
     let P : List Literal → Type 0 = λ ls. IsClauseSoFar c.args.cube.now (c.loop-lit.lit-index + 1) ls in
     elim c.match-last_sign.branch [
       | in-None+in_ok-push-in-None w ↦
-          (let negated : w.negate.result ≡ negation l = cc in
+          (let negated : w.negate.result ≡ negation l = negation-is l w.negate.result w.negate.ensures.same_variable w.negate.ensures.other_sign in
           let other = other_read c.deref.result.now clause c.var.result l c.deref.ensures.value c.var.ensures.value (c.last_sign.ensures.none w.in-None.is) in
           subst P (sym (ap (λ (v : Vec Lit Global). v.items) w.clause-is)) (so_far_push c.args.cube.now clause w.push.new.self.items c.loop-lit.lit-index l w.negate.result c.requires.sorted c.loop-lit.invariant c.loop-lit-test.true c.lit-item.is negated w.in_ok-push-in-None.ensures.items other))
       | in-Some+else-sign-positive w ↦

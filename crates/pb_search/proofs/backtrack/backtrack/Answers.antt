@@ -14,20 +14,20 @@ use Rattle.pb_search.proofs.SearchLemmas.{IsStep, step_of, leaving_on, turn_next
 use Rattle.pb_search.proofs.backtrack.backtrack.Goals as goal
 
 pub returns-then-not-is_spent-clause-next : goal.returns-then-not-is_spent-clause-next
-returns-then-not-is_spent-clause-next c start h =
-    let u : SearchState = record { engine = c.is_spent.new.engine; branches = c.undo_decision.new.path; candidate = c.loop-branch.state.candidate; order = c.loop-branch.state.order } in
+returns-then-not-is_spent-clause-next g c start h =
+    let u : SearchState _ = record { engine = c.is_spent.new.engine; branches = c.undo_decision.new.path; candidate = c.loop-branch.state.candidate; order = c.loop-branch.state.order } in
     let step : IsStep c.args.best.now.problem c.loop-branch.state u c.in-Some.branch = step_of c.args.best.now.problem c.loop-branch.state u c.undo_decision.new.engine c.in-Some.branch c.in-Some.ensures.popped c.undo_decision.ensures.constraints c.undo_decision.ensures.at_path c.in-Some.ensures.free c.undo_decision.ensures.same_room refl c.is_spent.ensures.unchanged in
     turn_next c.args.best.now.problem start c.loop-branch.state u c.in-Some.branch c.other_value.result c.args.best.now.held step c.other_value.ensures (c.loop-branch.invariant.leaving start h)
 
 pub returns-then-not-is_spent-clause-fewer : goal.returns-then-not-is_spent-clause-fewer
-returns-then-not-is_spent-clause-fewer c few =
+returns-then-not-is_spent-clause-fewer g c few =
     let s = shortened_more c.args.state.now.branches.items c.loop-branch.state.branches.items c.undo_decision.new.path.items c.in-Some.branch c.loop-branch.invariant.shortened c.in-Some.ensures.popped in
     subst (λ (x : List Branch). steps_left c.args.best.now.problem.vars (c.undo_decision.new.path.items ++ c.other_value.result ∷ []) < steps_left c.args.best.now.problem.vars x) (sym s.1)
     (turn_falls c.args.best.now.problem.vars c.undo_decision.new.path.items s.0 c.in-Some.branch c.other_value.result (c.is_spent.ensures.fresh c.if-not-is_spent.true) c.other_value.ensures.flipped)
 
 pub loop-branch-preserved : goal.loop-branch-preserved
-loop-branch-preserved c =
-    let u : SearchState = record { engine = c.is_spent.new.engine; branches = c.undo_decision.new.path; candidate = c.loop-branch.state.candidate; order = c.loop-branch.state.order } in
+loop-branch-preserved g c =
+    let u : SearchState _ = record { engine = c.is_spent.new.engine; branches = c.undo_decision.new.path; candidate = c.loop-branch.state.candidate; order = c.loop-branch.state.order } in
     let step : IsStep c.args.best.now.problem c.loop-branch.state u c.in-Some.branch = step_of c.args.best.now.problem c.loop-branch.state u c.undo_decision.new.engine c.in-Some.branch c.in-Some.ensures.popped c.undo_decision.ensures.constraints c.undo_decision.ensures.at_path c.in-Some.ensures.free c.undo_decision.ensures.same_room refl c.is_spent.ensures.unchanged in
     let s = shortened_more c.args.state.now.branches.items c.loop-branch.state.branches.items c.undo_decision.new.path.items c.in-Some.branch c.loop-branch.invariant.shortened c.in-Some.ensures.popped in
     let spent : (c.in-Some.branch.flipped ≡ true) ⊎ IsClosed c.args.best.now.problem u.engine c.args.best.now.held = subst (λ (e : EngineState). (c.in-Some.branch.flipped ≡ true) ⊎ IsClosed c.args.best.now.problem e c.args.best.now.held) (sym c.is_spent.ensures.unchanged) (c.is_spent.ensures.spent c.if-not-is_spent.false) in
@@ -41,10 +41,10 @@ loop-branch-preserved c =
     }
 
 pub returns-then-not-is_spent-clause-known : goal.returns-then-not-is_spent-clause-known
-returns-then-not-is_spent-clause-known c = subst (λ (e : EngineState). KnowsHeldPrefix e.trail c.args.best.now.held c.is_spent.new.agreed) (sym c.is_spent.ensures.unchanged) c.is_spent.ensures.known
+returns-then-not-is_spent-clause-known g c = subst (λ (e : EngineState). KnowsHeldPrefix e.trail c.args.best.now.held c.is_spent.new.agreed) (sym c.is_spent.ensures.unchanged) c.is_spent.ensures.known
 
 pub loop-branch-init : goal.loop-branch-init
-loop-branch-init c = record {
+loop-branch-init g c = record {
   made_for = c.requires.state;
   at_path = c.requires.at_path;
   shortened = record { taken_back = []; path = sym (append-nil c.args.state.now.branches.items) };
@@ -54,29 +54,29 @@ loop-branch-init c = record {
 }
 
 pub is_spent-requires-clause-engine : goal.is_spent-requires-clause-engine
-is_spent-requires-clause-engine c = same_engine c.args.best.now.problem c.loop-branch.state.engine c.undo_decision.new.engine c.undo_decision.ensures.constraints c.loop-branch.invariant.made_for.engine
+is_spent-requires-clause-engine g c = same_engine c.args.best.now.problem c.loop-branch.state.engine c.undo_decision.new.engine c.undo_decision.ensures.constraints c.loop-branch.invariant.made_for.engine
 
 pub returns-then-not-is_spent-clause-made_for : goal.returns-then-not-is_spent-clause-made_for
-returns-then-not-is_spent-clause-made_for c =
-    let u : SearchState = record { engine = c.is_spent.new.engine; branches = c.undo_decision.new.path; candidate = c.loop-branch.state.candidate; order = c.loop-branch.state.order } in
+returns-then-not-is_spent-clause-made_for g c =
+    let u : SearchState _ = record { engine = c.is_spent.new.engine; branches = c.undo_decision.new.path; candidate = c.loop-branch.state.candidate; order = c.loop-branch.state.order } in
     let constraints : SameConstraints c.loop-branch.state.engine u.engine = subst (λ (e : EngineState). SameConstraints c.loop-branch.state.engine e) (sym c.is_spent.ensures.unchanged) c.undo_decision.ensures.constraints in
     state_moves c.args.best.now.problem c.loop-branch.state u constraints c.undo_decision.ensures.same_room refl c.loop-branch.invariant.made_for
 
 pub returns-then-not-is_spent-clause-constraints : goal.returns-then-not-is_spent-clause-constraints
-returns-then-not-is_spent-clause-constraints c =
+returns-then-not-is_spent-clause-constraints g c =
     same_constraints_onward c.args.state.now.engine c.loop-branch.state.engine c.is_spent.new.engine c.loop-branch.invariant.constraints
     (subst (λ (e : EngineState). SameConstraints c.loop-branch.state.engine e) (sym c.is_spent.ensures.unchanged) c.undo_decision.ensures.constraints)
 
 pub returns-clause-finished : goal.returns-clause-finished
-returns-clause-finished c start h a below better = subst (λ (x : List Branch). LeavesOpen a x) c.in_default.ensures.no_decisions ((c.loop-branch.invariant.leaving start h).all_leave a below better)
+returns-clause-finished g c start h a below better = subst (λ (x : List Branch). LeavesOpen a x) c.in_default.ensures.no_decisions ((c.loop-branch.invariant.leaving start h).all_leave a below better)
 
 pub returns-clause-made_for : goal.returns-clause-made_for
-returns-clause-made_for c =
-    let u : SearchState = record { engine = c.undo_decision.new.engine; branches = c.undo_decision.new.path; candidate = c.loop-branch.state.candidate; order = c.loop-branch.state.order } in
+returns-clause-made_for g c =
+    let u : SearchState _ = record { engine = c.undo_decision.new.engine; branches = c.undo_decision.new.path; candidate = c.loop-branch.state.candidate; order = c.loop-branch.state.order } in
     state_moves c.args.best.now.problem c.loop-branch.state u c.undo_decision.ensures.constraints c.undo_decision.ensures.same_room refl c.loop-branch.invariant.made_for
 
 pub returns-clause-constraints : goal.returns-clause-constraints
-returns-clause-constraints c = same_constraints_onward c.args.state.now.engine c.loop-branch.state.engine c.undo_decision.new.engine c.loop-branch.invariant.constraints c.undo_decision.ensures.constraints
+returns-clause-constraints g c = same_constraints_onward c.args.state.now.engine c.loop-branch.state.engine c.undo_decision.new.engine c.loop-branch.invariant.constraints c.undo_decision.ensures.constraints
 
 pub returns-clause-known : goal.returns-clause-known
-returns-clause-known c = c.undo_decision.ensures.known
+returns-clause-known g c = c.undo_decision.ensures.known

@@ -7,7 +7,7 @@ use Rattle.pb_search.proofs.Moves.{IsShortened}
 use Rattle.pb_search.proofs.backtrack.backtrack.Given as goal
 
 abbrev pub invariant-loop-branch : goal.invariant-loop-branch
-invariant-loop-branch l = record {
+invariant-loop-branch g l = record {
   made_for : IsStateOf l.best.problem l.state;
   at_path : IsAtSomePath l.state.engine l.state.branches.items;
   shortened : IsShortened l.initial.state.branches.items l.state.branches.items;
@@ -17,4 +17,4 @@ invariant-loop-branch l = record {
 }
 
 abbrev pub decreases-loop-branch : goal.decreases-loop-branch
-decreases-loop-branch l = vec_len l.state.branches
+decreases-loop-branch g l = vec_len l.state.branches

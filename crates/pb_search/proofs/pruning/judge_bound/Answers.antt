@@ -9,10 +9,10 @@ use Rattle.pb_search.proofs.AgreedPrefixLemmas.{knows_of, knows_held}
 use Rattle.pb_search.proofs.pruning.judge_bound.Goals as goal
 
 pub judge_tie-requires-clause-known : goal.judge_tie-requires-clause-known
-judge_tie-requires-clause-known c = knows_of c.args.engine.now.trail c.args.best.now.held c.in-Some-assignment.held.now c.args.agreed.now (sym c.in-Some-assignment.ensures.value) c.requires.known
+judge_tie-requires-clause-known g c = knows_of c.args.engine.now.trail c.args.best.now.held c.in-Some-assignment.held.now c.args.agreed.now (sym c.in-Some-assignment.ensures.value) c.requires.known
 
 pub returns-clause-closed : goal.returns-clause-closed
-returns-clause-closed c is =
+returns-clause-closed g c is =
     let t : Solution = record { cost = c.in-Some.cost; assignment = c.in-Some-assignment.held.now } in
     let held : c.args.best.now.held ≡ Some t = held_is c.args.best.now.held c.in-Some.cost c.in-Some-assignment.held.now (sym c.in-Some.ensures.value) (sym c.in-Some-assignment.ensures.value) in
     let sound : IsSolution c.args.best.now.problem t = subst (λ (o : Option Solution). IfSome o (λ s. IsSolution c.args.best.now.problem s)) held c.cost.ensures.sound in
@@ -21,4 +21,4 @@ returns-clause-closed c is =
     (closed_at_tie c.args.best.now.problem c.args.engine.now c.args.bound t c.requires.engine c.requires.bound sound low (c.judge_tie.ensures.closed is))
 
 pub returns-clause-known : goal.returns-clause-known
-returns-clause-known c = knows_held c.args.engine.now.trail c.args.best.now.held c.in-Some-assignment.held.now c.judge_tie.new.agreed (sym c.in-Some-assignment.ensures.value) c.judge_tie.ensures.known
+returns-clause-known g c = knows_held c.args.engine.now.trail c.args.best.now.held c.in-Some-assignment.held.now c.judge_tie.new.agreed (sym c.in-Some-assignment.ensures.value) c.judge_tie.ensures.known

@@ -5,7 +5,7 @@ use Rattle.pb_search.specs.Solutions.{SameConstraints, Satisfies}
 use Rattle.pb_search.proofs.root.assume_cube.Given as goal
 
 abbrev pub invariant-loop-lit : goal.invariant-loop-lit
-invariant-loop-lit l = record {
+invariant-loop-lit g l = record {
   constraints : SameConstraints l.initial.engine l.engine;
   sound : IsSoundTrail l.engine;
   no_conflict : l.engine.conflict ≡ false;

@@ -7,7 +7,7 @@ use Rattle.pb_search.proofs.RootLemmas.{refuted_at_root}
 use Rattle.pb_search.proofs.root.return_to_root.Goals as goal
 
 pub returns-clause-conflict : goal.returns-clause-conflict
-returns-clause-conflict c is a =
+returns-clause-conflict g c is a =
     let back : SameConstraints c.args.engine.now c.undo_to.new.self = same_constraints c.args.engine.now c.undo_to.new.self (trail_before c.args.engine.now 0) (take 0 c.args.engine.now.levels) false c.undo_to.ensures.undone in
     let on : SameConstraints c.undo_to.new.self c.propagate.new.self = same_constraints c.undo_to.new.self c.propagate.new.self c.propagate.new.self.trail c.undo_to.new.self.levels (is_conflict c.propagate.result) c.propagate.ensures.added in
     let root : assumptions c.propagate.new.self ≡ [] = propagated c.undo_to.new.self c.propagate.new.self c.propagate.new.self.trail (is_conflict c.propagate.result) c.undo_to.ensures.sound c.propagate.ensures.added c.propagate.ensures.forced ∙ undone_all c.args.engine.now c.undo_to.new.self c.undo_to.ensures.undone in

@@ -1,7 +1,8 @@
-use Rattle.std.proofs.Common.{◌≡◌, ℕ, ◌<◌, ◌≤◌, length, subst, arith, refl}
+use Rattle.std.proofs.Common.{ℕ, ◌<◌, ◌≤◌, length, subst, arith, refl}
 use Rattle.pb_inst.specs.Literal.{Literal}
 use Rattle.pb_rows.specs.Constraints.{row_at}
-use Rattle.pb_normal.specs.Literals.{negation, weight_of}
+use Rattle.pb_normal.specs.Literals.{weight_of}
+use Rattle.pb_normal.proofs.LiteralLemmas.{negation-is}
 use Rattle.pb_trail.specs.Propagation.{IsSettledFrom}
 use Rattle.pb_trail.proofs.CompletionLemmas.{AddsForced-trans}
 use Rattle.pb_trail.proofs.Looking.{propagated_none, propagated_next}
@@ -16,7 +17,7 @@ returns-in-Conflict-clause-forced g c = AddsForced-trans c.args.tables.now.rows 
 pub loop-head-preserved : goal.loop-head-preserved
 loop-head-preserved g c =
     let tables = c.args.tables.now in
-    let negated : c.negate.result ≡ negation c.literal-lit.result = cc in
+    let negated = negation-is c.literal-lit.result c.negate.result c.negate.ensures.same_variable c.negate.ensures.other_sign in
     let P : Literal → Type 0 = λ m. (r from : ℕ) → r < length tables.rows → 0 < weight_of m (row_at tables.rows r).terms → from ≤ length c.loop-head.trail.lits → IsSettledFrom from c.look_at_literal.new.trail.lits (row_at tables.rows r) in
     propagated_next tables c.args.trail.now c.loop-head.trail c.look_at_literal.new.trail c.loop-head.head c.literal-lit.result c.loop-head.invariant (omega arith) c.literal-lit.ensures.value c.in_default.ensures.up_to_date c.in_default.ensures.forced
     (subst P negated (c.in_default.ensures.settled refl))

@@ -1,12 +1,20 @@
-use Rattle.std.proofs.Common.{◌≡◌, ℕ, ◌-◌, ◌++◌, List, Bool, Option, length, set, take, drop, ap, sym, subst, ◌∙◌, arith, Some, None, length-set}
+use Rattle.std.proofs.Common.{◌≡◌, ℕ, ◌+◌, ◌-◌, ◌^◌, ◌<◌, ◌++◌, List, Bool, Option, length, set, take, drop, ap, sym, subst, ◌∙◌, arith, Some, None, length-set}
 use Rattle.std.specs.Vec.{vec_capacity}
 use Rattle.pb_rows.proofs.IndexLemmas.{changed_in_place}
 use Rattle.pb_trail.specs.Trail.{value_on}
 use Rattle.pb_trail.proofs.TrackedLemmas.{trail_has_room, AreValues-push}
-use Rattle.pb_dual.specs.ReducedCosts.{parts}
+use Rattle.pb_dual.specs.ReducedCosts.{parts, cost_at}
 use Rattle.pb_dual.specs.Multipliers.{MultipliersState}
-use Rattle.pb_dual.proofs.TrailLemmas.{kept_on}
+use Rattle.pb_dual.proofs.TrailLemmas.{kept_on, revalue-room}
 use Rattle.pb_dual.proofs.multipliers.Multipliers.assign.Goals as goal
+
+pub revalue-requires-clause-room : goal.revalue-requires-clause-room
+revalue-requires-clause-room g c = λ low b.
+    let inside = c.self.inside in
+    let room : parts inside.costs.items inside.values.items + cost_at inside.costs.items c.args.lit.var b < 2 ^ 128 = revalue-room c.self.invariant g.C.Count.origin_small c.args.lit.var low (omega (arith, c.requires.variable, ap (λ (s : MultipliersState). s.form.vars) c.self.view_is)) b in
+    let costs = c.deref.ensures.value in
+    let values = c.deref_mut.ensures.value in
+    rw (costs, values) room
 
 pub push_reserved-requires : goal.push_reserved-requires
 push_reserved-requires g c =

@@ -11,13 +11,13 @@ use Rattle.pb_dual.proofs.multipliers.Multipliers.bound.Given.{Over}
 use Rattle.pb_dual.proofs.multipliers.Multipliers.bound.Goals as goal
 
 pub bound_at-requires : goal.bound_at-requires
-bound_at-requires g c = omega (arith, sum-most c.self.invariant)
+bound_at-requires g c = omega (arith, sum-most c.self.invariant g.C.Count.origin_small 0 (omega arith))
 
 -- the result is the bound
 result_is : (g : Over) (c : goal.After-bound_at g) → to_z number_width (of_z number_width c.bound_at.result) ≡ dual_bound c.args.self.now
 result_is g c =
     let s = c.args.self.now in
-    let sum : c.self.inside.sum ≡ parts_on s.scale s.form s.multipliers s.trail = sum_on c.self.invariant ∙ ap (λ (t : MultipliersState). parts_on t.scale t.form t.multipliers t.trail) c.self.view_is in
+    let sum : c.self.inside.sum ≡ parts_on s.origin s.scale s.form s.multipliers s.trail = sum_on c.self.invariant ∙ ap (λ (t : MultipliersState). parts_on t.origin t.scale t.form t.multipliers t.trail) c.self.view_is in
     to_z-of_z number_width c.bound_at.result (record { sfits = c.bound_at.type_inv }) ∙ (c.bound_at.ensures ∙ ap (bound_from s) sum)
 
 pub returns-clause-value : goal.returns-clause-value
@@ -27,7 +27,7 @@ pub returns-clause-bound : goal.returns-clause-bound
 returns-clause-bound g c =
     let s = c.args.self.now in
     let inside = c.self.inside in
-    let viewed : MultipliersState = record { form = inside.form.now; scale = inside.scale; share = inside.share; multipliers = inside.multipliers.items; trail = inside.lits.items; changes = inside.changes.items; room = vec_capacity inside.changes } in
+    let viewed : MultipliersState = record { form = inside.form.now; origin = g.C.Count.origin; scale = inside.scale; share = inside.share; multipliers = inside.multipliers.items; trail = inside.lits.items; changes = inside.changes.items; room = vec_capacity inside.changes } in
     let below = bound_below viewed c.vars-vars.ensures.normal c.self.invariant.scale_from_one c.self.invariant.count (promised_fits c.self.invariant) in
     let holds : IsBelowCosts s.form s.trail (dual_bound s) = subst (λ (t : MultipliersState). IsBelowCosts t.form t.trail (dual_bound t)) c.self.view_is below in
     subst (λ (z : ℤ). IsBelowCosts s.form s.trail z) (sym (result_is g c)) holds

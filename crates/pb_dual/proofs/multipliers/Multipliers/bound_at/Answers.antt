@@ -1,21 +1,18 @@
-use Rattle.std.proofs.Common.{◌≡◌, ℕ, ◌+◌, ◌-◌, ◌*◌, min, length, ap, ◌∙◌, arith}
+use Rattle.std.proofs.Common.{◌≡◌, ℕ, ◌+◌, ◌-◌, ◌*◌, min, ap, sym, ◌∙◌, arith}
 use Rattle.std.specs.Int.{div_ceil}
-use Rattle.pb_dual.specs.declared.TheConstants.{ZERO}
 use Rattle.pb_dual.specs.Multipliers.{MultipliersState, bound_from}
-use Rattle.pb_dual.proofs.TrailLemmas.{bound_is}
-use Rattle.pb_dual.proofs.multipliers.Multipliers.bound_at.Given.{Over}
+use Rattle.pb_dual.proofs.TrailLemmas.{promised_fits, bound_is}
 use Rattle.pb_dual.proofs.multipliers.Multipliers.bound_at.Goals as goal
 
--- what the code adds to the base
-above_base : (g : Over) (c : goal.After-div_ceil g) → c.div_ceil.result ≡ div_ceil (min ((c.args.sum + c.self.inside.degrees) - length c.self.inside.values.items * ZERO) (c.self.inside.scale * c.self.inside.total)) c.self.inside.scale
-above_base g c =
-    let inside = c.self.inside in
-    let count : c.len.result ≡ length inside.values.items = omega (arith, c.len.ensures, inside.values.ok.0) in
-    let above = c.saturating_sub-above.ensures ∙ ap (λ (n : ℕ). (c.args.sum + inside.degrees) - n * ZERO) count in
-    c.div_ceil.ensures ∙ ap (λ (n : ℕ). div_ceil n inside.scale) (c.min-scaled.ensures ∙ ap (λ (n : ℕ). min n (inside.scale * inside.total)) above)
-
-pub overflow_add-result : goal.overflow_add-result
-overflow_add-result g c = (bound_is c.self.invariant c.base.ensures.normal c.base.result c.base.ensures.value c.args.sum c.div_ceil.result (above_base g c)).0
+pub overflow_add-sum : goal.overflow_add-sum
+overflow_add-sum g c = omega (arith, c.requires, c.number.ensures, c.self.invariant.degrees_are, promised_fits c.self.invariant, g.C.Count.origin_small)
 
 pub returns : goal.returns
-returns g c = (bound_is c.self.invariant c.base.ensures.normal c.base.result c.base.ensures.value c.args.sum c.div_ceil.result (above_base g c)).1 ∙ ap (λ (s : MultipliersState). bound_from s c.args.sum) c.self.view_is
+returns g c =
+    let inside = c.self.inside in
+    let floor : c.floor.result ≡ inside.form.now.vars * g.C.Count.origin = c.floor.ensures ∙ ap (λ (s : MultipliersState). s.form.vars * s.origin) (sym c.self.view_is) in
+    let above : c.saturating_sub-above.result ≡ (c.args.sum + inside.degrees) - inside.form.now.vars * g.C.Count.origin = c.saturating_sub-above.ensures ∙ (ap (λ (n : ℕ). (c.args.sum + n) - c.floor.result) c.number.ensures ∙ ap (λ (n : ℕ). (c.args.sum + inside.degrees) - n) floor) in
+    let most : c.number-2.result ≡ inside.scale * inside.total = c.number-2.ensures ∙ c.mul-most.ensures in
+    let scaled = c.fitting-scaled.ensures ∙ (c.min.ensures ∙ (ap (λ (n : ℕ). min n c.number-2.result) above ∙ ap (min ((c.args.sum + inside.degrees) - inside.form.now.vars * g.C.Count.origin)) most)) in
+    let up : c.number-3.result ≡ div_ceil (min ((c.args.sum + inside.degrees) - inside.form.now.vars * g.C.Count.origin) (inside.scale * inside.total)) inside.scale = c.number-3.ensures ∙ (c.div_ceil.ensures ∙ ap (λ (n : ℕ). div_ceil n inside.scale) scaled) in
+    (bound_is c.self.invariant c.base.ensures.normal c.base.result c.base.ensures.value c.args.sum c.number-3.result up).1 ∙ ap (λ (s : MultipliersState). bound_from s c.args.sum) c.self.view_is

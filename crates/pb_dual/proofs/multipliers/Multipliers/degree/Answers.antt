@@ -4,7 +4,6 @@ use Rattle.std.proofs.lemmas.Option.{slice_get-get_or}
 use Rattle.pb_normal.specs.NormalForm.{PositiveRow}
 use Rattle.pb_rows.specs.Constraints.{row_at}
 use Rattle.pb_dual.specs.Multipliers.{MultipliersState}
-use Rattle.pb_dual.proofs.RowTermLemmas.{degree-small}
 use Rattle.pb_dual.proofs.multipliers.Multipliers.degree.Goals as goal
 
 pub returns : goal.returns
@@ -12,5 +11,4 @@ returns g c =
     let form = c.self.inside.form.now in
     let row : c.args.row < length form.rows = subst (λ (m : MultipliersState). c.args.row < length m.form.rows) (sym c.self.view_is) c.requires in
     let told : (row_at form.rows c.args.row).degree ≡ c.degree.result = subst (λ found. IsSomeAnd found (λ (r : PositiveRow). r.degree ≡ c.degree.result)) (slice_get-get_or form.rows c.args.row (record { terms = []; degree = 0 }) row) c.degree.ensures in
-    let number : c.number.result ≡ c.degree.result = c.number.ensures (omega (arith, told, degree-small form c.args.row c.vars-vars.ensures.normal row)) in
-    number ∙ (sym told ∙ ap (λ (m : MultipliersState). (row_at m.form.rows c.args.row).degree) c.self.view_is)
+    sym told ∙ ap (λ (m : MultipliersState). (row_at m.form.rows c.args.row).degree) c.self.view_is

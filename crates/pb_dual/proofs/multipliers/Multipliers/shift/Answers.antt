@@ -1,7 +1,7 @@
 use Rattle.std.proofs.Common.{◌≡◌, ℕ, ◌<◌, List, length, get_or, All, arith, sym, subst}
 use Rattle.std.proofs.lemmas.List.{get_or_read}
 use Rattle.std.proofs.lemmas.List.Elements.{All-push}
-use Rattle.pb_dual.specs.declared.changes.Change.{Change}
+use Rattle.pb_dual.specs.Changes.{Change}
 use Rattle.pb_dual.specs.Multipliers.{MultipliersState, IsWithinShare}
 use Rattle.pb_dual.proofs.multipliers.Multipliers.shift.Goals as goal
 
@@ -19,6 +19,7 @@ invariant_of-self g c =
       total_is = kept.total_is;
       scaled = kept.scaled;
       shared = kept.shared;
+      few = kept.few;
       count = kept.count;
       each_within = kept.each_within;
       degrees_are = kept.degrees_are;

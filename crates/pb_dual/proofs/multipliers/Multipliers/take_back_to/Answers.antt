@@ -1,6 +1,6 @@
 use Rattle.std.proofs.Common.{ℕ, ◌-◌, ◌<◌, List, length, take, drop, arith, ap, sym, ◌∙◌}
 use Rattle.std.proofs.lemmas.List.{take-take, length-take-le}
-use Rattle.pb_dual.specs.declared.changes.Change.{Change}
+use Rattle.pb_dual.specs.Changes.{Change}
 use Rattle.pb_dual.specs.Multipliers.{MultipliersState, undone}
 use Rattle.pb_dual.proofs.UndoLemmas.{undone-further}
 use Rattle.pb_dual.proofs.multipliers.Multipliers.take_back_to.Goals as goal

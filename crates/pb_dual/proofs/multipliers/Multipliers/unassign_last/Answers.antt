@@ -1,10 +1,18 @@
-use Rattle.std.proofs.Common.{◌≡◌, ℕ, ◌-◌, ◌++◌, ◌∷◌, [], List, Bool, Option, length, set, take, drop, ap, sym, ◌∙◌, arith, None, length-set}
+use Rattle.std.proofs.Common.{◌≡◌, ℕ, ◌+◌, ◌-◌, ◌^◌, ◌<◌, ◌++◌, ◌∷◌, [], List, Bool, Option, length, set, take, drop, ap, sym, ◌∙◌, arith, None, length-set}
 use Rattle.std.specs.Vec.{vec_capacity}
 use Rattle.pb_rows.proofs.IndexLemmas.{changed_in_place}
 use Rattle.pb_trail.proofs.TrackedLemmas.{AreValues-pop, AreValues-last}
-use Rattle.pb_dual.specs.ReducedCosts.{parts}
-use Rattle.pb_dual.proofs.TrailLemmas.{kept_on}
+use Rattle.pb_dual.specs.ReducedCosts.{parts, cost_at}
+use Rattle.pb_dual.proofs.TrailLemmas.{kept_on, revalue-room}
 use Rattle.pb_dual.proofs.multipliers.Multipliers.unassign_last.Goals as goal
+
+pub revalue-requires-clause-room : goal.revalue-requires-clause-room
+revalue-requires-clause-room g c = λ low b.
+    let inside = c.self.inside in
+    let room : parts inside.costs.items inside.values.items + cost_at inside.costs.items c.in-Some.lit.var b < 2 ^ 128 = revalue-room c.self.invariant g.C.Count.origin_small c.in-Some.lit.var low (omega (arith, c.self.invariant.vars, (AreValues-last c.self.inside.values.items c.self.inside.lits.items c.pop.new.self.items (vec_capacity c.self.inside.lits) c.in-Some.lit c.self.invariant.values_are c.in-Some.ensures.items).1)) b in
+    let costs = c.deref.ensures.value in
+    let values = c.deref_mut.ensures.value in
+    rw (costs, values) room
 
 pub invariant_of-self : goal.invariant_of-self
 invariant_of-self g c =

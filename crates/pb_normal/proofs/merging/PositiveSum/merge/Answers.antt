@@ -13,16 +13,16 @@ merge_sorted-requires-clause-sorted c = subst (λ (ts : List Term). IsNonDecreas
 
 pub merge_sorted-requires-clause-bounded : goal.merge_sorted-requires-clause-bounded
 merge_sorted-requires-clause-bounded c =
-    let size = total_magnitude-IsPermutation _ _ (sorted_copy c.args.terms.now _ _ _ _ c.clear.ensures.items c.in_ok-extend_from_slice.ensures.items c.sort_unstable_by_key.ensures.permutation c.deref.ensures.value) in
+    let size = total_magnitude-IsPermutation _ _ (sorted_copy c.args.terms.now _ _ _ c.in_ok-copy_into.ensures c.sort_unstable_by_key.ensures.permutation c.deref.ensures.value) in
     omega arith
 
 pub returns-clause-value : goal.returns-clause-value
 returns-clause-value c =
-    let same = sorted_copy c.args.terms.now _ _ _ _ c.clear.ensures.items c.in_ok-extend_from_slice.ensures.items c.sort_unstable_by_key.ensures.permutation c.deref.ensures.value in
+    let same = sorted_copy c.args.terms.now _ _ _ c.in_ok-copy_into.ensures c.sort_unstable_by_key.ensures.permutation c.deref.ensures.value in
     let fits : FitsSigned number_width c.in_ok-self.field-0 = search rules in
     subst (λ (base : ℤ). HasValueOf c.args.terms.now base c.merge_sorted.new.merged.items) (sym (to_z-of_z number_width c.in_ok-self.field-0 fits)) (HasValueOf-IsPermutation c.args.terms.now c.deref.result.now c.in_ok-self.field-0 c.merge_sorted.new.merged.items same c.in_ok-self.ensures.value)
 
 pub returns-clause-positive : goal.returns-clause-positive
 returns-clause-positive c =
-    let same = sorted_copy c.args.terms.now _ _ _ _ c.clear.ensures.items c.in_ok-extend_from_slice.ensures.items c.sort_unstable_by_key.ensures.permutation c.deref.ensures.value in
+    let same = sorted_copy c.args.terms.now _ _ _ c.in_ok-copy_into.ensures c.sort_unstable_by_key.ensures.permutation c.deref.ensures.value in
     λ n within. c.in_ok-self.ensures.positive n (AllVariablesWithin-IsPermutation n c.args.terms.now c.deref.result.now same within)

@@ -18,8 +18,8 @@ pub returns-in_err-take_rest-clause-refused : goal.returns-in_err-take_rest-clau
 returns-in_err-take_rest-clause-refused c =
     let p = err_from_is_err_and c.from_residual-in_err-take_rest.result c.from_residual-in_err-take_rest.ensures.1 in
     let lines = sym c.new-lines.ensures.content ∙ c.in_ok-head.ensures.some in
-    let vars : c.in-Some.field-0.vars ≤ MAX_VARS = omega (arith, c.from.ensures, c.if-vars-from.false) in
-    let clauses : c.in-Some.field-0.clauses ≤ MAX_CONSTRAINTS = omega (arith, c.if-clauses.false) in
+    let vars : c.in-Some.field-0.vars ≤ MAX_VARS = omega (arith, c.if-vars-gt-MAX_VARS.false) in
+    let clauses : c.in-Some.field-0.clauses ≤ MAX_CONSTRAINTS = omega (arith, c.if-clauses-gt-MAX_CONSTRAINTS.false) in
     let h : Header = record { vars = c.in-Some.field-0.vars; clauses = c.in-Some.field-0.clauses } in
     let header = header_is (header_words (words c.in_ok-head.head.now)) c.in-Some.field-0 (sym c.read_header.ensures ∙ c.in-Some.is) vars clauses in
     let f = c.in_err-take_rest.field-0.0 in
@@ -34,8 +34,8 @@ pub returns-in_err-end-clause-refused : goal.returns-in_err-end-clause-refused
 returns-in_err-end-clause-refused c =
     let p = err_from_is_err_and c.from_residual-in_err-end.result c.from_residual-in_err-end.ensures.1 in
     let lines = sym c.new-lines.ensures.content ∙ c.in_ok-head.ensures.some in
-    let vars : c.in-Some.field-0.vars ≤ MAX_VARS = omega (arith, c.from.ensures, c.if-vars-from.false) in
-    let clauses : c.in-Some.field-0.clauses ≤ MAX_CONSTRAINTS = omega (arith, c.if-clauses.false) in
+    let vars : c.in-Some.field-0.vars ≤ MAX_VARS = omega (arith, c.if-vars-gt-MAX_VARS.false) in
+    let clauses : c.in-Some.field-0.clauses ≤ MAX_CONSTRAINTS = omega (arith, c.if-clauses-gt-MAX_CONSTRAINTS.false) in
     let h : Header = record { vars = c.in-Some.field-0.vars; clauses = c.in-Some.field-0.clauses } in
     let header = header_is (header_words (words c.in_ok-head.head.now)) c.in-Some.field-0 (sym c.read_header.ensures ∙ c.in-Some.is) vars clauses in
     let taken = c.in_ok-take_rest.ensures.ok (Some h.clauses) h.vars [] c.new-reader.ensures in
@@ -50,8 +50,8 @@ returns-in_err-end-clause-only c = λ i text.
 pub returns-then-reader-count-clause-refused : goal.returns-then-reader-count-clause-refused
 returns-then-reader-count-clause-refused c =
     let lines = sym c.new-lines.ensures.content ∙ c.in_ok-head.ensures.some in
-    let vars : c.in-Some.field-0.vars ≤ MAX_VARS = omega (arith, c.from.ensures, c.if-vars-from.false) in
-    let clauses : c.in-Some.field-0.clauses ≤ MAX_CONSTRAINTS = omega (arith, c.if-clauses.false) in
+    let vars : c.in-Some.field-0.vars ≤ MAX_VARS = omega (arith, c.if-vars-gt-MAX_VARS.false) in
+    let clauses : c.in-Some.field-0.clauses ≤ MAX_CONSTRAINTS = omega (arith, c.if-clauses-gt-MAX_CONSTRAINTS.false) in
     let h : Header = record { vars = c.in-Some.field-0.vars; clauses = c.in-Some.field-0.clauses } in
     let header = header_is (header_words (words c.in_ok-head.head.now)) c.in-Some.field-0 (sym c.read_header.ensures ∙ c.in-Some.is) vars clauses in
     let taken = c.in_ok-take_rest.ensures.ok (Some h.clauses) h.vars [] c.new-reader.ensures in
@@ -67,8 +67,8 @@ returns-then-reader-count-clause-only c = λ i text.
 pub unreachable-requires : goal.unreachable-requires
 unreachable-requires c =
     let lines = sym c.new-lines.ensures.content ∙ c.in_ok-head.ensures.some in
-    let vars : c.in-Some.field-0.vars ≤ MAX_VARS = omega (arith, c.from.ensures, c.if-vars-from.false) in
-    let clauses : c.in-Some.field-0.clauses ≤ MAX_CONSTRAINTS = omega (arith, c.if-clauses.false) in
+    let vars : c.in-Some.field-0.vars ≤ MAX_VARS = omega (arith, c.if-vars-gt-MAX_VARS.false) in
+    let clauses : c.in-Some.field-0.clauses ≤ MAX_CONSTRAINTS = omega (arith, c.if-clauses-gt-MAX_CONSTRAINTS.false) in
     let h : Header = record { vars = c.in-Some.field-0.vars; clauses = c.in-Some.field-0.clauses } in
     let header = header_is (header_words (words c.in_ok-head.head.now)) c.in-Some.field-0 (sym c.read_header.ensures ∙ c.in-Some.is) vars clauses in
     let taken = c.in_ok-take_rest.ensures.ok (Some h.clauses) h.vars [] c.new-reader.ensures in
@@ -80,8 +80,8 @@ unreachable-requires c =
 pub returns-clause-found : goal.returns-clause-found
 returns-clause-found c =
     let lines = sym c.new-lines.ensures.content ∙ c.in_ok-head.ensures.some in
-    let vars : c.in-Some.field-0.vars ≤ MAX_VARS = omega (arith, c.from.ensures, c.if-vars-from.false) in
-    let clauses : c.in-Some.field-0.clauses ≤ MAX_CONSTRAINTS = omega (arith, c.if-clauses.false) in
+    let vars : c.in-Some.field-0.vars ≤ MAX_VARS = omega (arith, c.if-vars-gt-MAX_VARS.false) in
+    let clauses : c.in-Some.field-0.clauses ≤ MAX_CONSTRAINTS = omega (arith, c.if-clauses-gt-MAX_CONSTRAINTS.false) in
     let h : Header = record { vars = c.in-Some.field-0.vars; clauses = c.in-Some.field-0.clauses } in
     let header = header_is (header_words (words c.in_ok-head.head.now)) c.in-Some.field-0 (sym c.read_header.ensures ∙ c.in-Some.is) vars clauses in
     let taken = c.in_ok-take_rest.ensures.ok (Some h.clauses) h.vars [] c.new-reader.ensures in

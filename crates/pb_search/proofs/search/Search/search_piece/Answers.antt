@@ -1,36 +1,18 @@
-use Rattle.std.proofs.Common.{◌≡◌, ◌∙◌, List, sym, ap, subst, ◌⊎◌, Some}
+use Rattle.std.proofs.Common.{◌≡◌, ◌⊎◌, ◌∙◌, ap, sym, subst}
 use Rattle.std.specs.Prelude.{IsSomeAnd}
-use Rattle.pb_inst.specs.Literal.{Literal}
-use Rattle.pb_inst.specs.Problem.{Problem}
+use Rattle.pb_inst.specs.Incumbent.{Incumbent}
 use Rattle.pb_cubes.specs.Pieces.{LiesIn}
-use Rattle.pb_search.specs.Done.{Division, IsDone}
+use Rattle.pb_search.specs.Done.{Division}
 use Rattle.pb_search.specs.Budget.{Searcher}
-use Rattle.pb_search.specs.SearchState.{IsStateOf}
-use Rattle.pb_search.proofs.RootLemmas.{cube_done, rest_done, rest_own}
-use Rattle.pb_search.proofs.SearchLemmas.{rest_laid_out}
 use Rattle.pb_search.proofs.search.Search.search_piece.Goals as goal
+use Rattle.pb_search.proofs.search.Search.search_piece.Goals.{in-Narrow, in-Wide}
 
-pub invariant_of-self-in-Rest : goal.invariant_of-self-in-Rest
-invariant_of-self-in-Rest g c =
-    let e : c.args.best.now.problem ≡ c.self.inside.instance.now = c.requires.same_instance ∙ sym (ap (λ (x : Searcher). x.division.problem) c.self.view_is) in
-    rest_laid_out c.self.inside.instance.now c.self.inside.pieces.now c.self.inside.cube c.self.inside.rest c.search_under-in-Rest.new.state c.self.invariant (subst (λ (x : Problem). IsStateOf x c.search_under-in-Rest.new.state) e c.search_under-in-Rest.ensures.made_for) c.search_under-in-Rest.ensures.constraints
-
-pub returns-in-Cube-clause-done : goal.returns-in-Cube-clause-done
-returns-in-Cube-clause-done g c whole =
-    let d : Division = record { problem = c.self.inside.instance.now; cubes = c.self.inside.pieces.now.cubes } in
-    let e : c.args.best.now.problem ≡ d.problem = c.requires.same_instance ∙ sym (ap (λ (x : Searcher). x.division.problem) c.self.view_is) in
-    subst (λ (x : Searcher). IsDone x.division c.args.piece c.search_under.new.best.held) c.self.view_is
-    (cube_done c.args.best.now.problem d c.args.piece c.self.inside.cube.engine c.lits.result.now c.search_under.new.best e c.search_under.ensures.moves_on.same_instance c.self.invariant.cube_state.engine.vars c.self.invariant.cube_rows (c.in-Cube.ensures.piece ∙ ap (λ (x : List Literal). Some x) (sym c.lits.ensures)) c.search_under.ensures.held_sound (c.search_under.ensures.searched whole))
-
-pub returns-in-Rest-clause-done : goal.returns-in-Rest-clause-done
-returns-in-Rest-clause-done g c whole =
-    let d : Division = record { problem = c.self.inside.instance.now; cubes = c.self.inside.pieces.now.cubes } in
-    let e : c.args.best.now.problem ≡ d.problem = c.requires.same_instance ∙ sym (ap (λ (x : Searcher). x.division.problem) c.self.view_is) in
-    subst (λ (x : Searcher). IsDone x.division c.args.piece c.search_under-in-Rest.new.best.held) c.self.view_is
-    (rest_done c.args.best.now.problem d c.args.piece c.self.inside.rest.engine c.search_under-in-Rest.new.best e c.search_under-in-Rest.ensures.moves_on.same_instance c.self.invariant.rest_state.engine.vars c.self.invariant.rest_rows c.in-Rest.ensures.piece.0 c.search_under-in-Rest.ensures.held_sound (c.search_under-in-Rest.ensures.searched whole))
-
-pub returns-in-Rest-clause-own : goal.returns-in-Rest-clause-own
-returns-in-Rest-clause-own g c none =
-    let d : Division = record { problem = c.self.inside.instance.now; cubes = c.self.inside.pieces.now.cubes } in
-    subst (λ (x : Searcher). (c.search_under-in-Rest.new.best ≡ c.args.best.now) ⊎ IsSomeAnd c.search_under-in-Rest.new.best.held (λ s. LiesIn x.division.cubes c.args.piece s.assignment)) c.self.view_is
-    (rest_own d c.args.piece c.self.inside.rest.engine c.args.best.now c.search_under-in-Rest.new.best c.self.invariant.rest_rows c.in-Rest.ensures.piece.0 (c.search_under-in-Rest.ensures.own none))
+pub returns-clause-own : goal.returns-clause-own
+returns-clause-own g c none =
+    let Own : Division → Incumbent → Type 0 = λ d b. (b ≡ c.args.best.now) ⊎ IsSomeAnd b.held (λ s. LiesIn d.cubes c.args.piece s.assignment) in
+    elim c.match-self.branch [
+      | in-Narrow w ↦ let d : w.in-Narrow.search ≡ c.args.self.now.division = cc in
+          subst (λ (b : Incumbent). Own c.args.self.now.division b) (sym w.best-is) (subst (λ (d : Division). Own d w.search.new.best) d (w.search.ensures.own none))
+      | in-Wide w ↦ let d : w.in-Wide.search ≡ c.args.self.now.division = cc in
+          subst (λ (b : Incumbent). Own c.args.self.now.division b) (sym w.best-is) (subst (λ (d : Division). Own d w.search-in-Wide.new.best) d (w.search-in-Wide.ensures.own none))
+    ]

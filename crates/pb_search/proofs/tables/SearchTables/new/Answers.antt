@@ -1,18 +1,9 @@
-use Rattle.std.proofs.Common.{◌∙◌, List, sym, ap, subst}
-use Rattle.pb_inst.specs.Literal.{Literal}
-use Rattle.pb_normal.specs.NormalForm.{NormalForm, KeepsCost, KeepsFeasible}
-use Rattle.pb_engine.specs.Clauses.{AreClausesOf}
+use Rattle.std.proofs.Common.{◌≡◌, sym, subst}
+use Rattle.pb_normal.specs.NormalForm.{NormalForm, KeepsFeasible}
 use Rattle.pb_search.proofs.tables.SearchTables.new.Goals as goal
 
-pub invariant_of-result : goal.invariant_of-result
-invariant_of-result c = record {
-  vars = ap (λ (f : NormalForm). f.vars) c.in_ok-rows.ensures ∙ c.requires.vars;
-  few_variables = c.vars-vars.ensures.proper.variable_count;
-  feasible = subst (λ (f : NormalForm). KeepsFeasible c.args.instance.now f) (sym c.in_ok-rows.ensures) c.requires.feasible;
-  costs = subst (λ (f : NormalForm). KeepsCost c.args.instance.now f) (sym c.in_ok-rows.ensures) c.requires.costs;
-  piece_vars = c.requires.pieces;
-  none_beside = record { variables = c.in_ok-none.ensures.variables; numbers = c.in_ok-none.ensures.first };
-  rest_beside = record { variables = c.in_ok-rest.ensures.variables; numbers = c.in_ok-rest.ensures.first };
-  no_cubes = c.in_ok-none.ensures.negated;
-  all_cubes = subst (λ (x : List (List Literal)). AreClausesOf x c.in_ok-rest.rest.rows) c.cubes.ensures.value c.in_ok-rest.ensures.negated;
-}
+pub new-requires-clause-feasible : goal.new-requires-clause-feasible
+new-requires-clause-feasible c = subst (λ (f : NormalForm). KeepsFeasible c.args.instance.now f) (sym c.in-Narrow.ensures) c.requires.feasible
+
+pub new-requires-in-Wide-clause-feasible : goal.new-requires-in-Wide-clause-feasible
+new-requires-in-Wide-clause-feasible c = subst (λ (f : NormalForm). KeepsFeasible c.args.instance.now f) (sym c.in-Wide.ensures) c.requires.feasible

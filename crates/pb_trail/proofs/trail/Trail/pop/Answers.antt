@@ -4,6 +4,7 @@ use Rattle.pb_inst.specs.Literal.{Literal}
 use Rattle.pb_rows.specs.Constraints.{row_at}
 use Rattle.pb_trail.specs.Tracked.{TrailState, IsUpToDate, IsConsistent}
 use Rattle.pb_normal.specs.Literals.{weight_of, negation}
+use Rattle.pb_normal.proofs.LiteralLemmas.{negation-is}
 use Rattle.pb_trail.specs.Trail.{reachable}
 use Rattle.pb_trail.proofs.TrailLemmas.{reachable-push, reachable-le-total}
 use Rattle.pb_rows.proofs.IndexLemmas.{changed_in_place}
@@ -19,7 +20,7 @@ raise_rows-requires-clause-fits g c = λ r h.
     let whole : inside.lits.items ≡ front ++ lit ∷ [] = c.in-Some.ensures.items in
     let consistent = subst (λ (t : List Literal). IsConsistent t) whole c.self.invariant.consistent in
     let free = last_is_free front lit consistent in
-    let negated : c.negate.result ≡ negation lit = cc in
+    let negated = negation-is lit c.negate.result c.negate.ensures.same_variable c.negate.ensures.other_sign in
     let sums_are = ap (λ (t : TrailState). get_or t.sums r 0) c.self.view_is in
     let sums_count = ap (λ (t : TrailState). length t.sums) c.self.view_is in
     let lits_are : inside.lits.items ≡ c.args.self.now.lits = ap (λ (t : TrailState). t.lits) c.self.view_is in
@@ -54,7 +55,7 @@ returns-in-Some-clause-up_to_date g c =
     let before : length c.deref_mut.result.now ≡ length inside.sums.items = ap (λ (xs : List ℕ). length xs) c.deref_mut.ensures.value in
     let count : length new ≡ length inside.sums.items = omega arith in
     let end : take inside.sums.len (new ++ drop (length new) inside.sums.items) ≡ new = changed_in_place inside.sums.len new inside.sums.items count (omega (arith, inside.sums.ok.0)) in
-    let negated : c.negate.result ≡ negation lit = cc in
+    let negated = negation-is lit c.negate.result c.negate.ensures.same_variable c.negate.ensures.other_sign in
     let raised : (r : ℕ) → r < length old.sums → get_or new r 0 ≡ get_or old.sums r 0 + weight_of (negation lit) (row_at rows r).terms = λ r h.
     (let sums_are = ap (λ (t : TrailState). get_or t.sums r 0) c.self.view_is in
     let weight = ap (λ (l : Literal). weight_of l (row_at rows r).terms) negated in

@@ -1,0 +1,126 @@
+//! The normal form of an instance, at the width that its sums need.
+
+ghost use Rattle.std.specs.Prelude.{◌≡◌, length, IfOk};
+ghost use Rattle.pb_normal.specs.Exact.{IsNormalFormOf};
+ghost use Rattle.pb_normal.specs.NormalForm.{KeepsFeasible, KeepsCost, IsNormal};
+ghost use Rattle.pb_normal.specs.Widths.{lent};
+
+use crate::forms::{Form, form_of};
+use crate::unbuilt::Unbuilt;
+use pb_inst::{Instance, Memory, Number};
+use std::alloc::{AllocError, Global};
+use std::marker::Model;
+
+/// What is kept at one of two widths.
+#[derive(Debug, Drop)]
+pub enum EitherWidth<N, W> {
+    /// It counts in 64 bits.
+    Narrow(N),
+    /// It counts in 128 bits.
+    Wide(W),
+}
+
+/// The normal form of an instance: rows of positive terms, and the cost as a base and positive terms. It is kept in numbers
+/// of 64 bits where the sums of its rows and of its objective are below 2^63, else in numbers of 128. Contracts see a
+/// `NormalForm`.
+#[derive(Debug)]
+pub struct Normal {
+    form: EitherWidth<Form, Form<u128>>,
+}
+
+impl Model for Normal {
+    ghost use Rattle.pb_normal.specs.NormalForm.{NormalForm};
+    ghost use Rattle.pb_normal.specs.Widths.{either};
+
+    ghost Value = { NormalForm };
+
+    ghost view = { λ n. either n.form };
+}
+
+// By hand, so that who lets it go calls this, and does not tell the two widths apart.
+impl Drop for Normal {
+    fn drop(self) {
+        let Normal { form: _ } = self;
+    }
+}
+
+impl Normal {
+    /// The form at its width.
+    pub fn form(&self) -> EitherWidth<&Form, &Form<u128>>
+        ensures { lent result ≡ self.now }
+    {
+        match &self.form {
+            EitherWidth::Narrow(form) => EitherWidth::Narrow(form),
+            EitherWidth::Wide(form) => EitherWidth::Wide(form),
+        }
+    }
+
+    /// The number of variables: they are 1 to `vars`, as in the instance.
+    pub fn vars(&self) -> u32
+        ensures value { result ≡ self.now.vars }
+        ensures normal { IsNormal self.now }
+    {
+        match &self.form {
+            EitherWidth::Narrow(form) => form.vars(),
+            EitherWidth::Wide(form) => form.vars(),
+        }
+    }
+
+    /// The number of rows, at most two for each constraint, so at most `2 * MAX_CONSTRAINTS`.
+    pub fn len(&self) -> usize
+        ensures value { result ≡ length self.now.rows }
+        ensures normal { IsNormal self.now }
+    {
+        match &self.form {
+            EitherWidth::Narrow(form) => form.len(),
+            EitherWidth::Wide(form) => form.len(),
+        }
+    }
+
+    /// The cost where no literal of the objective is true. Without regard to the constraints it is the least cost.
+    pub fn base(&self) -> Number
+        ensures value { result ≡ self.now.base }
+        ensures normal { IsNormal self.now }
+    {
+        match &self.form {
+            EitherWidth::Narrow(form) => form.base(),
+            EitherWidth::Wide(form) => form.base(),
+        }
+    }
+}
+
+/// The normal form of the instance. The rows stand in the order of their constraints, an equality's `>=` before its `<=`;
+/// a constraint that always holds has no row. Takes time in proportion to the terms, but for sorting those of a constraint.
+/// `Memory` says that a growth of memory was refused.
+pub fn normalise(alloc: Global, instance: &Instance) -> Result<Normal, Memory>
+    ensures exact { IfOk result (λ form. IsNormalFormOf instance.now form) }
+    ensures variables { IfOk result (λ form. form.vars ≡ instance.now.vars) }
+    ensures feasible { IfOk result (λ form. KeepsFeasible instance.now form) }
+    ensures cost { IfOk result (λ form. KeepsCost instance.now form) }
+    ensures normal { IfOk result (λ form. IsNormal form) }
+{
+    match form_of(alloc, instance) {
+        Ok(form) => Ok(Normal {
+            form: EitherWidth::Narrow(form),
+        }),
+        Err(Unbuilt::Memory) => Err(AllocError),
+        Err(Unbuilt::TooWide) => wide(alloc, instance),
+    }
+}
+
+/// The same in numbers of 128 bits, below whose limit all sums are.
+fn wide(alloc: Global, instance: &Instance) -> Result<Normal, Memory>
+    ensures exact { IfOk result (λ form. IsNormalFormOf instance.now form) }
+    ensures variables { IfOk result (λ form. form.vars ≡ instance.now.vars) }
+    ensures feasible { IfOk result (λ form. KeepsFeasible instance.now form) }
+    ensures cost { IfOk result (λ form. KeepsCost instance.now form) }
+    ensures normal { IfOk result (λ form. IsNormal form) }
+{
+    match form_of(alloc, instance) {
+        Ok(form) => Ok(Normal {
+            form: EitherWidth::Wide(form),
+        }),
+        Err(Unbuilt::Memory) => Err(AllocError),
+        Err(Unbuilt::TooWide) => unreachable!(),
+    }
+}

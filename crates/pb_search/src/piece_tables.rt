@@ -1,0 +1,101 @@
+//! Tables that count in numbers of one width.
+
+ghost use Rattle.std.specs.Prelude.{◌≡◌, IfOk};
+ghost use Rattle.pb_normal.specs.NormalForm.{KeepsCost, KeepsFeasible};
+ghost use Rattle.pb_search.specs.Layout.{IsLaidOut, pieces_of};
+
+use crate::search_state::SearchState;
+use pb_cubes::Pieces;
+use pb_engine::{Clauses, Count, Rows, clause_laws};
+use pb_inst::{Instance, Memory};
+use pb_normal::Form;
+use std::alloc::Global;
+use std::marker::Model;
+
+/// The rows of an instance's normal form and the clauses of its remainder, with where each literal occurs. They count in
+/// numbers of type `C`.
+pub struct PieceTables<'a, C: Count> {
+    instance: &'a Instance,
+    pieces: &'a Pieces,
+    rows: Rows<'a, C>,
+    none: Clauses,
+    rest: Clauses,
+}
+
+impl<'a, C: Count> Model for PieceTables<'a, C> {
+    ghost use Rattle.pb_search.specs.Done.{Division};
+
+    ghost Value = { Division };
+
+    ghost use Rattle.pb_search.specs.Layout.{AreTables};
+
+    ghost view = { λ t. record { problem = t.instance.now; cubes = t.pieces.now.cubes } };
+
+    ghost invariant = { λ t. AreTables t.instance.now t.pieces.now t.rows t.none t.rest };
+}
+
+// By hand, so that letting go of tables is a call wherever it is done, and their parts are written out here alone.
+impl<'a, C: Count> Drop for PieceTables<'a, C> {
+    fn drop(self) {
+        let PieceTables {
+            instance: _,
+            pieces: _,
+            rows: _,
+            none: _,
+            rest: _,
+        } = self;
+    }
+}
+
+impl<'a, C: Count> PieceTables<'a, C> {
+    /// Builds the tables over a normal form of the instance. Fails where memory is refused.
+    pub fn new(
+        alloc: Global,
+        instance: &'a Instance,
+        form: &'a Form<C>,
+        pieces: &'a Pieces,
+    ) -> Result<PieceTables<'a, C>, Memory>
+        requires vars { form.now.vars ≡ instance.now.vars }
+        requires feasible { KeepsFeasible instance.now form.now }
+        requires costs { KeepsCost instance.now form.now }
+        requires pieces { pieces.now.vars ≡ instance.now.vars }
+        ensures { IfOk result (λ t. t ≡ record { problem = instance.now; cubes = pieces.now.cubes }) }
+    {
+        let _vars = instance.vars();
+        let rows = Rows::new(alloc, form)?;
+        let none = Clauses::new(alloc, &rows, &[])?;
+        let rest = Clauses::new(alloc, &rows, pieces.cubes())?;
+        Ok(PieceTables {
+            instance,
+            pieces,
+            rows,
+            none,
+            rest,
+        })
+    }
+
+    pub fn instance(&self) -> &'a Instance
+        ensures { result.now ≡ self.now.problem }
+    {
+        self.instance
+    }
+
+    pub fn pieces(&self) -> &'a Pieces
+        ensures { result.now ≡ pieces_of self.now.problem self.now.cubes }
+    {
+        self.pieces
+    }
+
+    /// A state for the searches of cubes, and one for that of the remainder.
+    pub fn states(
+        &'a self,
+        alloc: Global,
+    ) -> Result<(SearchState<'a, C>, SearchState<'a, C>), Memory>
+        ensures { IfOk result (λ t. IsLaidOut self.now.problem (pieces_of self.now.problem self.now.cubes) t.0 t.1) }
+    {
+        clause_laws();
+        let cube = SearchState::over(alloc, &self.rows, &self.none, &[])?;
+        let rest = SearchState::over(alloc, &self.rows, &self.rest, self.pieces.cubes())?;
+        Ok((cube, rest))
+    }
+}
