@@ -5,7 +5,7 @@ assignments.
     tests/budgets.py [PROGRAM ..]
 
 Without a word it takes the programs that the merge gate built. Each instance is run without a budget, with each budget from 0
-to 20, and with some of them in pieces and with two workers. `s OPTIMUM FOUND` and `s UNSATISFIABLE` must be the whole answer;
+to 20, and with some of them in pieces and with two workers. The numbers of some are too great for 64 bits. `s OPTIMUM FOUND` and `s UNSATISFIABLE` must be the whole answer;
 with `s SATISFIABLE` the values must be feasible and the `o` line their cost; `s UNKNOWN` stands alone. With one worker a greater
 budget never does worse, and once it is enough it stays so.
 """
@@ -22,6 +22,7 @@ sys.dont_write_bytecode = True
 from examples import STATUSES, TOP, built
 
 INSTANCES = 300
+SCALE = 1 << 70  # the numbers of every third instance are multiplied by it, so that 64 bits do not hold its sums
 BUDGETS = range(21)
 AMPLE = 1000  # more than any of these instances needs
 HOLDS = {">=": lambda sum, bound: sum >= bound, "<=": lambda sum, bound: sum <= bound, "=": lambda sum, bound: sum == bound}
@@ -50,6 +51,16 @@ class Instance:
             lines.append(f"min: {written(self.objective)};\n")
         lines += [f"{written(terms)}{relation} {bound} ;\n" for terms, relation, bound in self.constraints]
         return "".join(lines)
+
+    def times(self, scale):
+        """The same with each coefficient and each bound multiplied."""
+
+        def scaled(terms):
+            return tuple((scale * coefficient, literal) for coefficient, literal in terms)
+
+        objective = None if self.objective is None else scaled(self.objective)
+        constraints = tuple((scaled(terms), relation, scale * bound) for terms, relation, bound in self.constraints)
+        return Instance(self.variables, objective, constraints, False)
 
     def cost(self, values):
         return value(self.objective or (), values)
@@ -83,7 +94,7 @@ def value(terms, values):
 def instances():
     """The same ones in each run."""
     random.seed(19)
-    for _ in range(INSTANCES):
+    for number in range(INSTANCES):
         variables = random.randint(2, 7)
         is_cnf = random.random() < 0.3
 
@@ -103,7 +114,8 @@ def instances():
             slack = {">=": -1, "<=": 1, "=": 0}[relation] * random.randint(0, 2)
             astray = random.choice((-2, 2)) if random.random() < 0.05 else 0
             constraints.append((terms, relation, value(terms, meant) + slack + astray))
-        yield Instance(variables, objective, tuple(constraints), False)
+        instance = Instance(variables, objective, tuple(constraints), False)
+        yield instance.times(SCALE) if number % 3 == 0 else instance
 
 
 def found(instance, report):

@@ -28,6 +28,8 @@ TIE = "* #variable= 3 #constraint= 2\nmin: 2 x1 3 x2 1 x3 ;\n1 x1 1 x2 >= 1 ;\n1
 FILES = {
     "tie.opb": TIE,
     "negative.opb": "min: -2 x1 -2 x2 ;\n1 x1 1 x2 <= 1 ;\n",
+    # 64 bits do not hold its sums
+    "wide.opb": "min: 36893488147419103232 x1 55340232221128654848 x2 18446744073709551616 x3 ;\n1 x1 1 x2 >= 1 ;\n1 x2 1 x3 >= 1 ;\n",
     "contradiction.opb": "1 x1 >= 1 ;\n1 x1 = 0 ;\n",
     "product.opb": "1 x1 x2 >= 1 ;\n",
     "clauses.cnf": "p cnf 2 2\n1 2 0\n-1 2 0\n",
@@ -71,6 +73,7 @@ UNSUPPORTED = "s UNSUPPORTED\n"
 CASES = [
     solved("tie.opb", TIE_REPORT, 30),
     solved("negative.opb", "o -2\ns OPTIMUM FOUND\nv -x1 x2\n", 30),
+    solved("wide.opb", "o 55340232221128654848\ns OPTIMUM FOUND\nv -x1 x2 -x3\n", 30),
     solved("contradiction.opb", "s UNSATISFIABLE\n", 20),
     solved("--format cnf clauses.cnf", "s SATISFIABLE\nv -1 2 0\n", 10),
     solved("--format icnf cube.icnf", "s SATISFIABLE\nv -1 2 0\n", 10),
