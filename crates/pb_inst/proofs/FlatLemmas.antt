@@ -1,5 +1,5 @@
 -- Terms kept as their coefficients and their literals: what a step on both arrays is to the list of terms.
-use Rattle.std.proofs.Common.{◌≡◌, ℕ, zero, suc, ◌-◌, ◌<◌, List, [], ◌∷◌, ◌++◌, length, get_or, map, take, drop, refl, sym, ◌∙◌, ap, arith, ℤ, pos, Some, slice_get, slice_range}
+use Rattle.std.proofs.Common.{◌≡◌, ℕ, zero, suc, ◌-◌, ◌<◌, List, [], ◌∷◌, ◌++◌, length, get_or, map, replicate, take, drop, refl, sym, ◌∙◌, ap, arith, ℤ, pos, Some, slice_get, slice_range}
 use Rattle.pb_inst.specs.declared.constraints.Term.{Term}
 use Rattle.pb_inst.specs.Literal.{Literal}
 use Rattle.pb_inst.specs.Constraints.{unit_term}
@@ -40,7 +40,7 @@ unfolding terms_of
 terms_of-fields [] = refl
 terms_of-fields (t ∷ terms) = ap (λ (ts : List Term). t ∷ ts) (terms_of-fields terms)
 
-terms_of-units : (lits : List Literal) → terms_of (map (λ (_ : Literal). pos 1) lits) lits ≡ map unit_term lits
+terms_of-units : (lits : List Literal) → terms_of (replicate (length lits) (pos 1)) lits ≡ map unit_term lits
 unfolding terms_of
 terms_of-units [] = refl
 terms_of-units (l ∷ lits) = ap (λ (ts : List Term). unit_term l ∷ ts) (terms_of-units lits)
@@ -73,7 +73,7 @@ part_is coefs lits terms a b some_coefs some_lits view coefs_are lits_are =
     let both : terms_of some_coefs some_lits ≡ terms_of (slice_range coefs a b) (slice_range lits a b) = cc in
     both ∙ (taken ∙ (dropped ∙ seen))
 
--- both arrays with terms, or with literals once each, added at the end
+-- both lists with terms, or with literals once each, added at the end
 pub added_terms : (coefs new_coefs : List ℤ) (lits new_lits : List Literal) (terms more : List Term) → terms_of coefs lits ≡ terms → length coefs ≡ length lits → new_coefs ≡ coefs ++ map (λ (t : Term). t.coef) more → new_lits ≡ lits ++ map (λ (t : Term). t.lit) more → terms_of new_coefs new_lits ≡ terms ++ more
 added_terms coefs new_coefs lits new_lits terms more view same coefs_are lits_are =
     let both : terms_of new_coefs new_lits ≡ terms_of (coefs ++ map (λ (t : Term). t.coef) more) (lits ++ map (λ (t : Term). t.lit) more) = cc in
@@ -82,12 +82,12 @@ added_terms coefs new_coefs lits new_lits terms more view same coefs_are lits_ar
     let seen : terms_of coefs lits ++ terms_of (map (λ (t : Term). t.coef) more) (map (λ (t : Term). t.lit) more) ≡ terms ++ more = cc in
     both ∙ (added ∙ seen)
 
-pub added_units : (coefs new_coefs : List ℤ) (lits new_lits : List Literal) (terms : List Term) (more : List Literal) → terms_of coefs lits ≡ terms → length coefs ≡ length lits → new_coefs ≡ coefs ++ map (λ (_ : Literal). pos 1) more → new_lits ≡ lits ++ more → terms_of new_coefs new_lits ≡ terms ++ map unit_term more
+pub added_units : (coefs new_coefs : List ℤ) (lits new_lits : List Literal) (terms : List Term) (more : List Literal) → terms_of coefs lits ≡ terms → length coefs ≡ length lits → new_coefs ≡ coefs ++ replicate (length more) (pos 1) → new_lits ≡ lits ++ more → terms_of new_coefs new_lits ≡ terms ++ map unit_term more
 added_units coefs new_coefs lits new_lits terms more view same coefs_are lits_are =
-    let both : terms_of new_coefs new_lits ≡ terms_of (coefs ++ map (λ (_ : Literal). pos 1) more) (lits ++ more) = cc in
-    let added = terms_of-append coefs (map (λ (_ : Literal). pos 1) more) lits more same in
+    let both : terms_of new_coefs new_lits ≡ terms_of (coefs ++ replicate (length more) (pos 1)) (lits ++ more) = cc in
+    let added = terms_of-append coefs (replicate (length more) (pos 1)) lits more same in
     let units = terms_of-units more in
-    let seen : terms_of coefs lits ++ terms_of (map (λ (_ : Literal). pos 1) more) more ≡ terms ++ map unit_term more = cc in
+    let seen : terms_of coefs lits ++ terms_of (replicate (length more) (pos 1)) more ≡ terms ++ map unit_term more = cc in
     both ∙ (added ∙ seen)
 
 -- no coefficients and no literals

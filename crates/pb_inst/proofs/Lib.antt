@@ -1,4 +1,5 @@
 pub mod FlatLemmas
+pub mod NumberLemmas
 pub mod NumberWidth
 pub mod Packed
 pub mod Parts

@@ -10,6 +10,7 @@ mod flat_terms;
 mod incumbents;
 mod instances;
 mod literals;
+mod numbers;
 mod order;
 mod sums;
 

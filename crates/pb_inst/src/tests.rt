@@ -194,6 +194,36 @@ fn sums_reach_both_ends(rt: HostRuntime) {
     assert_eq!(rt; instance.check(&a), Some(MOST));
 }
 
+/// Constraints over x1 and x2: with the ends of 64 bits as coefficients, with the number after them, with small ones, and a
+/// clause.
+fn of_both_widths(rt: &impl Abort, alloc: Global) -> Instance {
+    let end = Number::from(i64::MAX);
+    let pairs = [[end, -end - 1], [end + 1, 7], [2, 3]];
+    let mut builder = InstanceBuilder::new(alloc);
+    for [first, second] in pairs {
+        let terms = [term(rt, first, 1), term(rt, second, 2)];
+        add(rt, &mut builder, &terms, Relation::AtLeast, 0);
+    }
+    add_clause(rt, &mut builder, &[lit(rt, 2, false)]);
+    finish(rt, builder, 2)
+}
+
+#[test]
+fn coefficients_of_both_widths_are_kept(rt: HostRuntime) {
+    let instance = of_both_widths(&rt, rt.alloc());
+    let end = Number::from(i64::MAX);
+    let expected = [end, -end - 1, end + 1, 7, 2, 3, 1];
+    let mut left = expected.iter();
+    let mut list = Vec::new(rt.alloc());
+    for i in 0..instance.len() {
+        copy_into(&rt, &instance.constraint(i).terms, &mut list);
+        for term in &list {
+            assert_eq!(rt; left.next(), Some(&term.coef));
+        }
+    }
+    assert!(rt; left.next().is_none());
+}
+
 #[test]
 fn costs_reach_both_ends(rt: HostRuntime) {
     let alloc = rt.alloc();

@@ -4,6 +4,6 @@ use Rattle.pb_inst.proofs.flat_terms.TermList.len.Goals as goal
 
 pub returns : goal.returns
 returns c =
-    let count = count_is c.self.inside.coefs.items c.self.inside.lits.items _ c.self.view_is c.self.invariant in
+    let count = count_is c.self.inside.coefs c.self.inside.lits.items _ c.self.view_is c.self.invariant in
     let same = c.self.invariant in
     omega arith
