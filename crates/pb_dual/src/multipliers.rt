@@ -163,14 +163,22 @@ impl<'a, C: Count> Multipliers<'a, C> {
         self.value(lit).is_none()
     }
 
+    /// The reduced costs of the literal and of its negation.
+    pub fn costs(&self, lit: Lit) -> (Tally<C>, Tally<C>)
+        requires { lit.var ≤ self.now.form.vars }
+    {
+        (
+            self.costs[place_of(lit)],
+            self.costs[place_of(lit.negate())],
+        )
+    }
+
     /// By how much the reduced cost of the literal is over that of its negation.
     pub fn difference(&self, lit: Lit) -> Signed<C>
         requires { lit.var ≤ self.now.form.vars }
     {
-        Signed::difference(
-            self.costs[place_of(lit)],
-            self.costs[place_of(lit.negate())],
-        )
+        let (cost, other) = self.costs(lit);
+        Signed::difference(cost, other)
     }
 
     /// The number of literals on the trail.
@@ -238,15 +246,11 @@ impl<'a, C: Count> Multipliers<'a, C> {
     fn proposed_literal(&self, from: u32, limit: Number) -> Option<Lit> {
         let gap = self.gap(limit);
         let end = from.saturating_add(FIXING_WINDOW).min(self.form.vars());
-        for place in from..end {
-            let lit = Lit::new(place + 1, true).ok()?;
-            let difference = self.difference(lit);
-            if gap.is_below(difference.magnitude()) && self.is_free(lit) {
-                return Some(if difference.is_negative() {
-                    lit
-                } else {
-                    lit.negate()
-                });
+        for place in from as usize..end as usize {
+            // The two costs of a variable stand side by side.
+            let (negation, literal) = (self.costs[2 * place], self.costs[2 * place + 1]);
+            if gap.is_below(apart(literal, negation)) && self.values[place].is_none() {
+                return Lit::new(place as u32 + 1, literal.is_below(negation)).ok();
             }
         }
         None
@@ -442,6 +446,16 @@ const SCALED_PART: u64 = 1_024;
 
 /// Which part of the origin, 1 in so many, is the greatest scale: 65,536 where the origin is 2^62.
 const SCALE_PART: u64 = 70_368_744_177_664;
+
+/// How far the two are apart.
+#[inline]
+fn apart<C: Count>(first: Tally<C>, second: Tally<C>) -> Tally<C> {
+    if first.is_below(second) {
+        second - first
+    } else {
+        first - second
+    }
+}
 
 /// Whether costs of this sum can be left as they are, or scaled up.
 fn has_scale<C: Count>(total: Tally<C>) -> bool

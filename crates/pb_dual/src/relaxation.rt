@@ -360,8 +360,12 @@ impl<'a, C: Count> Relaxation<'a, C> {
         let little = self.multipliers.scale() / Tally::of(SMALL_PART);
         let terms = self.multipliers.form().terms(row);
         self.work = self.work.saturating_add(terms.len());
+        let size = amount.magnitude();
+        if size.is_zero() {
+            return;
+        }
         for term in terms {
-            let changed = amount.magnitude().saturating_mul(term.coef());
+            let changed = size.saturating_mul(term.coef());
             if little.is_below(changed) && self.multipliers.is_free(term.lit()) {
                 self.touch(tables, term.lit());
             }
@@ -605,13 +609,14 @@ fn row_amount<C: Count>(
             Some(true) => need = need.minus(Signed::of(coef)),
             Some(false) => {}
             None => {
-                // What the literal costs where this row takes nothing off it.
-                let given = Signed::of(multiplier.saturating_mul(coef));
-                let alone = multipliers.difference(term.lit()).plus(given);
-                if alone.is_positive() {
-                    note(breakpoints, alone.magnitude(), coef);
-                } else {
+                // What the literal costs, over its negation, where this row takes nothing off it.
+                let given = multiplier.saturating_mul(coef);
+                let (cost, other) = multipliers.costs(term.lit());
+                let alone = cost.saturating_add(given).above(other);
+                if alone.is_zero() {
                     need = need.minus(Signed::of(coef));
+                } else {
+                    note(breakpoints, alone, coef);
                 }
             }
         }
