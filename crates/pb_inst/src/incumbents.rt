@@ -2,7 +2,7 @@
 
 ghost use Rattle.std.specs.Prelude.{◌≡◌, ◌↔◌, None, Some, length, IsTrue, IfOk, IfSome, if◌then◌else◌};
 ghost use Rattle.std.specs.Option.{option_copied, option_map};
-ghost use Rattle.pb_inst.specs.Incumbent.{IsSound, Improves, solution_of};
+ghost use Rattle.pb_inst.specs.Incumbent.{HasLeadingZeros, IsSound, Improves, solution_of};
 ghost use Rattle.pb_inst.specs.Meaning.{IsFeasible};
 
 use crate::{Assignment, Instance, Memory, Number, precedes};
@@ -15,6 +15,8 @@ pub struct Best<'i> {
     instance: &'i Instance,
     cost: Option<Number>,
     assignment: Assignment,
+    /// How many first variables the assignment makes false, counted once for all that compare with it.
+    leading_zeros: u32,
 }
 
 impl<'i> Model for Best<'i> {
@@ -24,11 +26,11 @@ impl<'i> Model for Best<'i> {
 
     ghost use Rattle.std.specs.Prelude.{◌≡◌, length};
     ghost use Rattle.std.specs.Option.{option_map};
-    ghost use Rattle.pb_inst.specs.Incumbent.{IsSound};
+    ghost use Rattle.pb_inst.specs.Incumbent.{HasLeadingZeros, IsSound};
 
     ghost view = { λ b. record { problem = b.instance.now; held = option_map (λ c. record { cost = c; assignment = b.assignment }) b.cost } };
 
-    ghost invariant = { λ b. (length b.assignment ≡ b.instance.now.vars) × IsSound (record { problem = b.instance.now; held = option_map (λ c. record { cost = c; assignment = b.assignment }) b.cost }) };
+    ghost invariant = { λ b. (length b.assignment ≡ b.instance.now.vars) × IsSound (record { problem = b.instance.now; held = option_map (λ c. record { cost = c; assignment = b.assignment }) b.cost }) × HasLeadingZeros b.assignment b.leading_zeros };
 }
 
 impl<'i> Best<'i> {
@@ -41,6 +43,7 @@ impl<'i> Best<'i> {
             instance,
             cost: None,
             assignment,
+            leading_zeros: instance.vars(),
         })
     }
 
@@ -63,6 +66,13 @@ impl<'i> Best<'i> {
         }
     }
 
+    /// How many variables come before the first one that the assignment held makes true, all where it makes none true.
+    pub fn leading_zeros(&self) -> u32
+        ensures { IfSome self.now.held (λ s. HasLeadingZeros s.assignment result) }
+    {
+        self.leading_zeros
+    }
+
     /// Where the assignment, to as many variables as the instance's, is feasible and before what is held, or nothing is
     /// held, copies it in and answers true; else changes nothing and answers false. Takes no memory.
     pub fn take(&mut self, assignment: &Assignment) -> bool
@@ -82,7 +92,20 @@ impl<'i> Best<'i> {
             return false;
         }
         self.assignment.copy_from(assignment);
+        self.leading_zeros = leading_zeros(assignment);
         self.cost = Some(cost);
         true
     }
+}
+
+/// How many variables come before the first one that the assignment makes true, all where it makes none true.
+fn leading_zeros(assignment: &Assignment) -> u32
+    ensures { HasLeadingZeros assignment.now result }
+{
+    for place in 0..assignment.len() {
+        if assignment.get(place + 1) {
+            return place;
+        }
+    }
+    assignment.len()
 }

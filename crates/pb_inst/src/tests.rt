@@ -143,7 +143,9 @@ fn checks_and_takes(rt: HostRuntime) {
     let mut best = nothing_yet(&rt, alloc, &instance);
     assert!(rt; best.assignment().is_none());
     assert!(rt; best.take(&later));
+    assert_eq!(rt; best.leading_zeros(), 0);
     assert!(rt; best.take(&first));
+    assert_eq!(rt; best.leading_zeros(), 1);
     assert!(rt; !best.take(&later));
     assert!(rt; !best.take(&none));
     assert_eq!(rt; best.cost(), Some(3));
