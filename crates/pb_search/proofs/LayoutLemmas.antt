@@ -1,6 +1,6 @@
 -- How a search is laid out when it is made.
 use Rattle.std.proofs.Common.{◌≡◌, ℕ, ◌≤◌, List, [], ◌++◌, length, get_or, sym, ◌∙◌, subst, Bool, All}
-use Rattle.std.specs.Prelude.{◌↔◌, vec_capacity}
+use Rattle.std.specs.Prelude.{◌↔◌, Option, IfNone, IfSome, vec_capacity}
 use Rattle.std.proofs.lemmas.List.Elements.{All-nil, All-append, All-contains, All-contains_itself, Contains-append_left, Contains-append_right}
 use Rattle.pb_inst.specs.Literal.{Literal}
 use Rattle.pb_inst.specs.Problem.{Problem}
@@ -13,12 +13,8 @@ use Rattle.pb_engine.specs.EngineState.{EngineState}
 use Rattle.pb_engine.specs.Laws.{ClausesSayCubesAreFalse}
 use Rattle.pb_cubes.specs.Pieces.{CubeList}
 use Rattle.pb_search.specs.declared.search_state.SearchState.{SearchState}
-use Rattle.pb_search.specs.Layout.{IsLaidOut}
+use Rattle.pb_search.specs.Layout.{HasRowsOf, IsCubeState, IsLaidOut, IsMade}
 use Rattle.pb_search.specs.SearchState.{IsStateOf}
-
--- the rows are those of the form and the clauses of the cubes
-abbrev pub HasRowsOf : NormalForm → List (List Literal) → EngineState → Type 0
-HasRowsOf f cubes s = (clauses : List PositiveRow) × (s.rows ≡ f.rows ++ clauses) × AreClausesOf cubes clauses
 
 -- what holds of two lists together holds of each
 all_left : (P : PositiveRow → Type 0) (xs ys : List PositiveRow) → All P (xs ++ ys) → All P xs
@@ -34,14 +30,6 @@ rows_mean p f cubes s law feasible (clauses, rows, are) a = (
   (λ h. subst (λ (x : List PositiveRow). MeetsRows a x) (sym rows) (All-append (MeetsRow a) f.rows clauses ((feasible a).1 h.0) ((law a cubes clauses are).1 h.1))),
 )
 
--- what a state has that was made over the form, to make the cubes false
-pub record IsMade {C : Type 0} (f : NormalForm) (cubes : List (List Literal)) (t : SearchState C) : Type 0 where
-  pub form : t.engine.form ≡ f
-  pub vars : t.engine.vars ≡ f.vars
-  pub rows : HasRowsOf f cubes t.engine
-  pub candidate : length t.candidate ≡ f.vars
-  pub room : f.vars ≤ vec_capacity t.branches
-
 made_state : {C : Type 0} (p : Problem) (f : NormalForm) (cubes : List (List Literal)) (t : SearchState C) → ClausesSayCubesAreFalse → f.vars ≡ p.vars → KeepsFeasible p f → KeepsCost p f → p.vars ≤ MAX_VARS → IsMade f cubes t → IsStateOf p t
 made_state p f cubes t law vars feasible costs few made = record {
   engine = record {
@@ -54,11 +42,17 @@ made_state p f cubes t law vars feasible costs few made = record {
   room = subst (λ (n : ℕ). n ≤ vec_capacity t.branches) vars made.room;
 }
 
-pub laid_out : {C : Type 0} (p : Problem) (f : NormalForm) (pieces : CubeList) (cube rest : SearchState C) → ClausesSayCubesAreFalse → f.vars ≡ p.vars → KeepsFeasible p f → KeepsCost p f → p.vars ≤ MAX_VARS → pieces.vars ≡ p.vars → IsMade f [] cube → IsMade f pieces.cubes rest → IsLaidOut p pieces cube rest
-laid_out p f pieces cube rest law vars feasible costs few same none all = record {
+pub made_cube_state : {C : Type 0} (p : Problem) (f : NormalForm) (t : SearchState C) → ClausesSayCubesAreFalse → f.vars ≡ p.vars → KeepsFeasible p f → KeepsCost p f → p.vars ≤ MAX_VARS → IsMade f [] t → IsCubeState p t
+made_cube_state p f t law vars feasible costs few made = record {
+  state = made_state p f [] t law vars feasible costs few made;
+  rows = λ a h. (rows_mean p f [] t.engine law feasible made.rows a).1 (h, All-nil (λ (c : List Literal). MakesFalse a c));
+}
+
+pub laid_out : {C : Type 0} (p : Problem) (f : NormalForm) (pieces : CubeList) (cube : Option (SearchState C)) (rest : SearchState C) → ClausesSayCubesAreFalse → f.vars ≡ p.vars → KeepsFeasible p f → KeepsCost p f → p.vars ≤ MAX_VARS → pieces.vars ≡ p.vars → IfNone cube (pieces.cubes ≡ []) → IfSome cube (IsCubeState p) → IsMade f pieces.cubes rest → IsLaidOut p pieces cube rest
+laid_out p f pieces cube rest law vars feasible costs few same none some all = record {
   vars = same;
-  cube_state = made_state p f [] cube law vars feasible costs few none;
+  no_cubes = none;
+  cube_state = some;
   rest_state = made_state p f pieces.cubes rest law vars feasible costs few all;
-  cube_rows = λ a h. (rows_mean p f [] cube.engine law feasible none.rows a).1 (h, All-nil (λ (c : List Literal). MakesFalse a c));
   rest_rows = rows_mean p f pieces.cubes rest.engine law feasible all.rows;
 }

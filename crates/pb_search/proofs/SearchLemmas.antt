@@ -226,12 +226,12 @@ if_none_map None P Q f h = f h
 if_none_map (Some b) P Q f h = h
 
 -- a search is laid out as before where the state of the remainder has the same constraints
-pub rest_laid_out : {C : Type 0} (p : Problem) (pieces : CubeList) (cube rest new : SearchState C) → IsLaidOut p pieces cube rest → IsStateOf p new → SameConstraints rest.engine new.engine → IsLaidOut p pieces cube new
+pub rest_laid_out : {C : Type 0} (p : Problem) (pieces : CubeList) (cube : Option (SearchState C)) (rest new : SearchState C) → IsLaidOut p pieces cube rest → IsStateOf p new → SameConstraints rest.engine new.engine → IsLaidOut p pieces cube new
 rest_laid_out p pieces cube rest new h made same = record {
   vars = h.vars;
+  no_cubes = h.no_cubes;
   cube_state = h.cube_state;
   rest_state = made;
-  cube_rows = h.cube_rows;
   rest_rows = subst (λ (rows : List PositiveRow). (a : List Bool) → MeetsRows a rows ↔ (IsFeasible p a × All (λ c. MakesFalse a c) pieces.cubes)) (sym same.rows) h.rest_rows;
 }
 

@@ -24,32 +24,33 @@ pub struct AgreedPrefix {
 }
 
 impl AgreedPrefix {
-    /// Nothing is known.
-    pub fn none() -> AgreedPrefix
-        ensures { (trail : List Literal) → (held : Option Solution) → KnowsHeldPrefix trail held result }
+    /// What is known of every trail: none lacks a 1 before the first one of the best assignment. So no search of a piece
+    /// looks at the variables before it.
+    pub fn of(best: &Best<'_>) -> AgreedPrefix
+        ensures { (trail : List Literal) → KnowsHeldPrefix trail best.now.held result }
     {
         AgreedPrefix {
             seen: 0,
-            count: 0,
+            count: best.leading_zeros(),
             surplus: 0,
             borrowed: false,
         }
     }
 
-    /// Nothing is known of a best assignment that this search found.
-    pub fn forget(&mut self)
-        ensures { (trail : List Literal) → (held : Option Solution) → KnowsHeldPrefix trail held self.new }
+    /// The best assignment may be another one, which this search found.
+    pub fn begin_again(&mut self, best: &Best<'_>)
+        ensures { (trail : List Literal) → KnowsHeldPrefix trail best.now.held self.new }
     {
         let borrowed = self.borrowed;
-        *self = AgreedPrefix::none();
+        *self = AgreedPrefix::of(best);
         self.borrowed = borrowed;
     }
 
-    /// Nothing is known of a best assignment that another search found.
-    pub fn forget_for_borrowed(&mut self)
-        ensures { (trail : List Literal) → (held : Option Solution) → KnowsHeldPrefix trail held self.new }
+    /// The best assignment is another one, which another search found.
+    pub fn begin_with_borrowed(&mut self, best: &Best<'_>)
+        ensures { (trail : List Literal) → KnowsHeldPrefix trail best.now.held self.new }
     {
-        *self = AgreedPrefix::none();
+        *self = AgreedPrefix::of(best);
         self.borrowed = true;
     }
 
@@ -144,6 +145,14 @@ impl AgreedPrefix {
         if self.seen > engine.trail_len() {
             self.forget();
         }
+    }
+
+    /// Nothing is known.
+    fn forget(&mut self)
+        ensures { (trail : List Literal) → (held : Option Solution) → KnowsHeldPrefix trail held self.new }
+    {
+        self.seen = 0;
+        self.count = 0;
     }
 }
 

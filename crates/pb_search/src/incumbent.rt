@@ -73,7 +73,7 @@ pub fn borrow<S: Share>(scratch: &mut Assignment, best: &mut Best<'_>, share: &m
     best.take(scratch)
 }
 
-/// The same on the way: where the best assignment changes, what was known of the prefix agreed with it is forgotten.
+/// The same on the way: where the best assignment changes, so does the prefix that the trail is known to agree with.
 pub fn borrow_on_the_way<S: Share>(
     scratch: &mut Assignment,
     best: &mut Best<'_>,
@@ -90,6 +90,6 @@ pub fn borrow_on_the_way<S: Share>(
     ensures known { (trail : List Literal) → KnowsHeldPrefix trail best.old.held agreed.old → KnowsHeldPrefix trail best.new.held agreed.new }
 {
     if borrow(scratch, best, share) {
-        agreed.forget_for_borrowed();
+        agreed.begin_with_borrowed(best);
     }
 }

@@ -74,7 +74,7 @@ fn expand_node<C: Count, S: Share>(
     let Some(branch) = next_decision(&state.engine, vars, &mut state.order, hints, pruning, bound)
     else {
         take_leaf(&state.engine, &mut state.candidate, best, share);
-        agreed.forget();
+        agreed.begin_again(best);
         return None;
     };
     Some(branch)
@@ -132,7 +132,7 @@ pub fn search_subtree<C: Count, S: Share>(
     ensures constraints { SameConstraints state.old.engine state.new.engine }
 {
     let mut decisions = 0;
-    let mut agreed = AgreedPrefix::none();
+    let mut agreed = AgreedPrefix::of(best);
     while let Some(branch) = next_branch(state, best, share, &mut agreed) {
         if *left == Some(0) {
             return Outcome::Cut;

@@ -1,11 +1,12 @@
 //! Searches of pieces that count in numbers of one width.
 
-ghost use Rattle.std.specs.Prelude.{◌≡◌, ◌⊎◌, ◌≤◌, [], false, List, Bool, All, length, IfOk, Some, IsSomeAnd};
+ghost use Rattle.std.specs.Prelude.{◌≡◌, ◌⊎◌, ◌≤◌, [], false, List, Bool, All, length, IfOk, IfNone, IfSome, Some, IsSomeAnd};
 ghost use Rattle.pb_inst.specs.Incumbent.{IsSound};
 ghost use Rattle.pb_normal.specs.NormalForm.{KeepsCost, KeepsFeasible};
 ghost use Rattle.pb_cubes.specs.Pieces.{LiesIn};
 ghost use Rattle.pb_search.specs.Held.{IsImprovement, IsNotAfter, MovesOn};
 ghost use Rattle.pb_search.specs.Solutions.{SameConstraints, SatisfiesUnder};
+ghost use Rattle.pb_search.specs.Layout.{IsCubeState};
 ghost use Rattle.pb_search.specs.SearchState.{IsStateOf};
 ghost use Rattle.pb_search.specs.Budget.{IsLeftOf};
 
@@ -57,12 +58,33 @@ fn search_under<C: Count, S: Share>(
     search_subtree(state, best, share, left)
 }
 
-/// An engine for the cubes and one for the remainder, which all searches use again, and the room for decisions and
-/// assignments. They count in numbers of type `C`.
+/// A state for the searches of cubes, where there are any.
+fn cube_state<'a, C: Count>(
+    alloc: Global,
+    instance: &Instance,
+    form: &'a Form<C>,
+    pieces: &Pieces,
+) -> Result<Option<SearchState<'a, C>>, Memory>
+    requires vars { form.now.vars ≡ instance.now.vars }
+    requires feasible { KeepsFeasible instance.now form.now }
+    requires costs { KeepsCost instance.now form.now }
+    ensures none { IfOk result (λ made. IfNone made (pieces.now.cubes ≡ [])) }
+    ensures some { IfOk result (λ made. IfSome made (IsCubeState instance.now)) }
+{
+    let _vars = instance.vars();
+    clause_laws();
+    if pieces.cubes().is_empty() {
+        return Ok(None);
+    }
+    Ok(Some(SearchState::new(alloc, form, &[])?))
+}
+
+/// An engine for the cubes, where there are any, and one for the remainder, which all searches use again, and the room for
+/// decisions and assignments. They count in numbers of type `C`.
 pub struct PieceSearch<'a, C: Count> {
     instance: &'a Instance,
     pieces: &'a Pieces,
-    cube: SearchState<'a, C>,
+    cube: Option<SearchState<'a, C>>,
     rest: SearchState<'a, C>,
 }
 
@@ -108,7 +130,7 @@ impl<'a, C: Count> PieceSearch<'a, C> {
     {
         let _vars = instance.vars();
         clause_laws();
-        let cube = SearchState::new(alloc, form, &[])?;
+        let cube = cube_state(alloc, instance, form, pieces)?;
         let rest = SearchState::new(alloc, form, pieces.cubes())?;
         Ok(PieceSearch {
             instance,
@@ -153,7 +175,13 @@ impl<'a, C: Count> PieceSearch<'a, C> {
         ensures unchanged { self.new ≡ self.old }
     {
         match self.pieces.piece(piece) {
-            Piece::Cube(cube) => search_under(&mut self.cube, cube.lits(), best, share, left),
+            Piece::Cube(cube) => {
+                let Some(state) = &mut self.cube else {
+                    // Never: there is a state wherever there is a cube.
+                    return Outcome::Whole;
+                };
+                search_under(state, cube.lits(), best, share, left)
+            }
             Piece::Rest(_) => search_under(&mut self.rest, &[], best, share, left),
         }
     }

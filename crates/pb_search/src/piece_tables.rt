@@ -1,8 +1,8 @@
 //! Tables that count in numbers of one width.
 
-ghost use Rattle.std.specs.Prelude.{◌≡◌, IfOk};
+ghost use Rattle.std.specs.Prelude.{◌≡◌, [], IfOk, IfNone, IfSome};
 ghost use Rattle.pb_normal.specs.NormalForm.{KeepsCost, KeepsFeasible};
-ghost use Rattle.pb_search.specs.Layout.{IsLaidOut, pieces_of};
+ghost use Rattle.pb_search.specs.Layout.{IsCubeState, IsLaidOut, pieces_of};
 
 use crate::search_state::SearchState;
 use pb_cubes::Pieces;
@@ -86,16 +86,28 @@ impl<'a, C: Count> PieceTables<'a, C> {
         self.pieces
     }
 
-    /// A state for the searches of cubes, and one for that of the remainder.
+    /// A state for the searches of cubes, where there are any, and one for that of the remainder.
     pub fn states(
         &'a self,
         alloc: Global,
-    ) -> Result<(SearchState<'a, C>, SearchState<'a, C>), Memory>
+    ) -> Result<(Option<SearchState<'a, C>>, SearchState<'a, C>), Memory>
         ensures { IfOk result (λ t. IsLaidOut self.now.problem (pieces_of self.now.problem self.now.cubes) t.0 t.1) }
     {
         clause_laws();
-        let cube = SearchState::over(alloc, &self.rows, &self.none, &[])?;
+        let cube = self.cube_state(alloc)?;
         let rest = SearchState::over(alloc, &self.rows, &self.rest, self.pieces.cubes())?;
         Ok((cube, rest))
+    }
+
+    /// A state for the searches of cubes, where there are any.
+    fn cube_state(&'a self, alloc: Global) -> Result<Option<SearchState<'a, C>>, Memory>
+        ensures none { IfOk result (λ made. IfNone made (self.now.cubes ≡ [])) }
+        ensures some { IfOk result (λ made. IfSome made (IsCubeState self.now.problem)) }
+    {
+        clause_laws();
+        if self.pieces.cubes().is_empty() {
+            return Ok(None);
+        }
+        Ok(Some(SearchState::over(alloc, &self.rows, &self.none, &[])?))
     }
 }

@@ -1,10 +1,9 @@
 //! The state of a search.
 
-ghost use Rattle.std.specs.Prelude.{◌≡◌, ◌++◌, ◌≤◌, List, All, IfOk, length, vec_capacity};
-ghost use Rattle.pb_normal.specs.NormalForm.{PositiveRow};
+ghost use Rattle.std.specs.Prelude.{◌≡◌, ◌++◌, ◌≤◌, All, IfOk, length, vec_capacity};
 ghost use Rattle.pb_cubes.specs.declared.TheConstants.{MAX_CUBES};
-ghost use Rattle.pb_engine.specs.Clauses.{AreClausesOf};
 ghost use Rattle.pb_engine.specs.Tables.{AreBeside};
+ghost use Rattle.pb_search.specs.Layout.{IsMade};
 
 use crate::branch::{Branch, Hints};
 use crate::order::Order;
@@ -42,11 +41,7 @@ impl<'a, C: Count> SearchState<'a, C> {
     ) -> Result<SearchState<'a, C>, Memory>
         requires few { length negated.now ≤ MAX_CUBES }
         requires variables { All (λ cube. All (λ l. l.var ≤ form.now.vars) cube) negated.now }
-        ensures form { IfOk result (λ t. t.engine.form ≡ form.now) }
-        ensures vars { IfOk result (λ t. t.engine.vars ≡ form.now.vars) }
-        ensures rows { IfOk result (λ t. (clauses : List PositiveRow) × (t.engine.rows ≡ form.now.rows ++ clauses) × AreClausesOf negated.now clauses) }
-        ensures candidate { IfOk result (λ t. length t.candidate ≡ form.now.vars) }
-        ensures room { IfOk result (λ t. form.now.vars ≤ vec_capacity t.branches) }
+        ensures { IfOk result (IsMade form.now negated.now) }
     {
         // The engine comes last: an early return past it would let go of it field by field, and cost a minute to prove.
         let (branches, candidate, order) = make_room(alloc, form, negated)?;

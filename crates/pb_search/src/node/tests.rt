@@ -105,7 +105,7 @@ fn search_shifted<C: Count>(
     requires sound { IsSoundTrail state.old.engine }
     requires no_decisions { state.old.branches.items ≡ [] }
 {
-    let mut agreed = AgreedPrefix::none();
+    let mut agreed = AgreedPrefix::of(best);
     let mut effects = Effects::none();
     while let Some(branch) = next_branch(state, best, &mut Alone, &mut agreed) {
         effects.shift(&mut state.engine, random, most);
@@ -129,7 +129,7 @@ fn found<C: Count>(
         panic!(rt; "no form");
     };
     let tables = PieceTables::new(alloc, instance, &form, &pieces).expect(rt, "memory");
-    let (mut state, _rest) = tables.states(alloc).expect(rt, "memory");
+    let (_cube, mut state) = tables.states(alloc).expect(rt, "memory");
     assert!(rt; state.branches.is_empty());
     assert!(rt; state.engine.level() == 0);
     let mut best = nothing(rt, alloc, instance);

@@ -69,7 +69,7 @@ loop-branch-init g c = record {
   same_lending = refl;
   counted = omega arith;
   budget = left_itself c.args.left.now;
-  known = c.none-agreed.ensures c.args.state.now.engine.trail c.args.best.now.held;
+  known = c.of-agreed.ensures c.args.state.now.engine.trail;
 }
 
 pub next_branch-requires-clause-state : goal.next_branch-requires-clause-state

@@ -15,7 +15,7 @@ pub loop-branch-init : goal.loop-branch-init
 loop-branch-init g c = record {
   under_way = begins c.args.best.now.problem c.args.state.now c.args.best.now.held c.requires.state c.requires.sound c.requires.no_decisions;
   same_instance = refl;
-  known = c.none-agreed.ensures c.args.state.now.engine.trail c.args.best.now.held;
+  known = c.of-agreed.ensures c.args.state.now.engine.trail;
 }
 
 pub next_branch-requires-clause-state : goal.next_branch-requires-clause-state
