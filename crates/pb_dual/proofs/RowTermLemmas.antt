@@ -3,7 +3,6 @@ use Rattle.std.proofs.Common.{◌≡◌, ℕ, ◌<◌, ◌≤◌, List, [], leng
 use Rattle.std.specs.Prelude.{IsSomeAnd, slice_get}
 use Rattle.std.proofs.lemmas.Option.{slice_get-get_or}
 use Rattle.pb_normal.specs.declared.terms.PositiveTerm.{PositiveTerm}
-use Rattle.pb_rows.specs.Constraints.{row_at}
 use Rattle.pb_normal.specs.NormalForm.{PositiveRow, NormalForm, IsNormal}
 
 -- each is over one of the form's variables

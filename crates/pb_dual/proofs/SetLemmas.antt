@@ -1,12 +1,10 @@
 -- Another multiplier for a row: that all sums stay in their range, and what is kept beside the multipliers then.
-use Rattle.std.proofs.Common.{◌≡◌, ℕ, ◌+◌, ◌-◌, ◌*◌, ◌^◌, ◌<◌, ◌≤◌, List, length, get_or, set, refl, sym, ◌∙◌, ap, subst, arith, Bool, true, false, cond, inl, inr, length-set, get_or-set_same, get_or-set_other}
+use Rattle.std.proofs.Common.{◌≡◌, ℕ, ◌+◌, ◌-◌, ◌*◌, ◌<◌, ◌≤◌, List, length, get_or, set, refl, sym, ◌∙◌, ap, subst, arith, inl, inr, length-set, get_or-set_same, get_or-set_other}
 use Rattle.std.proofs.lemmas.Bool.{cases_eq}
 use Rattle.std.proofs.lemmas.Nat.{mul-le}
-use Rattle.std.proofs.lemmas.List.Sums.{sum_by-le-sum_by}
 use Rattle.pb_inst.specs.Literal.{Literal}
-use Rattle.pb_normal.specs.declared.terms.PositiveTerm.{PositiveTerm}
 use Rattle.pb_normal.specs.NormalForm.{PositiveRow, NormalForm, IsNormal, total_coefficient}
-use Rattle.pb_normal.specs.Literals.{same_literal, weight_of}
+use Rattle.pb_normal.specs.Literals.{weight_of}
 use Rattle.pb_rows.specs.Constraints.{row_at}
 use Rattle.pb_rows.specs.Index.{literal_place}
 use Rattle.pb_dual.specs.ReducedCosts.{promised, AreReducedCosts, IsReducedCost}

@@ -119,12 +119,11 @@ impl<C: Count> Ascent<C> {
         ensures { IsSameButShifted multipliers.old multipliers.new }
     {
         let norm = self.aim(multipliers).max(1);
-        let gap = wide(target.above(multipliers.height()));
+        let gap = wide(target.above(multipliers.height())).saturating_mul(SCALE);
         for row in 0..multipliers.form().len() {
             let direction = self.directions.get(row).copied().unwrap_or(0);
             let mean = self.mean(row);
-            let scaled = gap.saturating_mul(SCALE).saturating_mul(direction);
-            let amount = quotient(quotient(scaled, norm), mean);
+            let amount = quotient(quotient(gap.saturating_mul(direction), norm), mean);
             shift_for_good(multipliers, row, Signed::nearest(amount));
         }
     }
@@ -197,8 +196,9 @@ fn lack<C: Count>(multipliers: &Multipliers<'_, C>, row: usize) -> i128
     let _vars = form.vars();
     let mut lack = wide(form.degree(row));
     for term in form.terms(row) {
-        let difference = multipliers.difference(term.lit());
-        if difference.is_negative() || (difference.is_zero() && !term.lit().positive()) {
+        // Where both cost as much, the variable is false.
+        let (cost, other) = multipliers.costs(term.lit());
+        if cost.is_below(other) || (!term.lit().positive() && !other.is_below(cost)) {
             lack = lack.saturating_sub(wide(term.coef()));
         }
     }
@@ -217,7 +217,11 @@ fn mean_coefficient<C: Count>(terms: &[FormTerm<C>]) -> Tally<C> {
 
 /// The quotient, 0 where there is none.
 fn quotient(part: i128, whole: i128) -> i128 {
-    part.checked_div(whole).unwrap_or(0)
+    // A quotient of 128 bits takes some ten times as long, and nearly all of them fit 64.
+    match (i64::try_from(part), i64::try_from(whole)) {
+        (Ok(part), Ok(whole)) => i128::from(part.checked_div(whole).unwrap_or(0)),
+        _ => part.checked_div(whole).unwrap_or(0),
+    }
 }
 
 /// The number, cut to the range.

@@ -1,4 +1,4 @@
-use Rattle.std.proofs.Common.{◌≡◌, ℕ, ◌+◌, ◌*◌, ◌<◌, ◌≤◌, List, length, get_or, set, take, replicate, ap, sym, subst, arith, rules, ◌∙◌}
+use Rattle.std.proofs.Common.{◌≡◌, ℕ, ◌+◌, ◌*◌, List, get_or, set, take, replicate, ap, sym, subst, arith, rules, ◌∙◌}
 use Rattle.std.proofs.lemmas.List.{get_or_read, take_all}
 use Rattle.pb_normal.specs.declared.terms.PositiveTerm.{PositiveTerm}
 use Rattle.pb_rows.specs.Index.{literal_place}

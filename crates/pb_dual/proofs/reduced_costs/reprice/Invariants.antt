@@ -1,4 +1,4 @@
-use Rattle.std.proofs.Common.{◌≡◌, ℕ, ◌+◌, ◌*◌, ◌≤◌, length, get_or, take}
+use Rattle.std.proofs.Common.{◌≡◌, ◌+◌, ◌*◌, ◌≤◌, length, get_or, take}
 use Rattle.pb_inst.specs.Literal.{Literal}
 use Rattle.pb_normal.specs.Literals.{weight_of}
 use Rattle.pb_rows.specs.Index.{literal_place}

@@ -1,4 +1,4 @@
-use Rattle.std.proofs.Common.{◌≡◌, ℕ, ◌+◌, ◌-◌, ◌*◌, ◌^◌, ◌≤◌, ◌<◌, None, Bool, List, length, get_or, set, arith, ap, sym, ◌∙◌}
+use Rattle.std.proofs.Common.{◌≡◌, ℕ, ◌+◌, ◌-◌, ◌*◌, ◌≤◌, None, length, get_or, set, arith, ap, ◌∙◌}
 use Rattle.std.proofs.lemmas.Grind.{get_or_default_zero}
 use Rattle.pb_inst.specs.Literal.{Literal}
 use Rattle.pb_rows.specs.Index.{literal_place}

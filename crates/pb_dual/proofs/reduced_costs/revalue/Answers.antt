@@ -1,4 +1,4 @@
-use Rattle.std.proofs.Common.{◌≡◌, ℕ, ◌+◌, ◌-◌, ◌^◌, ◌<◌, ◌≤◌, None, Option, Bool, List, get_or, set, ap, arith}
+use Rattle.std.proofs.Common.{◌≡◌, ℕ, ◌-◌, ◌^◌, ◌≤◌, None, Option, Bool, List, get_or, set, ap, arith}
 use Rattle.pb_dual.specs.ReducedCosts.{part, parts}
 use Rattle.pb_dual.proofs.ChangeLemmas.{part-within, part-most, parts-valued}
 use Rattle.pb_dual.proofs.reduced_costs.revalue.Goals as goal

@@ -1,4 +1,4 @@
-use Rattle.std.proofs.Common.{◌≡◌, List, ◌⊎◌, ◌<◌, ◌≤◌, inl, inr, arith, ap, ◌∙◌}
+use Rattle.std.proofs.Common.{List, inl, inr, arith, ap, ◌∙◌}
 use Rattle.pb_normal.specs.NormalForm.{total_coefficient}
 use Rattle.pb_normal.specs.declared.terms.PositiveTerm.{PositiveTerm}
 use Rattle.pb_dual.proofs.multipliers.Multipliers.new.Goals.{then-vars-gt-MAX_VARS-via-then-vars-gt-MAX_VARS, then-vars-gt-MAX_VARS-via-else-vars-gt-MAX_VARS+then-not-has_scale}

@@ -1,8 +1,7 @@
-use Rattle.std.proofs.Common.{◌≡◌, ℕ, ◌+◌, ◌*◌, ◌^◌, ◌≤◌, ◌<◌, List, length, replicate, None, ap, arith, rules, ◌∙◌, sym}
+use Rattle.std.proofs.Common.{◌≡◌, ℕ, ◌*◌, ◌^◌, length, replicate, None, ap, arith, rules, ◌∙◌}
 use Rattle.std.specs.Vec.{vec_capacity}
 use Rattle.std.proofs.lemmas.Nat.{mul-le}
 use Rattle.pb_inst.specs.declared.TheConstants.{MAX_VARS}
-use Rattle.pb_normal.specs.NormalForm.{total_coefficient}
 use Rattle.pb_dual.proofs.StartLemmas.{kept-first}
 use Rattle.pb_dual.proofs.multipliers.Multipliers.scaled.Goals as goal
 

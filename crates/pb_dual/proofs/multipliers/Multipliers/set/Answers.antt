@@ -1,4 +1,4 @@
-use Rattle.std.proofs.Common.{◌≡◌, ℕ, ◌+◌, ◌-◌, ◌*◌, ◌<◌, ◌≤◌, ◌++◌, List, [], Option, Bool, length, get_or, set, take, drop, arith, ap, sym, subst, ◌∙◌, length-set}
+use Rattle.std.proofs.Common.{◌≡◌, ℕ, ◌*◌, ◌<◌, ◌++◌, List, [], Option, Bool, length, get_or, set, take, drop, arith, ap, sym, subst, ◌∙◌, length-set}
 use Rattle.std.specs.Prelude.{IsSomeAnd}
 use Rattle.std.proofs.lemmas.Option.{slice_get-get_or}
 use Rattle.std.proofs.lemmas.List.{get_or_read}
@@ -8,7 +8,7 @@ use Rattle.pb_normal.specs.Literals.{weight_of}
 use Rattle.pb_rows.specs.Constraints.{row_at}
 use Rattle.pb_rows.specs.Index.{literal_place}
 use Rattle.pb_rows.proofs.IndexLemmas.{changed_in_place}
-use Rattle.pb_dual.specs.ReducedCosts.{promised, AreReducedCosts, parts}
+use Rattle.pb_dual.specs.ReducedCosts.{AreReducedCosts, parts}
 use Rattle.pb_dual.specs.Multipliers.{MultipliersState, IsWithinShare}
 use Rattle.pb_dual.proofs.SetLemmas.{can-set, costs-set, degrees-set, within-set, promised-small}
 use Rattle.pb_dual.proofs.multipliers.Multipliers.set.Goals as goal
