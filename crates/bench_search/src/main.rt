@@ -1,6 +1,7 @@
 //! Searches an instance as one piece and says on standard error what it found, how many decisions that took, and how
 //! long. The first argument is a file of clauses, where its name ends in `.cnf`, and else of linear constraints. A second
-//! one is a number k: the instance is then searched in the pieces of its split over k variables.
+//! one is a number k: the instance is then searched in the pieces of its split over k variables. With `anew` as the third
+//! one each piece has a search of its own, which knows nothing of the conflicts and multipliers of the pieces before.
 #![tactic(auto)]
 
 ghost use Rattle.std.specs.Prelude.{◌≡◌, ◌+◌, ◌≤◌, false, length, IfSome};
@@ -14,13 +15,9 @@ use std::alloc::Global;
 use std::time::{CpuClock, Duration};
 use std::{env, fs, io};
 
-/// After how many decisions a search asks its share.
-const INTERVAL: u64 = 256;
-
-/// Counts how often it is asked, and lends nothing.
+/// Counts the assignments that it is offered, and lends nothing.
 #[derive(Clone, Copy, Debug)]
 struct Counter {
-    asked: u64,
     offered: u64,
 }
 
@@ -38,7 +35,6 @@ impl Share for Counter {
     }
 
     fn borrow(&mut self, _below: Number, _into: &mut Assignment) -> bool {
-        self.asked = self.asked.saturating_add(1);
         false
     }
 }
@@ -64,16 +60,6 @@ fn pieces_of(alloc: Global, instance: &Instance, k: u32) -> Option<Pieces>
     Pieces::new(instance.vars(), cubes).ok()
 }
 
-/// Searches all pieces in order.
-fn search_all(search: &mut Search<'_>, count: u32, best: &mut Best<'_>, counter: &mut Counter)
-    requires pieces { count ≤ length search.old.division.cubes + 1 }
-    requires same_instance { best.old.problem ≡ search.old.division.problem }
-{
-    for piece in 0..count {
-        search.run(piece, best, counter, None);
-    }
-}
-
 /// What a measured search found, and the processor time that it took.
 #[derive(Clone, Copy, Debug)]
 struct Measured {
@@ -83,46 +69,73 @@ struct Measured {
     searching: Duration,
 }
 
-/// Searches all pieces with the clock; none where it is refused.
+/// Searches the pieces from `first` up to `end` in order, and counts the decisions.
+fn search_pieces(
+    search: &mut Search<'_>,
+    first: u32,
+    end: u32,
+    best: &mut Best<'_>,
+    counter: &mut Counter,
+) -> u64
+    requires pieces { end ≤ length search.old.division.cubes + 1 }
+    requires same_instance { best.old.problem ≡ search.old.division.problem }
+    ensures same_instance { best.new.problem ≡ best.old.problem }
+{
+    let mut decisions = 0_u64;
+    for piece in first..end {
+        search.run(piece, best, counter, Some(u64::MAX));
+        decisions = decisions.saturating_add(search.decisions());
+    }
+    decisions
+}
+
+/// The same with the clock, which it adds to what was measured; none where the clock is refused.
 fn timed(
     rt: &HostRuntime,
     search: &mut Search<'_>,
-    count: u32,
+    first: u32,
+    end: u32,
     best: &mut Best<'_>,
-) -> Option<Measured>
-    requires pieces { count ≤ length search.old.division.cubes + 1 }
+    measured: &mut Measured,
+) -> Option<()>
+    requires pieces { end ≤ length search.old.division.cubes + 1 }
     requires same_instance { best.old.problem ≡ search.old.division.problem }
+    ensures same_instance { best.new.problem ≡ best.old.problem }
 {
-    let mut counter = Counter {
-        asked: 0,
-        offered: 0,
-    };
+    let mut counter = Counter { offered: 0 };
     let start = rt.process_cpu_time().ok()?;
-    search_all(search, count, best, &mut counter);
-    let end = rt.process_cpu_time().ok()?;
-    let asked_on_the_way = counter.asked.saturating_sub(u64::from(count));
-    Some(Measured {
-        cost: best.cost(),
-        decisions: asked_on_the_way.saturating_mul(INTERVAL),
-        improvements: counter.offered,
-        searching: end.saturating_sub(start),
-    })
+    let decisions = search_pieces(search, first, end, best, &mut counter);
+    let taken = rt.process_cpu_time().ok()?.saturating_sub(start);
+    measured.cost = best.cost();
+    measured.decisions = measured.decisions.saturating_add(decisions);
+    measured.improvements = measured.improvements.saturating_add(counter.offered);
+    measured.searching = measured.searching.saturating_add(taken);
+    Some(())
 }
 
-/// Searches the instance; none where memory or the clock is refused, or there is no such split.
-fn measure(rt: &HostRuntime, instance: &Instance, k: u32) -> Option<Measured> {
+/// Searches the instance, each piece anew or all with one search; none where memory or the clock is refused, or there is no
+/// such split.
+fn measure(rt: &HostRuntime, instance: &Instance, k: u32, anew: bool) -> Option<Measured> {
     let alloc = rt.alloc();
     let Ok(normal) = normalise(alloc, instance) else {
         return None;
     };
     let pieces = pieces_of(alloc, instance, k)?;
-    let Ok(mut best) = Best::none(alloc, instance) else {
-        return None;
+    let mut best = Best::none(alloc, instance).ok()?;
+    let mut measured = Measured {
+        cost: None,
+        decisions: 0,
+        improvements: 0,
+        searching: Duration::ZERO,
     };
-    let Ok(mut search) = Search::new(alloc, instance, &normal, &pieces) else {
-        return None;
-    };
-    timed(rt, &mut search, pieces.len(), &mut best)
+    let count = pieces.len();
+    let searches = if anew { count } else { 1 };
+    for i in 0..searches {
+        let (first, end) = if anew { (i, i + 1) } else { (0, count) };
+        let mut search = Search::new(alloc, instance, &normal, &pieces).ok()?;
+        timed(rt, &mut search, first, end, &mut best, &mut measured)?;
+    }
+    Some(measured)
 }
 
 /// Prints one line.
@@ -137,11 +150,11 @@ fn print(rt: &HostRuntime, measured: &Measured) -> io::Result<()> {
 }
 
 /// Reads and searches the file.
-fn run(rt: &HostRuntime, name: &str, k: u32) -> io::Result<()> {
+fn run(rt: &HostRuntime, name: &str, k: u32, anew: bool) -> io::Result<()> {
     let Some(instance) = read(rt, name) else {
         return eprintln!(rt; "{name} cannot be read");
     };
-    match measure(rt, &instance, k) {
+    match measure(rt, &instance, k, anew) {
         Some(measured) => print(rt, &measured),
         None => eprintln!(rt; "{name} cannot be searched"),
     }
@@ -159,8 +172,8 @@ fn main(rt: HostRuntime) -> io::Result<()> {
     let mut args = env::args(&rt)?;
     args.next();
     let Some(name) = args.next() else {
-        return eprintln!(rt; "bench_search FILE [K]");
+        return eprintln!(rt; "bench_search FILE [K [anew]]");
     };
     let k = number(args.next());
-    run(&rt, &name, k)
+    run(&rt, &name, k, args.next().is_some())
 }
