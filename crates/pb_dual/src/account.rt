@@ -31,8 +31,12 @@ const TRIAL_LIMIT: u64 = 2;
 /// How many fixed literals count as much as one closing.
 const FIXINGS_OF_A_CLOSING: u64 = 8;
 
-/// After how much work all counts are halved, so that what was long ago soon counts for little.
+/// After how much work all counts are halved, so that what was long ago soon counts for little. Not before twice the credit,
+/// which could never be spent else.
 const FADING: u64 = 8_388_608;
+
+/// What is left of a great credit in the end. It is for the first closings; a credit for good would be a part of all work.
+const LASTING_CREDIT: u64 = FADING / 4;
 
 /// A node that the multipliers close and that is searched without them all the same, to see what they save.
 #[derive(Clone, Copy, Debug)]
@@ -176,8 +180,12 @@ impl Account {
 
     /// Halves all counts where they are great.
     fn fade(&mut self) {
-        if self.search.saturating_add(self.spent) < FADING {
+        let limit = self.credit.saturating_mul(2).max(FADING);
+        if self.search.saturating_add(self.spent) < limit {
             return;
+        }
+        if self.credit > LASTING_CREDIT {
+            self.credit = (self.credit / 2).max(LASTING_CREDIT);
         }
         self.search /= 2;
         self.spent /= 2;

@@ -2,14 +2,19 @@
 
 use super::Account;
 
-/// An account of so many nodes, at each of which multipliers looked at so many terms.
-fn used_at(nodes: u32, terms: usize) -> Account {
-    let mut account = Account::new(0);
+/// An account of so many nodes, at each of which multipliers looked at so many terms, beside rows of `all` terms.
+fn used_beside(all: u64, nodes: u32, terms: usize) -> Account {
+    let mut account = Account::new(all);
     for _ in 0..nodes {
         account.count_search(1);
         account.count_use(terms);
     }
     account
+}
+
+/// The same beside no rows.
+fn used_at(nodes: u32, terms: usize) -> Account {
+    used_beside(0, nodes, terms)
 }
 
 /// Where multipliers cost much and close nothing they are left, but for a part of what the search costs; what they may cost
@@ -25,6 +30,24 @@ fn what_saves_nothing_is_left(rt: HostRuntime) {
         account.count_search(1);
     }
     assert!(rt; account.is_open());
+}
+
+/// Beside many terms they may cost more at first, and are left all the same, and for good but for a part of the work.
+#[test]
+fn a_great_credit_ends(rt: HostRuntime) {
+    let mut account = used_beside(100_000, 300, 100_000);
+    assert!(rt; account.is_open());
+    account = used_beside(100_000, 500, 100_000);
+    assert!(rt; !account.is_open());
+    let mut uses = 0_u32;
+    for _ in 0..1_000_000u32 {
+        account.count_search(1);
+        if account.is_open() {
+            account.count_use(100_000);
+            uses = uses.saturating_add(1);
+        }
+    }
+    assert!(rt; uses < 400);
 }
 
 /// A closing that is tried out costs the search what the subtree takes without it, and all closings after it count as much.
