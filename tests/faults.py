@@ -192,16 +192,16 @@ def count_on(bench, case, fault):
     return came, changed, [*bad, f"{name}: the calls do not end"]
 
 
-def build_library(folder):
-    """The library of faults, or nothing where there is no C compiler with the headers of the C library."""
+def build_library(folder, name):
+    """The library of tests/NAME.c, or nothing where there is no C compiler with the headers of the C library."""
     compiler = shutil.which(os.environ.get("CC", "cc"))
     if not compiler:
         return None
     probe = subprocess.run([compiler, "-E", "-"], input=b"#include <dlfcn.h>\n", capture_output=True)
     if probe.returncode:
         return None
-    library = str(folder / "faults.so")
-    subprocess.run([compiler, "-O1", "-shared", "-fPIC", "-o", library, str(TOP / "tests/faults.c"), "-ldl"], check=True)
+    library = str(folder / f"{name}.so")
+    subprocess.run([compiler, "-O1", "-shared", "-fPIC", "-o", library, str(TOP / f"tests/{name}.c"), "-ldl"], check=True)
     return library
 
 
@@ -225,7 +225,7 @@ def judge(bench):
 def main(programs):
     with tempfile.TemporaryDirectory(prefix="pbcube-faults-") as room:
         folder = Path(room)
-        library = build_library(folder)
+        library = build_library(folder, "faults")
         if not library:
             print("faults: left out, since there is no C compiler (cc) here")
             return 0

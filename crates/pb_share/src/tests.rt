@@ -37,6 +37,25 @@ fn a_share_lends_what_was_offered(rt: HostRuntime) -> Result<(), Fail> {
     Ok(())
 }
 
+// A second offer, which is less, is lent to a worker that already holds the first one.
+#[test]
+fn a_share_lends_each_lesser_offer(rt: HostRuntime) -> Result<(), Fail> {
+    let alloc = rt.alloc();
+    let (board, seat) = Board::new(alloc, Workers::new(2)?, 2)?;
+    let (low, high) = board.split(seat, 1);
+    let mut share = BoardShare::new(&board, low, 0);
+    let mut other = BoardShare::new(&board, high, 1);
+    let mut offered = Assignment::new(alloc, 2)?;
+    offered.set(2, true);
+    other.offer(-5, &offered);
+    offered.set(1, true);
+    other.offer(-7, &offered);
+    let mut borrowed = Assignment::new(alloc, 2)?;
+    let is_lent = share.borrow(-5, &mut borrowed);
+    assert_eq!(rt; (is_lent, bits(&borrowed)), (true, 3));
+    Ok(())
+}
+
 /// The key that a share of a board without other workers offers for the cost.
 fn offered_key(alloc: Global, cost: Number) -> Result<u64, Fail> {
     let (board, seat) = Board::new(alloc, Workers::new(1)?, 0)?;

@@ -381,7 +381,7 @@ const SHORT_HELP: [&str; 10] = [
     "0 to 1000000000",
 ];
 
-const LONG_HELP: [&str; 7] = [
+const LONG_HELP: [&str; 12] = [
     "Usage: pbcube [OPTIONS] <FILE>",
     "--format <FORMAT>",
     "--workers <W>",
@@ -389,6 +389,11 @@ const LONG_HELP: [&str; 7] = [
     "--nodes <B>",
     "pbcube --format cnf formula.cnf",
     "30  s OPTIMUM FOUND",
+    "20  s UNSATISFIABLE",
+    "10  s SATISFIABLE",
+    " 0  s UNSUPPORTED",
+    " 1  a file cannot be opened",
+    " 2  the command line is refused",
 ];
 
 #[test]

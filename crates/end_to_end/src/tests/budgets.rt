@@ -18,7 +18,19 @@ const FREE_PAIR: &[u8] = b"min: 1 x1 1 x2 ;\n1 x1 1 x2 >= 0 ;\n";
 /// Clauses of which one variable stands in both.
 const TWO_CLAUSES: &[u8] = b"p cnf 3 2\n1 2 0\n2 3 0\n";
 
-const CASES: [BudgetCase; 13] = [
+const CASES: [BudgetCase; 14] = [
+    // Each of two pieces has the budget for itself: a decision in either ends it, and nothing remains.
+    BudgetCase {
+        case: Case {
+            format: Format::Opb,
+            text: FREE_PAIR,
+            report: b"o 0\ns OPTIMUM FOUND\nv -x1 -x2\n",
+            status: Status::Optimum,
+        },
+        cubes: Some(b"a 1 0\na -1 0\n"),
+        nodes: 1,
+        cut: false,
+    },
     // Propagation alone ends these.
     BudgetCase {
         case: CONTRADICTION,

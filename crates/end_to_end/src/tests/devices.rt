@@ -86,3 +86,22 @@ impl Read for Resumed {
         self.text.read(buf)
     }
 }
+
+/// Keeps back what is written, and lets go of it at a flush.
+#[derive(Drop)]
+pub struct KeepsBack {
+    pub kept: Vec<u8>,
+    pub flushed: Vec<u8>,
+}
+
+impl Write for KeepsBack {
+    fn write(&mut self, buf: &[u8]) -> io::Result<usize> {
+        self.kept.extend_from_slice(buf)?;
+        Ok(buf.len())
+    }
+
+    fn flush(&mut self) -> io::Result<()> {
+        self.flushed.append(&mut self.kept)?;
+        Ok(())
+    }
+}

@@ -1,7 +1,7 @@
 //! Outputs that fail at any call, that take few bytes a call, or that take no more.
 
 use super::cases::{CASES, COVER, Case};
-use super::devices::{Broken, Failing, KINDS};
+use super::devices::{Broken, Failing, KINDS, KeepsBack};
 use super::{Ended, options, run_on};
 use pb_solve::RunFault;
 use std::alloc::Global;
@@ -90,4 +90,19 @@ fn outputs_with_a_fault_of_any_kind(rt: HostRuntime) -> Result<(), Fail> {
         assert_eq!(rt; ended, Ended::failed(RunFault::Write));
     }
     Ok(())
+}
+
+// Nothing of a report is left in an output that keeps back what is not flushed.
+#[test]
+fn outputs_that_keep_back_what_is_not_flushed(rt: HostRuntime) {
+    for case in &CASES {
+        let mut out = KeepsBack {
+            kept: Vec::new(rt.alloc()),
+            flushed: Vec::new(rt.alloc()),
+        };
+        let options = options(&rt, case.format, 2, 0);
+        let ended = run_on(&rt, rt.alloc(), case.text, None::<Empty>, options, &mut out);
+        assert_eq!(rt; ended, Ended::reported(case.status));
+        assert_eq!(rt; out.flushed.as_slice(), case.report);
+    }
 }

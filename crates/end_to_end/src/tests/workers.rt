@@ -346,3 +346,46 @@ fn a_borrowed_bound_closes_a_piece(rt: HostRuntime) -> Result<(), Fail> {
     assert_eq!(rt; answer, (Some((1, 2)), false));
     Ok(())
 }
+
+/// Holds each of four workers at its passes until all four have begun.
+#[derive(Drop)]
+struct Round {
+    begun: [AtomicBool; 4],
+    late: AtomicBool,
+}
+
+impl Gate for Round {
+    fn pass(&self, worker: u32, _piece: u32) {
+        if let Some(mine) = self.begun.get(worker as usize) {
+            mine.store(true, Ordering::SeqCst);
+        }
+        for begun in &self.begun {
+            if !is_met(begun) {
+                self.late.store(true, Ordering::SeqCst);
+                return;
+            }
+        }
+    }
+}
+
+// On as many pieces as workers each worker has a number of its own, and all of them work at the same time.
+#[test]
+fn four_workers_meet(rt: HostRuntime) -> Result<(), Fail> {
+    let instance = read_cnf(rt.alloc(), TWO_CLAUSES)?;
+    let empty_cubes: &[&[(u32, bool)]] = &[&[], &[], &[]];
+    let pieces = Pieces::new(instance.vars(), cubes(rt.alloc(), empty_cubes)?)?;
+    let gate = Round {
+        begun: [
+            AtomicBool::new(false),
+            AtomicBool::new(false),
+            AtomicBool::new(false),
+            AtomicBool::new(false),
+        ],
+        late: AtomicBool::new(false),
+    };
+    let workers = Workers::new(4)?;
+    let answer = solve(&rt, rt.alloc(), &instance, &pieces, workers, &gate, None)?;
+    assert!(rt; !gate.late.load(Ordering::SeqCst), "they met");
+    assert_eq!(rt; held(&answer.best), Some((0, 2)));
+    Ok(())
+}

@@ -1,0 +1,100 @@
+#!/usr/bin/env python3
+"""Watches the threads of the built program on an instance of about a second, and judges whether they share its work.
+
+    tests/threads.py [PROGRAM ..]
+
+Without a word it takes the programs that the merge gate built. The library threads.c is compiled by cc and preloaded. W workers
+are W - 1 threads beside the program's own, of which all are made before one is waited for, and no more than there are pieces. No
+worker does all: each of two has a tenth of the processor's time at least. And none waits for another's share: a thread that is
+held back until all others have ended finds nothing left to do, and has a tenth of the time at most. Without a C compiler nothing
+is run.
+"""
+import os
+import subprocess
+import sys
+import tempfile
+from dataclasses import dataclass
+from pathlib import Path
+
+sys.dont_write_bytecode = True
+from examples import TOP, built
+from faults import build_library
+
+FAMILY, SIZE = "clauses", "226"
+SECONDS = 300  # after which a run is taken to hang
+SHARE = 10  # a share of the work is more than one part of so many
+CREWS = ((1, 6, 0), (2, 6, 1), (3, 6, 2), (4, 6, 3), (7, 6, 6), (64, 1, 2), (64, 0, 0))  # workers, split, threads
+HELD = ((2, 1), (3, 1), (3, 2), (4, 1), (4, 2))  # workers, and the thread that is held back
+
+
+@dataclass(frozen=True)
+class Watched:
+    """A run with the library: its report, the threads that it made, the waits that came too early, the processor seconds of
+    each thread that was made, and those of all."""
+
+    report: bytes
+    made: int
+    early: int
+    taken: dict
+    all_taken: float
+
+
+def watched(program, library, file, workers, split, made, held):
+    told, teller = os.pipe()
+    environment = {"LD_PRELOAD": library, "THREADS_ALL": str(made), "THREADS_HELD": str(held), "THREADS_TELL": str(teller)}
+    words = [program, "--format", "cnf", "--workers", str(workers), "--split", str(split), file]
+    before = os.times()
+    ran = subprocess.run(words, env=environment, pass_fds=[teller], stdin=subprocess.DEVNULL, capture_output=True, timeout=SECONDS)
+    after = os.times()
+    os.close(teller)
+    with open(told) as lines:
+        events = [line.split() for line in lines]
+    taken = {int(event[1]): int(event[2]) / 1e9 for event in events if event[0] == "ended"}
+    all_taken = after.children_user + after.children_system - before.children_user - before.children_system
+    kinds = [event[0] for event in events]
+    return Watched(ran.stdout, kinds.count("made"), kinds.count("early"), taken, all_taken)
+
+
+def complaints(program, library, file):
+    """What is wrong, one line for each."""
+    whole = watched(program, library, file, 1, 0, 0, 0).report
+    for workers, split, made in CREWS:
+        run = watched(program, library, file, workers, split, made, 0)
+        name = f"{workers} workers, split {split}"
+        if run.report != whole:
+            yield f"{name}: another report than one worker's"
+        if run.made != made or run.early:
+            yield f"{name}: {run.made} threads, and {run.early} waits before all were made"
+        least = min([*run.taken.values(), run.all_taken - sum(run.taken.values())])
+        if workers == 2 and SHARE * least < run.all_taken:
+            yield f"{name}: one has {least:.3f} of {run.all_taken:.3f} processor seconds"
+    for workers, held in HELD:
+        run = watched(program, library, file, workers, 6, workers - 1, held)
+        name = f"{workers} workers, thread {held} held back"
+        if run.report != whole:
+            yield f"{name}: another report than one worker's"
+        if SHARE * run.taken.get(held, run.all_taken) > run.all_taken:
+            yield f"{name}: it had {run.taken.get(held, run.all_taken):.3f} of {run.all_taken:.3f} processor seconds to do"
+
+
+def main(programs):
+    failed = 0
+    with tempfile.TemporaryDirectory(prefix="pbcube-threads-") as room:
+        library = build_library(Path(room), "threads")
+        if not library:
+            print("threads: left out, since there is no C compiler (cc) here")
+            return 0
+        file = Path(room) / "instance.cnf"
+        with open(file, "w") as text:
+            subprocess.run([sys.executable, TOP / "bench/make_small.py", FAMILY, SIZE], stdout=text, check=True)
+        for program in programs or built():
+            for line in complaints(Path(program).resolve(), library, file):
+                failed += 1
+                print(f"threads: {program}: {line}")
+    runs = (1 + len(CREWS) + len(HELD)) * len(programs or built())
+    print(f"threads: {runs} runs, {failed} complaints")
+    return 1 if failed else 0
+
+
+if __name__ == "__main__":
+    sys.exit(main(sys.argv[1:]))
