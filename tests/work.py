@@ -5,9 +5,9 @@
 
 `bench_work` is built without proof (`rt try`) and solves each instance of tests/work/ in an interpreter, whose steps are the same
 in each run. Each must end within STEPS of them, with the report that stands beside it, and with fewer requests for memory than
-REQUESTS. Each instance is the greatest of its family, by steps of one or of a fifth, that ends within them today. So a body that
-looks at more rows, makes more decisions, undoes more than it did, or takes memory at each node, fails here though its answer is
-right.
+REQUESTS. For most of them an instance of the same family that is greater by a half, or by less, does not end within those steps
+today. So a body that looks at more rows, makes more decisions, undoes more than it did, or takes memory at each node, can fail
+here though its answer is right.
 """
 import re
 import shutil
