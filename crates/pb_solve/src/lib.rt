@@ -13,7 +13,10 @@ pub use device::Device;
 pub use laws::report_laws;
 pub use options::{Options, Ran, RunFault, Status};
 pub use pb_read::Format;
-pub use report::report_memory;
+pub use report::{
+    report_attained, report_infeasible, report_memory, report_optimum, report_satisfiable,
+    report_unknown,
+};
 pub use running::run;
 pub use workers::gate::{Gate, OpenGate};
 pub use workers::gather::gather;

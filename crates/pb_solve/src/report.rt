@@ -46,8 +46,8 @@ pub fn report_memory<W: Write>(out: &mut Device<W>) -> Result<Status, RunFault>
     report.finish(Status::Unknown)
 }
 
-/// Reports that no assignment meets every constraint.
-pub(crate) fn report_infeasible<W: Write>(out: &mut Device<W>) -> Result<Status, RunFault>
+/// Reports that no assignment meets every constraint: `s UNSATISFIABLE`. A fault is `Write`, where the device has failed.
+pub fn report_infeasible<W: Write>(out: &mut Device<W>) -> Result<Status, RunFault>
     ensures status { IfOk result (λ status. status ≡ Status.Unsatisfiable) }
     ensures written { OnOk result (Appends (W.contents out.old.held) (W.contents out.new.held) infeasible_report) }
     ensures fault { IfErr result (λ fault. fault ≡ RunFault.Write) }
@@ -58,8 +58,9 @@ pub(crate) fn report_infeasible<W: Write>(out: &mut Device<W>) -> Result<Status,
     report.finish(Status::Unsatisfiable)
 }
 
-/// Reports an assignment of an instance without an objective: the least one, or the best that was found.
-pub(crate) fn report_satisfiable<W: Write>(
+/// Reports an assignment of an instance without an objective, the least one or the best that was found: `s SATISFIABLE` and the
+/// `v` line. A fault is `Write`, where the device has failed.
+pub fn report_satisfiable<W: Write>(
     out: &mut Device<W>,
     format: Format,
     values: &Assignment,
@@ -75,8 +76,9 @@ pub(crate) fn report_satisfiable<W: Write>(
     report.finish(Status::Satisfiable)
 }
 
-/// Reports the least assignment and its cost.
-pub(crate) fn report_optimum<W: Write>(
+/// Reports the least assignment and its cost: the `o` line, `s OPTIMUM FOUND` and the `v` line. A fault is `Write`, where the
+/// device has failed.
+pub fn report_optimum<W: Write>(
     out: &mut Device<W>,
     format: Format,
     cost: Number,
@@ -97,8 +99,9 @@ pub(crate) fn report_optimum<W: Write>(
     )
 }
 
-/// Reports an assignment that was found, and its cost. That it is least is not said.
-pub(crate) fn report_attained<W: Write>(
+/// Reports an assignment that was found, and its cost: the `o` line, `s SATISFIABLE` and the `v` line. That it is least is not
+/// said. A fault is `Write`, where the device has failed.
+pub fn report_attained<W: Write>(
     out: &mut Device<W>,
     format: Format,
     cost: Number,
@@ -140,8 +143,8 @@ fn report_with_cost<W: Write>(
     report.finish(status)
 }
 
-/// Reports that nothing is known of the instance.
-pub(crate) fn report_unknown<W: Write>(out: &mut Device<W>) -> Result<Status, RunFault>
+/// Reports that nothing is known of the instance: `s UNKNOWN`. A fault is `Write`, where the device has failed.
+pub fn report_unknown<W: Write>(out: &mut Device<W>) -> Result<Status, RunFault>
     ensures status { IfOk result (λ status. status ≡ Status.Unknown) }
     ensures written { OnOk result (Appends (W.contents out.old.held) (W.contents out.new.held) unknown_report) }
     ensures fault { IfErr result (λ fault. fault ≡ RunFault.Write) }

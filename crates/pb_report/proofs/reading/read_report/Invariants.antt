@@ -1,0 +1,13 @@
+use Rattle.std.proofs.Common.{◌≡◌, ◌++◌, ◌+◌, ◌≤◌, List, ℕ, length, map}
+use Rattle.pb_report.specs.Lines.{rows, words}
+use Rattle.pb_report.specs.Draft.{IsDraft}
+use Rattle.pb_report.proofs.reading.read_report.Given as goal
+
+-- the lines so far were taken, and the others are left
+abbrev pub invariant-loop-line : goal.invariant-loop-line
+invariant-loop-line l = record {
+  counted : l.number + length l.line-iterator ≤ length l.fn.text;
+  same_length : length l.draft.values.given ≡ length l.draft.values.seen;
+  same_format : l.draft.values.format ≡ l.fn.format;
+  so_far : (seen : List (List (List ℕ))) × (seen ++ map words l.line-iterator ≡ rows l.fn.text) × IsDraft l.fn.vars seen l.draft;
+}

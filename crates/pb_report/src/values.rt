@@ -1,0 +1,112 @@
+//! The values of `v` lines.
+ghost use Rattle.std.specs.Prelude.{◌≡◌, ◌∷◌, ◌++◌, [], ℕ, List, length, false, IfOk, OnOk};
+ghost use Rattle.pb_report.specs.Values.{AreTaken, AreSpelled, IsValueWord, has_end};
+
+use crate::faults::ReportKind;
+use crate::words::{ValueWord, value_word};
+use bstr::Fields;
+use pb_inst::{Assignment, Memory};
+use pb_read::Format;
+use std::alloc::Global;
+
+/// The values that the words of `v` lines gave so far.
+#[derive(Drop)]
+pub(crate) struct Values {
+    pub(crate) format: Format,
+    pub(crate) given: Assignment,
+    /// Makes those variables true that have a value.
+    pub(crate) seen: Assignment,
+    /// How many variables have no value.
+    pub(crate) left: u32,
+    pub(crate) ended: bool,
+}
+
+impl Values {
+    /// No variable has a value.
+    pub(crate) fn new(alloc: Global, format: Format, vars: u32) -> Result<Values, Memory>
+        ensures format { IfOk result (λ values. values.format ≡ format) }
+        ensures same_length { IfOk result (λ values. length values.given ≡ length values.seen) }
+        ensures taken { IfOk result (λ values. AreTaken vars [] values) }
+    {
+        let given = Assignment::new(alloc, vars)?;
+        let seen = Assignment::new(alloc, vars)?;
+        Ok(Values {
+            format,
+            given,
+            seen,
+            left: vars,
+            ended: false,
+        })
+    }
+
+    /// Takes the words of a further line.
+    pub(crate) fn take_words(&mut self, words: Fields<'_>) -> Result<(), ReportKind>
+        requires { length self.old.given ≡ length self.old.seen }
+        ensures same_length { length self.new.given ≡ length self.new.seen }
+        ensures same_format { self.new.format ≡ self.old.format }
+        ensures taken { (vars : ℕ) (taken : List (List ℕ)) → AreTaken vars taken self.old → OnOk result (AreTaken vars (taken ++ words.entry) self.new) }
+    {
+        for word in words {
+            self.take(word)?;
+        }
+        Ok(())
+    }
+
+    fn take(&mut self, word: &[u8]) -> Result<(), ReportKind>
+        requires { length self.old.given ≡ length self.old.seen }
+        ensures same_length { length self.new.given ≡ length self.new.seen }
+        ensures same_format { self.new.format ≡ self.old.format }
+        ensures taken { (vars : ℕ) (taken : List (List ℕ)) → AreTaken vars taken self.old → OnOk result (AreTaken vars (taken ++ word.now ∷ []) self.new) }
+    {
+        if self.ended {
+            return Err(ReportKind::Syntax);
+        }
+        match value_word(self.format, word) {
+            None => return Err(ReportKind::Syntax),
+            Some(ValueWord::End) => self.ended = true,
+            Some(ValueWord::Literal { positive, var }) => self.give(positive, var)?,
+        }
+        Ok(())
+    }
+
+    /// Gives a variable its value.
+    fn give(&mut self, positive: bool, var: u32) -> Result<(), ReportKind>
+        requires { length self.old.given ≡ length self.old.seen }
+        ensures same_length { length self.new.given ≡ length self.new.seen }
+        ensures same_format { self.new.format ≡ self.old.format }
+        ensures taken { (vars : ℕ) (taken : List (List ℕ)) (word : List ℕ) → AreTaken vars taken self.old → self.old.ended ≡ false
+            → IsValueWord self.old.format word (ValueWord.Literal positive var) → OnOk result (AreTaken vars (taken ++ word ∷ []) self.new) }
+    {
+        if var == 0 || var > self.given.len() {
+            return Err(ReportKind::BadVariable);
+        }
+        // Where no variable is left, one is repeated.
+        if self.left == 0 || self.seen.get(var) {
+            return Err(ReportKind::RepeatedVariable);
+        }
+        self.seen.set(var, true);
+        self.given.set(var, positive);
+        self.left -= 1;
+        Ok(())
+    }
+
+    /// The values of all variables.
+    pub(crate) fn finish(self) -> Result<Assignment, ReportKind>
+        ensures { (vars : ℕ) (taken : List (List ℕ)) → AreTaken vars taken self → IfOk result (λ values. AreSpelled self.format vars taken values) }
+    {
+        if self.left > 0 || self.ended != has_end(self.format) {
+            return Err(ReportKind::Unfinished);
+        }
+        Ok(self.given)
+    }
+}
+
+/// Whether the literals of the format have an end.
+fn has_end(format: Format) -> bool
+    ensures { result ≡ has_end format }
+{
+    match format {
+        Format::Opb => false,
+        Format::Cnf | Format::Icnf => true,
+    }
+}

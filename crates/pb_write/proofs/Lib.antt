@@ -1,0 +1,15 @@
+pub mod Numerals
+pub mod Cutting
+pub mod OpbWords
+pub mod Growing
+pub mod Meaning
+pub mod OpbLines
+pub mod OpbSpelled
+pub mod CnfLines
+pub mod CnfSpelled
+pub mod Limits
+pub mod Spelled
+pub mod Counting
+pub mod ClauseForms
+pub mod Taken
+pub mod Faults

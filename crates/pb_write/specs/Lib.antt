@@ -1,0 +1,4 @@
+pub mod Text
+pub mod Pieces
+pub mod Written
+pub mod Laws

@@ -1,0 +1,53 @@
+//! The formats that are written, and their headers.
+ghost use Rattle.std.specs.Prelude.{◌≡◌, OnOk};
+ghost use Rattle.pb_write.specs.Written.{Adds, written_format as format_written};
+ghost use Rattle.pb_write.specs.Text.{header_start, header_middle, header_text};
+
+use crate::put::{put, put_number};
+use pb_read::Format;
+use std::io::{self, Write};
+
+/// The format in which an instance of this format is written. That of iCNF is CNF: its header keeps the number of
+/// variables, for which iCNF has no place, and other solvers read it.
+pub fn written_format(format: Format) -> Format
+    ensures { result ≡ format_written format }
+{
+    match format {
+        Format::Opb => Format::Opb,
+        Format::Cnf | Format::Icnf => Format::Cnf,
+    }
+}
+
+/// The header line, with the numbers of variables and of constraints.
+pub(crate) fn put_header<W: Write>(
+    out: &mut W,
+    format: Format,
+    vars: u32,
+    constraints: usize,
+) -> io::Result<()>
+    ensures { OnOk result (Adds W.contents out.old out.new (header_text format vars constraints)) }
+{
+    put(out, start_of(format))?;
+    put_number(out, vars)?;
+    put(out, middle_of(format))?;
+    put_number(out, constraints)?;
+    put(out, b"\n")
+}
+
+fn start_of(format: Format) -> &'static [u8]
+    ensures { result.now ≡ header_start format }
+{
+    match format {
+        Format::Opb => b"* #variable= ",
+        Format::Cnf | Format::Icnf => b"p cnf ",
+    }
+}
+
+fn middle_of(format: Format) -> &'static [u8]
+    ensures { result.now ≡ header_middle format }
+{
+    match format {
+        Format::Opb => b" #constraint= ",
+        Format::Cnf | Format::Icnf => b" ",
+    }
+}

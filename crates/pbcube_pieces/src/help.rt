@@ -1,0 +1,29 @@
+//! What `-h` and `--help` say. Lines are broken here, since clap's help is not wrapped.
+
+/// What the program does, for `-h`.
+pub const ABOUT: &str = "Writes the pieces of a pseudo-Boolean instance as instances of their own";
+
+/// What the program does, for `--help`.
+pub const LONG_ABOUT: &str = "\
+Writes the pieces into which cubes and a split divide a pseudo-Boolean instance,
+each as an instance of its own, so that each can be solved wherever there is a
+core: one piece for each cube, and the remainder. The least assignment of the
+instance is the first of those of its pieces.";
+
+/// The end of `--help`: the files, examples and exit statuses.
+pub const EXAMPLES_AND_STATUSES: &str = "\
+The pieces are DIR/NUMBER.opb, or .cnf for an instance of clauses, with leading
+zeros, so that they sort by number. DIR/index is written last: it tells the
+number of pieces, the format and the variables that all of them have, the
+SHA-256 digest of FILE, and then the pieces' names. No file is overwritten.
+
+Examples:
+  pbcube_pieces --split 3 --out pieces instance.opb      nine pieces
+  pbcube_pieces --cubes cubes.txt --out pieces instance.opb
+  pbcube_pieces --format icnf --out pieces formula.icnf  its own cubes
+
+Exit status:
+   0  all is written; also after help
+   1  a file cannot be opened, read or written, an input is refused, or memory
+      ran out
+   2  the command line is refused";

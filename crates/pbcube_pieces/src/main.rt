@@ -1,0 +1,91 @@
+//! `pbcube_pieces`: the pieces of a pseudo-Boolean instance as texts, from the command line.
+#![tactic(auto)]
+
+mod asked;
+mod command;
+mod faults;
+mod folders;
+mod help;
+mod index;
+mod names;
+mod pieces;
+mod prepared;
+mod running;
+mod words;
+
+use crate::folders::Folders;
+use crate::running::{out_of_memory, program};
+use std::alloc::{AllocError, Global};
+use std::env;
+use std::fs::{self, File};
+use std::io::{self, ErrorKind};
+use std::process::ExitCode;
+
+/// The files and folders of the system.
+#[derive(Drop)]
+struct SystemFolders<'a> {
+    rt: &'a HostRuntime,
+}
+
+impl Folders for SystemFolders<'_> {
+    type Input = File;
+
+    type Output = File;
+
+    fn open(&mut self, name: &str) -> io::Result<File> {
+        fs::open(self.rt, name)
+    }
+
+    fn make_folder(&mut self, name: &str) -> io::Result<()> {
+        fs::create_dir_all(self.rt, name)
+    }
+
+    fn exists(&mut self, name: &str) -> io::Result<bool> {
+        fs::exists(self.rt, name)
+    }
+
+    fn create(&mut self, name: &str) -> io::Result<File> {
+        File::create_new(self.rt, name)
+    }
+}
+
+/// Runs the program on the system's words, files and outputs. Words that are no text end with status 2.
+fn main(rt: HostRuntime) -> ExitCode {
+    let mut out = rt.stdout();
+    let mut err = rt.stderr();
+    let texts = match texts_of(&rt) {
+        Ok(texts) => texts,
+        Err(fault) => {
+            return if fault.kind() == ErrorKind::OutOfMemory {
+                ExitCode::from(out_of_memory(&mut err))
+            } else {
+                ExitCode::from(2)
+            };
+        }
+    };
+    let mut folders = SystemFolders { rt: &rt };
+    let status = match words_of(rt.alloc(), &texts) {
+        Ok(words) => program(rt.alloc(), &words, &mut folders, &mut out, &mut err),
+        Err(_) => out_of_memory(&mut err),
+    };
+    ExitCode::from(status)
+}
+
+fn texts_of(rt: &HostRuntime) -> io::Result<Vec<String>> {
+    let mut texts = Vec::new(rt.alloc());
+    for text in env::args(rt)? {
+        texts.push(text)?;
+    }
+    Ok(texts)
+}
+
+fn words_of<'a>(alloc: Global, texts: &'a [String]) -> Result<Vec<&'a str>, AllocError> {
+    let mut words = Vec::new(alloc);
+    for text in texts {
+        words.push(text.as_str())?;
+    }
+    Ok(words)
+}
+
+#[cfg(test)]
+mod tests;

@@ -1,0 +1,77 @@
+//! The program over any files and any outputs.
+ghost use Rattle.std.specs.Prelude.{◌≤◌};
+
+use crate::asked::Line;
+use crate::faults::Fault;
+use crate::folders::Folders;
+use crate::pieces::write_pieces;
+use crate::prepared::prepare;
+use crate::words::line;
+use clap::Error;
+use clap::error::ErrorKind;
+use std::alloc::Global;
+use std::io::Write;
+
+/// Runs the program on its words, its own name first, and answers its exit status.
+pub fn program<'a, F: Folders, W: Write, E: Write>(
+    alloc: Global,
+    words: &'a [&'a str],
+    folders: &mut F,
+    out: &mut W,
+    err: &mut E,
+) -> u8
+    ensures { result ≤ 2 }
+{
+    let line = match line(alloc, words) {
+        Ok(line) => line,
+        Err(fault) => return end_at_line(&fault, out, err),
+    };
+    match write_all(alloc, folders, &line) {
+        Ok(()) => 0,
+        Err(fault) => end_at_fault(&fault, err),
+    }
+}
+
+/// The program's end where its words found no memory.
+pub fn out_of_memory<E: Write>(err: &mut E) -> u8
+    ensures { result ≤ 2 }
+{
+    end_at_fault(&Fault::Memory, err)
+}
+
+fn write_all<'a, F: Folders>(
+    alloc: Global,
+    folders: &mut F,
+    line: &Line<'a>,
+) -> Result<(), Fault<'a>> {
+    let prepared = prepare(alloc, folders, line)?;
+    write_pieces(alloc, folders, line, &prepared)
+}
+
+/// The end where the words ask for no run: help, a refusal, or no memory.
+fn end_at_line<W: Write, E: Write>(fault: &Error, out: &mut W, err: &mut E) -> u8
+    ensures { result ≤ 2 }
+{
+    if fault.kind() == ErrorKind::OutOfMemory {
+        return out_of_memory(err);
+    }
+    if fault.use_stderr() {
+        let _ = write!(err, "{fault}");
+        return 2;
+    }
+    match write!(out, "{fault}") {
+        Ok(()) => 0,
+        Err(_) => {
+            let _ = writeln!(err, "pbcube_pieces: cannot write");
+            1
+        }
+    }
+}
+
+/// One line to the standard error, whose own faults are ignored.
+fn end_at_fault<E: Write>(fault: &Fault<'_>, err: &mut E) -> u8
+    ensures { result ≤ 2 }
+{
+    let _ = writeln!(err, "pbcube_pieces: {fault}");
+    1
+}

@@ -1,0 +1,81 @@
+#!/usr/bin/env python3
+"""Solves the pieces that pbcube_pieces writes of each example one by one, and prints where the first of their answers is not that
+of the whole instance, or where the index does not tell what lies in the folder.
+
+    tests/pieces.py [PBCUBE PBCUBE_PIECES]
+
+Without words it takes the programs that the merge gate built by LLVM.
+"""
+import hashlib
+import subprocess
+import sys
+import tempfile
+from pathlib import Path
+
+TOP = Path(__file__).resolve().parent.parent
+FORMATS = ("opb", "cnf", "icnf")
+
+
+def ran(words):
+    return subprocess.run(words, capture_output=True, text=True, timeout=120)
+
+
+def rank(out):
+    """What orders the reports of pieces: by cost, then by the first variable that differs, 0 before 1; none where infeasible."""
+    lines = {line[0]: line.split()[1:] for line in out.splitlines()}
+    if "v" not in lines:
+        return None
+    values = [not word.startswith("-") for word in lines["v"] if word != "0"]
+    return int(lines.get("o", ["0"])[0]), values
+
+
+def divisions(pbcube, instance):
+    """Words that divide the instance. A split of more variables than it has is refused."""
+    for split in ("0", "1", "2"):
+        whole = ran([pbcube, "--format", instance.suffix[1:], "--split", split, str(instance)])
+        if "BadSplit" not in whole.stdout:
+            yield ["--split", split]
+    cubes = instance.with_suffix(".cubes")
+    if cubes.exists():
+        yield ["--cubes", str(cubes)]
+        yield ["--cubes", str(cubes), "--split", "1"]
+
+
+def faults_of(pbcube, splitter, instance, words, folder):
+    """What is wrong with the pieces of one instance."""
+    split = ran([splitter, "--format", instance.suffix[1:], *words, "--out", str(folder), str(instance)])
+    if split.returncode or split.stdout or split.stderr:
+        yield f"status {split.returncode}: {split.stderr.strip()}"
+        return
+    index = (folder / "index").read_text().splitlines()
+    told = dict(line.split(" ", 1) for line in index[:4])
+    names = index[4:]
+    if told["sha256"] != hashlib.sha256(instance.read_bytes()).hexdigest():
+        yield "the index has another digest"
+    if names != sorted(names) or int(told["pieces"]) != len(names) or {*names, "index"} != {it.name for it in folder.iterdir()}:
+        yield "the index has other pieces than the folder"
+    outs = [ran([pbcube, "--format", told["format"], str(folder / name)]).stdout for name in names]
+    first = min((out for out in outs if rank(out)), key=rank, default="s UNSATISFIABLE\n")
+    if first != instance.with_suffix(".expected").read_text():
+        yield f"the first answer of the pieces is {first!r}"
+    again = ran([splitter, "--format", instance.suffix[1:], "--out", str(folder), str(instance)])
+    if again.returncode != 1 or again.stderr != f"pbcube_pieces: {folder} holds an index already\n":
+        yield f"a folder with an index is taken: status {again.returncode}, {again.stderr.strip()}"
+
+
+def main():
+    pbcube, splitter = sys.argv[1:] or [str(TOP / f"crates/{name}/out/{name}") for name in ("pbcube", "pbcube_pieces")]
+    count = failed = 0
+    for instance in sorted(it for it in (TOP / "examples").iterdir() if it.suffix[1:] in FORMATS):
+        for words in divisions(pbcube, instance):
+            with tempfile.TemporaryDirectory() as room:
+                for fault in faults_of(pbcube, splitter, instance, words, Path(room) / "some" / "pieces"):
+                    print(f"pieces: {instance.name} {' '.join(words)}: {fault}")
+                    failed += 1
+            count += 1
+    print(f"pieces: {count} divisions of examples, {failed} faults")
+    sys.exit(failed > 0)
+
+
+if __name__ == "__main__":
+    main()
