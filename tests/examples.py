@@ -1,5 +1,6 @@
 #!/usr/bin/env python3
-"""Runs the built program on the examples and on the commands that README.md shows, and prints what differs.
+"""Runs the built program on the examples, on the commands that README.md shows and on words that are no text, and prints what
+differs.
 
     tests/examples.py [PROGRAM ..]
 
@@ -64,6 +65,12 @@ def readme_rows():
             yield words.split(), "".join(f"{line}\n" for line in lines), "", int(status)
 
 
+def word_rows():
+    """The same for words that are no text."""
+    yield [b"\xff"], "", "", 2
+    yield ["examples/tie.opb", b"\xff"], "", "", 2
+
+
 def differences(program, words, out, complaint, status):
     """The lines that tell how the run is not as expected."""
     ran = subprocess.run([program, *words], cwd=TOP, stdin=subprocess.DEVNULL, capture_output=True, timeout=60)
@@ -77,14 +84,14 @@ def differences(program, words, out, complaint, status):
 
 
 def main(programs):
-    rows = [*example_rows(), *readme_rows()]
+    rows = [*example_rows(), *readme_rows(), *word_rows()]
     failed = 0
     for program in programs or built():
         for row in rows:
             found = differences(program, *row)
             if found:
                 failed += 1
-                print(f"examples: {program} {' '.join(row[0])}", *found, sep="\n  ")
+                print(f"examples: {program} {' '.join(map(str, row[0]))}", *found, sep="\n  ")
     print(f"examples and commands: {len(rows) * len(programs or built()) - failed} passed, {failed} failed")
     return 1 if failed else 0
 

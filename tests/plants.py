@@ -6,12 +6,13 @@
 A plant is tests/plants/LIST/NAME.plant: why it tells something, its crate, the guard that is to refuse it, and the change in
 the form of a must-fail edit. The guards are
 
-    prover      the crate is no longer proved (`rt must-fail` on the copy)
-    test CRATE  a test of that crate fails (`rt try --test`, no proof)
-    work        more steps or more requests for memory than tests/work.py allows (no proof)
-    program     the program, if it can still be proved and built, fails in one of tests/examples.py, budgets.py, faults.py and
-                threads.py
-    none        nothing refuses it, and the plant says why that is right
+    prover           the crate is no longer proved (`rt must-fail` on the copy)
+    test CRATE NAME  the tests of that crate whose names contain NAME fail (`rt try --test`, no proof)
+    work NAME ..     on one of these instances, or of all, a run takes more steps than tests/work.py allows (no proof)
+    requests NAME    on this instance a run makes more requests for memory than tests/memory.py allows (no proof)
+    program          the program, if it can still be proved and built, fails in one of tests/examples.py, budgets.py, faults.py,
+                     threads.py and memory.py
+    none             nothing refuses it, and the plant says why that is right
 
 With no names all are planted: hours, so this is no part of the gate. `rt check` of each crate beforehand saves most of that.
 """
@@ -25,11 +26,12 @@ from dataclasses import dataclass
 from pathlib import Path
 
 sys.dont_write_bytecode = True
+import memory
 import work
 from examples import TOP
 
 PLANTS = TOP / "tests/plants"
-SCRIPTS = ("examples.py", "budgets.py", "faults.py", "threads.py")
+SCRIPTS = ("examples.py", "budgets.py", "faults.py", "threads.py", "memory.py")
 
 
 @dataclass(frozen=True)
@@ -63,11 +65,11 @@ def plant_of(path):
 
 
 class Copy:
-    """A copy of the repository, with what earlier proofs kept."""
+    """A copy of the repository. `rt` begins there with what earlier proofs on this machine kept."""
 
     def __init__(self, folder):
         self.top = folder / TOP.name
-        shutil.copytree(TOP, self.top, symlinks=True, ignore=shutil.ignore_patterns(".git"))
+        shutil.copytree(TOP, self.top, symlinks=True, ignore=shutil.ignore_patterns(".git", "out"))
 
     def run(self, words, folder="."):
         """The exit status, and all that was said."""
@@ -90,23 +92,31 @@ class Copy:
         """What the plant's guard says against it, or None where it lets the plant pass."""
         before = self.apply(plant)
         try:
-            guard, _, crate = plant.guard.partition(" ")
-            return {"test": self.failing_test, "work": self.more_work, "program": self.failing_program}[guard](crate)
+            guard, *words = plant.guard.split()
+            return getattr(self, f"by_{guard}")(*words)
         finally:
             for path, text in before.items():
                 path.write_text(text)
 
-    def failing_test(self, crate):
-        status, said = self.run(["rt", "try", "--test"], f"crates/{crate}")
+    def by_test(self, crate, name):
+        status, said = self.run(["rt", "try", "--test", "--", name], f"crates/{crate}")
         if "\ntests: " not in f"\n{said}":
             sys.exit(f"plants: {crate} was not tried:\n{said}")
         failing = re.findall(r"^test (\S+) \.\.\. (?!ok)", said, re.M)
         return (", ".join(failing) or said.splitlines()[-1]) if status else None
 
-    def more_work(self, _):
-        return "; ".join(work.complaints(self.top)) or None
+    def by_work(self, *names):
+        return "; ".join(work.complaints(self.top, names)) or None
 
-    def failing_program(self, _):
+    def by_requests(self, name):
+        """By the compiled code alone, to which the first request is refused that is not allowed."""
+        requests = memory.bound(memory.REQUESTS[name]) + 1
+        told, said = work.ends(self.top, [name], 1, requests)
+        if name not in told:
+            sys.exit(f"plants: {name} was not run: {said}")
+        return None if "run=ended status=0" in told[name] else f"{name}: more than {requests - 1} requests"
+
+    def by_program(self):
         status, said = self.run(["./pbcube", "--help"])
         if status and "proved" in said:
             return f"no longer proved: {said.splitlines()[-1]}"

@@ -6,7 +6,7 @@
  *                 then THREADS_ALL counts
  *   THREADS_TELL  a file descriptor on which a line is written for each thread that is made (`made`), for one that was
  *                 waited for too early (`early`), and for each that ends (`ended`, its number, and the nanoseconds of its
- *                 processor)
+ *                 processor from where it was let go)
  */
 #define _GNU_SOURCE
 #include <dlfcn.h>
@@ -53,8 +53,9 @@ static void *watched(void *given)
     if (it.number == number_of("THREADS_HELD"))
         while (atomic_load(&at_rest) < atomic_load(&made))
             usleep(TURN);
+    long waited = processor_time();
     void *answer = it.start(it.given);
-    tell("ended", it.number, processor_time());
+    tell("ended", it.number, processor_time() - waited);
     atomic_fetch_add(&at_rest, 1);
     return answer;
 }

@@ -5,9 +5,9 @@
 
 Without a word it takes the programs that the merge gate built. The library threads.c is compiled by cc and preloaded. W workers
 are W - 1 threads beside the program's own, of which all are made before one is waited for, and no more than there are pieces. No
-worker does all: each of two has a tenth of the processor's time at least. And none waits for another's share: a thread that is
-held back until all others have ended finds nothing left to do, and has a tenth of the time at most. Without a C compiler nothing
-is run.
+worker does all: each of two has a tenth of the processor's time at least. None waits for another's share: a thread that is
+held back until all others have ended finds nothing left to do, and has a tenth of the time at most. And none does what the other
+did: two take four times the processor's time of one at most, on few pieces and on very many. Without a C compiler nothing is run.
 """
 import os
 import subprocess
@@ -24,6 +24,8 @@ FAMILY, SIZE = "clauses", "226"
 SECONDS = 300  # after which a run is taken to hang
 SHARE = 10  # a share of the work is more than one part of so many
 CREWS = ((1, 6, 0), (2, 6, 1), (3, 6, 2), (4, 6, 3), (7, 6, 6), (64, 1, 2), (64, 0, 0))  # workers, split, threads
+MORE = 4  # two workers together take no more than so many times what one takes
+MANY = 50_000  # pieces that each take next to no time
 HELD = ((2, 1), (3, 1), (3, 2), (4, 1), (4, 2))  # workers, and the thread that is held back
 
 
@@ -39,10 +41,10 @@ class Watched:
     all_taken: float
 
 
-def watched(program, library, file, workers, split, made, held):
+def watched(program, library, words, workers, made, held):
     told, teller = os.pipe()
     environment = {"LD_PRELOAD": library, "THREADS_ALL": str(made), "THREADS_HELD": str(held), "THREADS_TELL": str(teller)}
-    words = [program, "--format", "cnf", "--workers", str(workers), "--split", str(split), file]
+    words = [program, "--format", "cnf", "--workers", str(workers), *words]
     before = os.times()
     ran = subprocess.run(words, env=environment, pass_fds=[teller], stdin=subprocess.DEVNULL, capture_output=True, timeout=SECONDS)
     after = os.times()
@@ -55,11 +57,25 @@ def watched(program, library, file, workers, split, made, held):
     return Watched(ran.stdout, kinds.count("made"), kinds.count("early"), taken, all_taken)
 
 
+def repetition(program, library, words):
+    """The processor seconds of one worker and of two, where two take too many."""
+    one = watched(program, library, words, 1, 0, 0).all_taken
+    two = watched(program, library, words, 2, 1, 0).all_taken
+    if two > MORE * one:
+        yield f"two workers take {two:.3f} processor seconds where one takes {one:.3f}: {' '.join(map(str, words))}"
+
+
 def complaints(program, library, file):
     """What is wrong, one line for each."""
-    whole = watched(program, library, file, 1, 0, 0, 0).report
+    whole = watched(program, library, (file,), 1, 0, 0).report
+    cubes = file.with_suffix(".cubes")
+    cubes.write_text("".join(f"a {1 + cube % 100} {-101 - cube // 100} 0\n" for cube in range(MANY)))
+    small = file.with_suffix(".small")
+    small.write_text(f"p cnf {101 + MANY // 100} 1\n1 0\n")
+    yield from repetition(program, library, ("--split", "6", file))
+    yield from repetition(program, library, ("--cubes", cubes, small))
     for workers, split, made in CREWS:
-        run = watched(program, library, file, workers, split, made, 0)
+        run = watched(program, library, ("--split", str(split), file), workers, made, 0)
         name = f"{workers} workers, split {split}"
         if run.report != whole:
             yield f"{name}: another report than one worker's"
@@ -69,7 +85,7 @@ def complaints(program, library, file):
         if workers == 2 and SHARE * least < run.all_taken:
             yield f"{name}: one has {least:.3f} of {run.all_taken:.3f} processor seconds"
     for workers, held in HELD:
-        run = watched(program, library, file, workers, 6, workers - 1, held)
+        run = watched(program, library, ("--split", "6", file), workers, workers - 1, held)
         name = f"{workers} workers, thread {held} held back"
         if run.report != whole:
             yield f"{name}: another report than one worker's"
@@ -91,7 +107,7 @@ def main(programs):
             for line in complaints(Path(program).resolve(), library, file):
                 failed += 1
                 print(f"threads: {program}: {line}")
-    runs = (1 + len(CREWS) + len(HELD)) * len(programs or built())
+    runs = (1 + 4 + len(CREWS) + len(HELD)) * len(programs or built())
     print(f"threads: {runs} runs, {failed} complaints")
     return 1 if failed else 0
 

@@ -20,18 +20,18 @@ from pathlib import Path
 TOP = Path(__file__).resolve().parent.parent
 INSTANCES = TOP / "tests/work"
 STEPS = 20_000_000
-REQUESTS = 400
+REQUESTS = 400  # memory.py bounds those of each instance
 SECONDS = 20  # for the run of the compiled code, with checks, that stands beside the interpreter's
 SIDES = 2  # so many parts of the instances are run at the same time
 
 
-def ends(top, names):
+def ends(top, names, steps=STEPS, requests=REQUESTS):
     """How the runs on the instances of these names ended, by name, and the last line that was said."""
     with tempfile.TemporaryDirectory(prefix="pbcube-work-") as folder:
         for name in names:
             for file in (name, f"{name}.stdout"):
                 shutil.copy(INSTANCES / file, folder)
-        words = ["rt", "try", "--steps", STEPS, "--seconds", SECONDS, "--fail-alloc", REQUESTS, "--cases", folder]
+        words = ["rt", "try", "--steps", steps, "--seconds", SECONDS, "--fail-alloc", requests, "--cases", folder]
         ran = subprocess.run(list(map(str, words)), cwd=top / "crates/bench_work", stdin=subprocess.DEVNULL, capture_output=True, text=True)
     said = ran.stdout + ran.stderr
     return dict(re.findall(r"^case=(\S+) (.*)$", said, re.M)), said.strip().split("\n")[-1]
@@ -46,11 +46,12 @@ def complaint(end):
     return None
 
 
-def complaints(top):
-    """What is wrong with the runs of the repository in that folder, one line for each."""
-    names = sorted(it.stem for it in INSTANCES.glob("*.stdout"))
+def complaints(top, chosen=()):
+    """What is wrong with the runs of the repository in that folder on the chosen instances, or on all, one line for each."""
+    names = sorted(chosen or (it.stem for it in INSTANCES.glob("*.stdout")))
+    sides = [names[side::SIDES] for side in range(SIDES) if not chosen] or [names]
     with ThreadPoolExecutor() as pool:
-        parts = list(pool.map(lambda side: ends(top, names[side::SIDES]), range(SIDES)))
+        parts = list(pool.map(lambda side: ends(top, side), sides))
     told = {name: end for part, _ in parts for name, end in part.items()}
     if not names or set(told) != set(names):
         return [f"not run on each instance: {parts[0][1]}"]

@@ -1,0 +1,124 @@
+#!/usr/bin/env python3
+"""Bounds what the built program takes of memory: how many requests it makes, and the most bytes that it holds at once.
+
+    tests/memory.py [PROGRAM ..]
+
+Without a word it takes the programs that the merge gate built. The library memory.c is compiled by cc and preloaded. Both
+numbers are the same in each run of one worker; each bound is what the program takes today and a tenth more. So a body that asks
+at each node, for each row or once more for each cube fails here, and one that keeps the text, or tables for each worker. Without
+a C compiler nothing is run.
+"""
+import struct
+import subprocess
+import sys
+import tempfile
+from dataclasses import dataclass
+from pathlib import Path
+
+sys.dont_write_bytecode = True
+from examples import STATUSES, TOP, built
+from faults import build_library
+
+SECONDS = 120  # after which a run is taken to hang
+MEBIBYTE = 1 << 20
+
+# A comment of 65 mebibytes, in lines of 64 bytes, and a constraint.
+LONG_TEXT = ("*" + "." * 62 + "\n") * (65 * MEBIBYTE // 64) + "1 x1 >= 0 ;\n"
+# Numbers are written with zeros before them, so that the text is a good part of what its tables take.
+WIDE_TEXT = "min: 1 x1 ;\n" + "".join(
+    "".join(f"+000001 x{1 + (row * 7919 + place * 104729) % 5000:08} " for place in range(20)) + ">= 000001 ;\n" for row in range(5000)
+)
+CUBES = "".join(f"a {1 + cube % 20} {-21 - cube // 20 % 20} {41 + cube // 400} 0\n" for cube in range(8000))
+SOME_CLAUSES = "".join(f"1 x{1 + place} 1 ~x{2 + place} >= 1 ;\n" for place in range(80))
+
+
+# What one worker asks for on each instance of tests/work/ today.
+REQUESTS = {
+    "assignment": 124,
+    "chain": 123,
+    "clauses": 119,
+    "colours": 126,
+    "cubes": 343,
+    "cubes_of_a_contradiction": 375,
+    "cubes_of_last_variables": 183,
+    "garden": 128,
+    "knapsack": 111,
+    "long_row": 99,
+    "machines": 127,
+    "packages": 123,
+    "unconstrained": 99,
+    "wide_knapsack": 115,
+}
+
+
+@dataclass(frozen=True)
+class Run:
+    """A run with the library: its words, its exit status, and what it takes today, which is the requests for memory and the
+    mebibytes that it holds at once, where these are bounded."""
+
+    name: str
+    words: tuple
+    status: int
+    requests: int
+    mebibytes: float = float("inf")
+
+
+def bound(today):
+    """A tenth more."""
+    return today + today // 10
+
+
+def runs(room):
+    """The runs, over files that are written into the room."""
+    for name, text in (("long.opb", LONG_TEXT), ("wide.opb", WIDE_TEXT), ("some.opb", SOME_CLAUSES), ("some.cubes", CUBES)):
+        (room / name).write_text(text)
+    cubes = ("--cubes", room / "some.cubes", room / "some.opb")
+    yield Run("a long text", (room / "long.opb",), 10, 81, 128.0)
+    yield Run("long rows", ("--nodes", "0", room / "wide.opb"), 0, 178, 11.8)
+    yield Run("many cubes", cubes, 10, 16_189, 1.6)
+    yield Run("many cubes, two workers", ("--workers", "2", *cubes), 10, 16_251, 1.6)
+    for name, requests in REQUESTS.items():
+        text = (TOP / "tests/work" / name).read_text()
+        status = next(STATUSES[line] for line in (TOP / f"tests/work/{name}.stdout").read_text().splitlines() if line in STATUSES)
+        kind = {"p cnf": "cnf", "p inc": "icnf"}.get(text[:5], "opb")
+        yield Run(name, ("--format", kind, TOP / "tests/work" / name), status, requests)
+
+
+def taken(program, library, counts, words):
+    """The exit status, the requests for memory, and the most bytes that were held at once."""
+    counts.write_bytes(bytes(24))
+    environment = {"LD_PRELOAD": library, "MEMORY_FILE": str(counts)}
+    ran = subprocess.run([program, *words], env=environment, stdin=subprocess.DEVNULL, capture_output=True, timeout=SECONDS)
+    requests, _, most = struct.unpack("=3q", counts.read_bytes())
+    return ran.returncode, requests, most
+
+
+def complaints(program, library, room):
+    """What is wrong, one line for each."""
+    for run in runs(room):
+        status, requests, most = taken(program, library, room / "counts", run.words)
+        if status != run.status:
+            yield f"{run.name}: status {status}"
+        if requests > bound(run.requests):
+            yield f"{run.name}: {requests} requests for memory, where {run.requests} were enough"
+        if most > 1.1 * run.mebibytes * MEBIBYTE:
+            yield f"{run.name}: {most / MEBIBYTE:.2f} mebibytes at once, where {run.mebibytes} were enough"
+
+
+def main(programs):
+    failed = 0
+    with tempfile.TemporaryDirectory(prefix="pbcube-memory-") as room:
+        library = build_library(Path(room), "memory")
+        if not library:
+            print("memory: left out, since there is no C compiler (cc) here")
+            return 0
+        for program in programs or built():
+            for line in complaints(Path(program).resolve(), library, Path(room)):
+                failed += 1
+                print(f"memory: {program}: {line}")
+    print(f"memory: {failed} complaints")
+    return 1 if failed else 0
+
+
+if __name__ == "__main__":
+    sys.exit(main(sys.argv[1:]))
