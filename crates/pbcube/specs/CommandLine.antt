@@ -1,64 +1,28 @@
 -- The one command, and what a line takes from its matches.
-use Rattle.std.specs.Prelude.{◌≡◌, ◌⊎◌, ◌≤◌, ℕ, List, [], ◌∷◌, Option, Some, None, option_map, ⊤, codes, true, Ok, IsSomeAnd}
-use Rattle.std.specs.Str.Parse.{ParsesUnsigned}
-use Rattle.std.specs.declared.num.ParseIntError.{ParseIntError}
+use Rattle.std.specs.Prelude.{◌≡◌, ◌⊎◌, ◌≤◌, List, [], ◌∷◌, Some, option_map, codes, IsSomeAnd}
 use Rattle.clap.specs.Words.{App, IsAmong, Row, Rule, Text, fault_of, first_of, matches_of, one_of, new_app, new_rule, with_rule}
 use Rattle.clap.specs.declared.error.kind.ErrorKind.{ErrorKind}
 use Rattle.clap.specs.declared.error.kind.ErrorKind.TheVariants.{InvalidValue, OutOfMemory}
 use Rattle.clap.specs.declared.builder.ValueParser.TheVariants as parser
 use Rattle.pb_inst.specs.declared.TheConstants.{MAX_WORKERS}
-use Rattle.pb_cubes.specs.declared.TheConstants.{MAX_SPLIT}
-use Rattle.pb_read.specs.declared.format.Format.{Format}
-use Rattle.pb_read.specs.declared.format.Format.TheVariants.{Opb, Cnf, Icnf}
+use Rattle.pb_line.specs.Options.{cubes, file, format, format_name, split}
+use Rattle.pb_line.specs.Values.{Spells, SpellsIfGiven}
 use Rattle.pbcube.specs.declared.asked.Line.{Line}
 use Rattle.pbcube.specs.declared.asked.TheConstants.{MAX_NODES}
 
 -- Help has a name for the value of each, which `value_names` counts; no word is read by it.
 
--- `--format`, by default `opb`
-abbrev pub format : Rule
-format = record (new_rule (codes "format")) { long = Some (codes "format"); value_names = 1; defaults = codes "opb" ∷ [] }
-
 -- `--workers`, a number from 1 to `MAX_WORKERS`, by default 1
 abbrev pub workers : Rule
 workers = record (new_rule (codes "workers")) { long = Some (codes "workers"); value_names = 1; defaults = codes "1" ∷ []; parser = Some (parser.Unsigned 1 MAX_WORKERS) }
-
--- `--split`, a number from 0 to `MAX_SPLIT`, by default 0
-abbrev pub split : Rule
-split = record (new_rule (codes "split")) { long = Some (codes "split"); value_names = 1; defaults = codes "0" ∷ []; parser = Some (parser.Unsigned 0 MAX_SPLIT) }
-
--- `--cubes`
-abbrev pub cubes : Rule
-cubes = record (new_rule (codes "cubes")) { long = Some (codes "cubes"); value_names = 1 }
 
 -- `--nodes`, a number from 0 to `MAX_NODES`, without a default
 abbrev pub nodes : Rule
 nodes = record (new_rule (codes "nodes")) { long = Some (codes "nodes"); value_names = 1; parser = Some (parser.Unsigned 0 MAX_NODES) }
 
--- the file, which has to be there
-abbrev pub file : Rule
-file = record (new_rule (codes "file")) { required = true; value_names = 1 }
-
 -- `pbcube [--format FORMAT] [--workers W] [--split K] [--cubes FILE] [--nodes B] FILE`
 abbrev pub pbcube : App
 pbcube = with_rule (with_rule (with_rule (with_rule (with_rule (with_rule (new_app (codes "pbcube")) format) workers) split) cubes) nodes) file
-
--- the name of a format
-abbrev pub format_name : Format → Text
-format_name Opb = codes "opb"
-format_name Cnf = codes "cnf"
-format_name Icnf = codes "icnf"
-
--- the text spells the number, of so many bits
-abbrev pub Spells : ℕ → Text → ℕ → Type 0
-Spells bits text n = ParsesUnsigned {E = ParseIntError} bits 10 text (Ok n)
-
--- there is a number just where there is a text, which spells it, of so many bits
-abbrev pub SpellsIfGiven : ℕ → Option Text → Option ℕ → Type 0
-SpellsIfGiven bits None None = ⊤
-SpellsIfGiven bits (Some text) (Some n) = Spells bits text n
-SpellsIfGiven bits None (Some n) = ⊥
-SpellsIfGiven bits (Some text) None = ⊥
 
 -- the line has the values of the matches
 pub record IsLineOf (matches : List Row) (line : Line) : Type 0 where

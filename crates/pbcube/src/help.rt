@@ -10,6 +10,19 @@ that meet every constraint those of the least cost, and among these the
 lexicographically first one (x1 first, 0 before 1). It writes the cost and the
 assignment, or that nothing is feasible, or which fault the input has.";
 
+/// What help says of `--format`.
+pub const FORMAT_HELP: &str = "How FILE is written: opb, cnf or icnf";
+
+/// What help says of `--split`.
+pub const SPLIT_HELP: &str = "Divide the work by the K most frequent variables, 0 to 12";
+
+/// What help says of `--cubes`.
+pub const CUBES_HELP: &str =
+    "A file of cubes that divide the work, lines `a LITERALS 0`; none by default";
+
+/// What help says of FILE.
+pub const FILE_HELP: &str = "The file that holds the instance";
+
 /// The end of `--help`: examples and exit statuses.
 pub const EXAMPLES_AND_STATUSES: &str = "\
 Cubes and the split divide the work into pieces among the workers, which are

@@ -13,10 +13,9 @@ mod words;
 
 use crate::files::Files;
 use crate::running::{out_of_memory, program};
-use std::alloc::{AllocError, Global};
-use std::env;
+use pb_line::{texts_of, words_of};
 use std::fs::{self, File};
-use std::io::{self, ErrorKind};
+use std::io::ErrorKind;
 use std::process::ExitCode;
 
 /// The files of the system.
@@ -55,22 +54,6 @@ fn main(rt: HostRuntime) -> ExitCode {
         Err(_) => out_of_memory(&mut out, &mut err),
     };
     ExitCode::from(status)
-}
-
-fn texts_of(rt: &HostRuntime) -> io::Result<Vec<String>> {
-    let mut texts = Vec::new(rt.alloc());
-    for text in env::args(rt)? {
-        texts.push(text)?;
-    }
-    Ok(texts)
-}
-
-fn words_of<'a>(alloc: Global, texts: &'a [String]) -> Result<Vec<&'a str>, AllocError> {
-    let mut words = Vec::new(alloc);
-    for text in texts {
-        words.push(text.as_str())?;
-    }
-    Ok(words)
 }
 
 #[cfg(test)]

@@ -1,15 +1,16 @@
 //! From the words to what they ask for.
-ghost use Rattle.std.specs.Prelude.{◌≡◌, ◌≢◌, ◌≤◌, map, IfErr, IfOk, IfSome, IsNone, Some, SomeIff, []};
+ghost use Rattle.std.specs.Prelude.{◌≡◌, ◌≤◌, map, IfErr, IfOk, IfSome, IsNone, Some, SomeIff, []};
 ghost use Rattle.pb_inst.specs.declared.TheConstants.{MAX_WORKERS};
 ghost use Rattle.clap.specs.Words.{fault_of, found_of, kind_of, matches_of, rows_of};
-ghost use Rattle.pbcube.specs.CommandLine.{HasNoLine, IsLineOf, MayFailBy, format_name, pbcube};
+ghost use Rattle.pbcube.specs.CommandLine.{HasNoLine, IsLineOf, MayFailBy, pbcube};
 
 use crate::asked::Line;
 use crate::command::command;
 use clap::error::ErrorKind;
 use clap::{ArgMatches, Error};
 use pb_inst::Workers;
-use pb_solve::{Format, Options};
+use pb_line::format_of;
+use pb_solve::Options;
 use std::alloc::Global;
 
 /// Reads the words, the program's name first. Fails where clap refuses them, where they ask for help, where the format has
@@ -46,19 +47,6 @@ fn line_of<'a>(matches: &ArgMatches<'a>) -> Option<Line<'a>>
         cubes: matches.get_str("cubes"),
         options,
     })
-}
-
-// The format of this name, where it is one's.
-fn format_of(name: &str) -> Option<Format>
-    ensures some { IfSome result (λ format. name.now ≡ format_name format) }
-    ensures none { IsNone result → (format : Format) → name.now ≢ format_name format }
-{
-    match name {
-        "opb" => Some(Format::Opb),
-        "cnf" => Some(Format::Cnf),
-        "icnf" => Some(Format::Icnf),
-        _ => None,
-    }
 }
 
 // So many workers, from 1 to `MAX_WORKERS`.

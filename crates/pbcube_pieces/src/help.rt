@@ -10,6 +10,19 @@ each as an instance of its own, so that each can be solved wherever there is a
 core: one piece for each cube, and the remainder. The least assignment of the
 instance is the first of those of its pieces.";
 
+/// What help says of `--format`.
+pub const FORMAT_HELP: &str = "How FILE is written: opb, cnf or icnf";
+
+/// What help says of `--split`.
+pub const SPLIT_HELP: &str = "Divide by the K most frequent variables, 0 to 12";
+
+/// What help says of `--cubes`.
+pub const CUBES_HELP: &str =
+    "A file of cubes that divide the instance, lines `a LITERALS 0`; none by default";
+
+/// What help says of FILE.
+pub const FILE_HELP: &str = "The file that holds the instance";
+
 /// The end of `--help`: the files, examples and exit statuses.
 pub const EXAMPLES_AND_STATUSES: &str = "\
 The pieces are DIR/NUMBER.opb, or .cnf for an instance of clauses, with leading

@@ -1,13 +1,13 @@
 //! From the words to what they ask for.
 ghost use Rattle.std.specs.Prelude.{◌≡◌, map, IfOk, IfSome, []};
 ghost use Rattle.clap.specs.Words.{fault_of, found_of, matches_of, rows_of};
-ghost use Rattle.pbcube_pieces.specs.CommandLine.{IsLineOf, format_name, pbcube_pieces};
+ghost use Rattle.pbcube_pieces.specs.CommandLine.{IsLineOf, pbcube_pieces};
 
 use crate::asked::Line;
 use crate::command::command;
 use clap::error::ErrorKind;
 use clap::{ArgMatches, Error};
-use pb_read::Format;
+use pb_line::format_of;
 use std::alloc::Global;
 
 /// Reads the words, the program's name first. Fails where clap refuses them, where they ask for help, where the format has
@@ -38,16 +38,4 @@ fn line_of<'a>(matches: &ArgMatches<'a>) -> Option<Line<'a>>
         split: matches.get_one::<u32>("split")?,
         out: matches.get_str("out")?,
     })
-}
-
-// The format of this name, where it is one's.
-fn format_of(name: &str) -> Option<Format>
-    ensures { IfSome result (λ format. name.now ≡ format_name format) }
-{
-    match name {
-        "opb" => Some(Format::Opb),
-        "cnf" => Some(Format::Cnf),
-        "icnf" => Some(Format::Icnf),
-        _ => None,
-    }
 }

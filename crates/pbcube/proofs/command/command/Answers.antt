@@ -10,4 +10,4 @@ returns c =
     ∙ ap₂ with_rule (c.in_ok-arg-3.ensures.shape c.split_option.ensures.local
     ∙ ap₂ with_rule (c.in_ok-arg-2.ensures.shape c.workers_option.ensures.local
     ∙ ap₂ with_rule (c.in_ok-arg.ensures.shape c.format_option.ensures.local
-    ∙ ap₂ with_rule c.named.ensures c.format_option.ensures.rule) c.workers_option.ensures.rule) c.split_option.ensures.rule) c.cubes_option.ensures.rule) c.nodes_option.ensures.rule) c.file_operand.ensures.rule
+    ∙ ap₂ with_rule c.named-whole.ensures c.format_option.ensures.rule) c.workers_option.ensures.rule) c.split_option.ensures.rule) c.cubes_option.ensures.rule) c.nodes_option.ensures.rule) c.file_operand.ensures.rule

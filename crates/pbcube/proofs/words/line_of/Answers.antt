@@ -2,8 +2,8 @@ use Rattle.std.proofs.Common.{◌≡◌, ap, sym, subst, refl, codes, Some, opti
 use Rattle.pb_inst.specs.declared.TheConstants.{MAX_WORKERS}
 use Rattle.clap.specs.Words.{found_of, one_of, rows_of}
 use Rattle.clap.proofs.WalkLemmas.{first_value-rows, one_text-rows}
-use Rattle.pbcube.specs.CommandLine.{format_name}
-use Rattle.pbcube.proofs.Values.{not_got, same_number, spelled, spelled_if_given, unspelled, unspelled_if_given}
+use Rattle.pb_line.specs.Options.{format_name}
+use Rattle.pb_line.proofs.Values.{not_got, same_number, spelled, spelled_if_given, unspelled, unspelled_if_given}
 use Rattle.pbcube.proofs.words.line_of.Goals as goal
 
 pub returns-clause-some : goal.returns-clause-some

@@ -1,7 +1,7 @@
 use Rattle.std.proofs.Common.{rules, ◌≡◌, ◌∙◌, ap, Some}
 use Rattle.pb_cubes.specs.declared.TheConstants.{MAX_SPLIT}
 use Rattle.clap.specs.declared.builder.ValueParser.TheVariants as parser
-use Rattle.pbcube.proofs.command.split_option.Goals as goal
+use Rattle.pb_line.proofs.options.split_option.Goals as goal
 
 pub returns-clause-rule : goal.returns-clause-rule
 returns-clause-rule c =

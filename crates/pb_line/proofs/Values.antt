@@ -7,7 +7,7 @@ use Rattle.std.specs.Str.Parse.{ExplainsUnsignedError, HasUnsignedDigitsIfOk, Pa
 use Rattle.std.specs.declared.num.ParseIntError.{ParseIntError}
 use Rattle.clap.specs.Matches.{TriesOne}
 use Rattle.clap.specs.Words.{Text}
-use Rattle.pbcube.specs.CommandLine.{Spells, SpellsIfGiven}
+use Rattle.pb_line.specs.Values.{Spells, SpellsIfGiven}
 
 -- a number that was got is spelled by a text
 pub spelled : (bits : ℕ) (text : Option Text) (n m : ℕ) → m ≡ n → (text ≡ None → Some n ≡ None) → ((t : Text) → text ≡ Some t → Spells bits t n) → IsSomeAnd text (λ t. Spells bits t m)

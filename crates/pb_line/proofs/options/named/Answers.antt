@@ -1,6 +1,6 @@
 use Rattle.std.proofs.Common.{ap, ◌∙◌}
 use Rattle.clap.specs.Simple.{app_of_fields}
-use Rattle.pbcube_pieces.proofs.command.named.Goals as goal
+use Rattle.pb_line.proofs.options.named.Goals as goal
 
 pub returns : goal.returns
 returns c =

@@ -3,8 +3,8 @@ use Rattle.std.specs.Prelude.{◌≢◌}
 use Rattle.clap.specs.Words.{Text}
 use Rattle.pb_read.specs.declared.format.Format.{Format}
 use Rattle.pb_read.specs.declared.format.Format.TheVariants.{Opb, Cnf, Icnf}
-use Rattle.pbcube.specs.CommandLine.{format_name}
-use Rattle.pbcube.proofs.words.format_of.Goals as goal
+use Rattle.pb_line.specs.Options.{format_name}
+use Rattle.pb_line.proofs.formats.format_of.Goals as goal
 
 -- a text that is none of the three names is no format's
 of_no_format : (name : Text) → name ≢ codes "opb" → name ≢ codes "cnf" → name ≢ codes "icnf" → (format : Format) → name ≢ format_name format

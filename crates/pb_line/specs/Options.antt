@@ -1,0 +1,31 @@
+-- The options and the operand that the programs have in common.
+use Rattle.std.specs.Prelude.{[], ◌∷◌, Some, codes, true}
+use Rattle.clap.specs.Words.{Rule, Text, new_rule}
+use Rattle.clap.specs.declared.builder.ValueParser.TheVariants as parser
+use Rattle.pb_cubes.specs.declared.TheConstants.{MAX_SPLIT}
+use Rattle.pb_read.specs.declared.format.Format.{Format}
+use Rattle.pb_read.specs.declared.format.Format.TheVariants.{Opb, Cnf, Icnf}
+
+-- Help has a name for the value of each, which `value_names` counts; no word is read by it.
+
+-- `--format`, by default `opb`
+abbrev pub format : Rule
+format = record (new_rule (codes "format")) { long = Some (codes "format"); value_names = 1; defaults = codes "opb" ∷ [] }
+
+-- `--split`, a number from 0 to `MAX_SPLIT`, by default 0
+abbrev pub split : Rule
+split = record (new_rule (codes "split")) { long = Some (codes "split"); value_names = 1; defaults = codes "0" ∷ []; parser = Some (parser.Unsigned 0 MAX_SPLIT) }
+
+-- `--cubes`
+abbrev pub cubes : Rule
+cubes = record (new_rule (codes "cubes")) { long = Some (codes "cubes"); value_names = 1 }
+
+-- the file, which has to be there
+abbrev pub file : Rule
+file = record (new_rule (codes "file")) { required = true; value_names = 1 }
+
+-- the name of a format
+abbrev pub format_name : Format → Text
+format_name Opb = codes "opb"
+format_name Cnf = codes "cnf"
+format_name Icnf = codes "icnf"

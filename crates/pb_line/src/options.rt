@@ -1,0 +1,73 @@
+//! The options and the operand that the programs have in common. What help says of each is the program's own.
+ghost use Rattle.std.specs.Prelude.{◌≡◌, false};
+ghost use Rattle.clap.specs.Words.{app_of, new_app, rule_of};
+ghost use Rattle.pb_line.specs.Options.{format, split, cubes, file};
+
+use clap::builder::ValueParser;
+use clap::{Arg, Command};
+use pb_cubes::MAX_SPLIT;
+use std::alloc::Global;
+
+/// A command of this name without options, and what help says around them: of what it does, in short and at length, and
+/// at the end.
+pub fn named<'a>(
+    alloc: Global,
+    name: &'a str,
+    about: &'a str,
+    long_about: &'a str,
+    end: &'a str,
+) -> Command<'a>
+    ensures { app_of result ≡ new_app name.now }
+{
+    Command::new(alloc, name)
+        .about(about)
+        .long_about(long_about)
+        .after_long_help(end)
+}
+
+/// `--format FORMAT`, by default `opb`.
+pub fn format_option<'a>(alloc: Global, help: &'a str) -> Arg<'a>
+    ensures rule { rule_of result ≡ format }
+    ensures local { result.global ≡ false }
+{
+    Arg::new(alloc, "format")
+        .long("format")
+        .default_value("opb")
+        .value_name("FORMAT")
+        .help(help)
+}
+
+/// `--split K`, from 0, the default, to `MAX_SPLIT`.
+pub fn split_option<'a>(alloc: Global, help: &'a str) -> Arg<'a>
+    ensures rule { rule_of result ≡ split }
+    ensures local { result.global ≡ false }
+{
+    Arg::new(alloc, "split")
+        .long("split")
+        .default_value("0")
+        .value_name("K")
+        .help(help)
+        .value_parser(ValueParser::Unsigned(0, u64::from(MAX_SPLIT)))
+}
+
+/// `--cubes FILE`, without a default.
+pub fn cubes_option<'a>(alloc: Global, help: &'a str) -> Arg<'a>
+    ensures rule { rule_of result ≡ cubes }
+    ensures local { result.global ≡ false }
+{
+    Arg::new(alloc, "cubes")
+        .long("cubes")
+        .value_name("FILE")
+        .help(help)
+}
+
+/// `FILE`, which has to be there.
+pub fn file_operand<'a>(alloc: Global, help: &'a str) -> Arg<'a>
+    ensures rule { rule_of result ≡ file }
+    ensures local { result.global ≡ false }
+{
+    Arg::new(alloc, "file")
+        .required(true)
+        .value_name("FILE")
+        .help(help)
+}
