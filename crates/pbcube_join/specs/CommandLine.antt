@@ -1,0 +1,29 @@
+-- The one command, and what a line takes from its matches.
+use Rattle.std.specs.Prelude.{◌≡◌, List, [], Some, codes, map, true, unwrap_or, IsSomeAnd}
+use Rattle.clap.specs.Lexer.{usize_max}
+use Rattle.clap.specs.Words.{App, Row, Rule, all_of, first_of, new_app, new_rule, one_of, with_rule}
+use Rattle.clap.specs.declared.builder.ValueParser.TheVariants as parser
+use Rattle.clap.specs.declared.builder.action.ArgAction.TheVariants.{Append}
+use Rattle.pb_line.specs.Options.{file, format, format_name}
+use Rattle.pb_line.specs.Values.{Spells}
+use Rattle.pbcube_join.specs.declared.asked.Line.{Line}
+use Rattle.pbcube_join.specs.declared.asked.TheConstants.{MAX_PIECES}
+
+-- `--pieces`, a number from 1 to `MAX_PIECES`, which has to be there
+abbrev pub pieces : Rule
+pieces = record (new_rule (codes "pieces")) { long = Some (codes "pieces"); required = true; value_names = 1; parser = Some (parser.Unsigned 1 MAX_PIECES) }
+
+-- the reports, any number of them
+abbrev pub reports : Rule
+reports = record (new_rule (codes "reports")) { value_names = 1; action = Some Append; range = Some (record { start_inclusive = 0; end_inclusive = usize_max }) }
+
+-- `pbcube_join [--format FORMAT] --pieces N FILE [REPORT]...`
+abbrev pub pbcube_join : App
+pbcube_join = with_rule (with_rule (with_rule (with_rule (new_app (codes "pbcube_join")) format) pieces) file) reports
+
+-- the line has the values of the matches
+pub record IsLineOf (matches : List Row) (line : Line) : Type 0 where
+  pub file : first_of (codes "file") matches ≡ Some line.file.now
+  pub format : first_of (codes "format") matches ≡ Some (format_name line.format)
+  pub pieces : IsSomeAnd (one_of (codes "pieces") matches) (λ text. Spells 32 text line.pieces)
+  pub reports : map (λ name. name.now) line.reports.items ≡ unwrap_or (all_of (codes "reports") matches) []

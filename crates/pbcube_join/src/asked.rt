@@ -1,0 +1,18 @@
+//! What a command line asks for.
+use pb_read::Format;
+
+/// The most pieces that an instance may have: one for each cube, and the remainder.
+pub const MAX_PIECES: u64 = 1_048_576;
+
+/// What the words of the command line ask for.
+#[derive(Drop)]
+pub struct Line<'a> {
+    /// The file of the whole instance.
+    pub file: &'a str,
+    /// How it and the reports are written.
+    pub format: Format,
+    /// The number of pieces, 1 to `MAX_PIECES`.
+    pub pieces: u32,
+    /// The files of the reports, and the folders in which they lie.
+    pub reports: Vec<&'a str>,
+}

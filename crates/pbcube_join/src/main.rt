@@ -1,0 +1,68 @@
+//! `pbcube_join`: one report of the reports of an instance's pieces, from the command line.
+#![tactic(auto)]
+
+mod asked;
+mod command;
+mod faults;
+mod files;
+mod help;
+mod names;
+mod reading;
+mod running;
+mod statuses;
+mod words;
+
+use crate::files::Files;
+use crate::running::{out_of_memory, program};
+use pb_line::{texts_of, words_of};
+use std::fs;
+use std::io::{self, ErrorKind};
+use std::process::ExitCode;
+
+/// The files of the system.
+#[derive(Drop)]
+struct SystemFiles<'a> {
+    rt: &'a HostRuntime,
+}
+
+impl Files for SystemFiles<'_> {
+    fn read(&mut self, name: &str) -> io::Result<Vec<u8>> {
+        fs::read(self.rt, name)
+    }
+
+    fn list(&mut self, name: &str) -> io::Result<Option<Vec<String>>> {
+        if !fs::metadata(self.rt, name)?.is_dir() {
+            return Ok(None);
+        }
+        let mut paths = Vec::new(self.rt.alloc());
+        for entry in fs::read_dir(self.rt, name)? {
+            paths.push(String::from_str(self.rt.alloc(), entry?.path().as_str())?)?;
+        }
+        Ok(Some(paths))
+    }
+}
+
+/// Runs the program on the system's words, files and outputs. Words that are no text end with status 2.
+fn main(rt: HostRuntime) -> ExitCode {
+    let mut out = rt.stdout();
+    let mut err = rt.stderr();
+    let texts = match texts_of(&rt) {
+        Ok(texts) => texts,
+        Err(fault) => {
+            return if fault.kind() == ErrorKind::OutOfMemory {
+                ExitCode::from(out_of_memory(&mut err))
+            } else {
+                ExitCode::from(2)
+            };
+        }
+    };
+    let mut files = SystemFiles { rt: &rt };
+    let status = match words_of(rt.alloc(), &texts) {
+        Ok(words) => program(rt.alloc(), &words, &mut files, &mut out, &mut err),
+        Err(_) => out_of_memory(&mut err),
+    };
+    ExitCode::from(status)
+}
+
+#[cfg(test)]
+mod tests;

@@ -1,0 +1,112 @@
+//! The instance and the reports, from their files.
+ghost use Rattle.std.specs.Prelude.{◌≡◌, length, IfOk};
+
+use crate::faults::{ProgramFault, Refusal};
+use crate::files::Files;
+use crate::names::piece_number;
+use pb_inst::Instance;
+use pb_join::PieceReport;
+use pb_read::{Format, ReadFault, ReadKind, read};
+use pb_report::{ReportKind, read_report};
+use std::alloc::Global;
+use std::io::{self, ErrorKind};
+
+/// Reports, and the names of their files, in the same order.
+#[derive(Drop)]
+pub struct Reports {
+    pub names: Vec<String>,
+    pub reports: Vec<PieceReport>,
+}
+
+/// The whole instance, from the file of this name. Its own cubes are no part of it.
+pub fn read_instance<'a, F: Files>(
+    alloc: Global,
+    format: Format,
+    file: &'a str,
+    files: &mut F,
+) -> Result<Instance, ProgramFault<'a>> {
+    let text = match files.read(file) {
+        Ok(text) => text,
+        Err(error) => return Err(unreadable(file, &error)),
+    };
+    match read(alloc, format, &text) {
+        Ok((instance, cubes)) => {
+            drop(cubes);
+            Ok(instance)
+        }
+        Err(fault) => Err(refusal(file, fault)),
+    }
+}
+
+/// Why the file or folder of this name was not read.
+pub fn unreadable<'a>(name: &'a str, error: &io::Error) -> ProgramFault<'a> {
+    if error.kind() == ErrorKind::OutOfMemory {
+        ProgramFault::Memory
+    } else {
+        ProgramFault::CannotRead(name)
+    }
+}
+
+/// Why the instance in the file of this name was not taken.
+fn refusal<'a>(file: &'a str, fault: ReadFault) -> ProgramFault<'a> {
+    if fault.kind == ReadKind::Memory {
+        ProgramFault::Memory
+    } else {
+        ProgramFault::Refused(file, fault)
+    }
+}
+
+/// The reports from the files of these names, of an instance of so many variables.
+pub fn read_reports<'a, F: Files>(
+    alloc: Global,
+    format: Format,
+    vars: u32,
+    names: Vec<String>,
+    files: &mut F,
+) -> Result<Reports, ProgramFault<'a>>
+    ensures { IfOk result (λ read. length read.names.items ≡ length read.reports.items) }
+{
+    let mut read = Reports {
+        names: Vec::new(alloc),
+        reports: Vec::new(alloc),
+    };
+    for name in names {
+        let report = match read_one(alloc, format, vars, &name, files) {
+            Ok(report) => report,
+            Err(Unread::Memory) => return Err(ProgramFault::Memory),
+            Err(Unread::Refused(why)) => return Err(ProgramFault::Report(name, why)),
+        };
+        read.names.push(name)?;
+        read.reports.push(report)?;
+    }
+    Ok(read)
+}
+
+/// Why one report was not read.
+enum Unread {
+    Memory,
+    Refused(Refusal),
+}
+
+/// The report from the file of this name.
+fn read_one<F: Files>(
+    alloc: Global,
+    format: Format,
+    vars: u32,
+    name: &str,
+    files: &mut F,
+) -> Result<PieceReport, Unread> {
+    let Some(number) = piece_number(name) else {
+        return Err(Unread::Refused(Refusal::NoNumber));
+    };
+    let text = match files.read(name) {
+        Ok(text) => text,
+        Err(error) if error.kind() == ErrorKind::OutOfMemory => return Err(Unread::Memory),
+        Err(_) => return Err(Unread::Refused(Refusal::Unreadable)),
+    };
+    match read_report(alloc, format, vars, &text) {
+        Ok(claim) => Ok(PieceReport { number, claim }),
+        Err(fault) if fault.kind == ReportKind::Memory => Err(Unread::Memory),
+        Err(fault) => Err(Unread::Refused(Refusal::Faulty(fault))),
+    }
+}

@@ -1,0 +1,156 @@
+//! The program over any files and any outputs.
+ghost use Rattle.std.specs.Prelude.{◌≡◌, ◌≢◌, ◌≤◌, ◌<◌, ℕ, length, false, IfOk, IfErr};
+ghost use Rattle.pb_inst.specs.Problem.{Problem};
+ghost use Rattle.pb_join.specs.declared.faults.Rejection.{Rejection as Why};
+ghost use Rattle.pbcube_join.specs.Joining.{Tells};
+ghost use Rattle.pbcube_join.specs.Statuses.{IsExitStatus};
+
+use crate::asked::Line;
+use crate::faults::{ProgramFault, Refusal};
+use crate::files::Files;
+use crate::names::report_names;
+use crate::reading::{read_instance, read_reports};
+use crate::statuses::exit_status;
+use crate::words::line;
+use clap::Error;
+use clap::error::ErrorKind;
+use pb_inst::Instance;
+use pb_join::{JoinFault, Joined, PieceState, join};
+use pb_read::Format;
+use pb_solve::Device;
+use std::alloc::Global;
+use std::io::{self, Write};
+
+/// Runs the program on its words, its own name first, and answers its exit status.
+pub fn program<'a, F: Files, W: Write, E: Write>(
+    alloc: Global,
+    words: &'a [&'a str],
+    files: &mut F,
+    out: &mut W,
+    err: &mut E,
+) -> u8
+    ensures { IsExitStatus result }
+{
+    let mut out = Device::new(out);
+    let line = match line(alloc, words) {
+        Ok(line) => line,
+        Err(fault) => return end_at_line(&fault, &mut out, err),
+    };
+    match join_line(alloc, line, files, &mut out) {
+        Ok(joined) => {
+            name_pieces(&joined.states, err);
+            exit_status(joined.status)
+        }
+        Err(fault) => end_at_fault(&fault, err),
+    }
+}
+
+/// The program's end where its words found no memory.
+pub fn out_of_memory<E: Write>(err: &mut E) -> u8
+    ensures { IsExitStatus result }
+{
+    end_at_fault(&ProgramFault::Memory, err)
+}
+
+/// Reads what the line names, the instance before the reports, joins the reports and writes what they make. Where anything is
+/// refused nothing is written.
+fn join_line<'a, F: Files, W: Write>(
+    alloc: Global,
+    line: Line<'a>,
+    files: &mut F,
+    out: &mut Device<W>,
+) -> Result<Joined, ProgramFault<'a>>
+    requires pieces { 1 ≤ line.pieces }
+    requires out { out.old.failed ≡ false }
+    ensures tells { IfOk result (λ joined. (p : Problem) × Tells line.entry.format p line.entry.pieces (W.contents out.old.held) (W.contents out.new.held) joined) }
+    ensures unwritten { IfErr result (λ fault. fault ≢ ProgramFault.CannotWrite → out.new ≡ out.old) }
+{
+    let instance = read_instance(alloc, line.format, line.file, files)?;
+    let names = report_names(alloc, &line.reports, files)?;
+    join_files(
+        alloc,
+        line.format,
+        &instance,
+        line.pieces,
+        names,
+        files,
+        out,
+    )
+}
+
+/// Reads the reports from the files of these names, joins them and writes what they make.
+fn join_files<'a, F: Files, W: Write>(
+    alloc: Global,
+    format: Format,
+    instance: &Instance,
+    pieces: u32,
+    names: Vec<String>,
+    files: &mut F,
+    out: &mut Device<W>,
+) -> Result<Joined, ProgramFault<'a>>
+    requires pieces { 1 ≤ pieces }
+    requires out { out.old.failed ≡ false }
+    ensures tells { IfOk result (Tells format instance.now pieces (W.contents out.old.held) (W.contents out.new.held)) }
+    ensures unwritten { IfErr result (λ fault. fault ≢ ProgramFault.CannotWrite → out.new ≡ out.old) }
+{
+    let read = read_reports(alloc, format, instance.vars(), names, files)?;
+    match join(alloc, format, instance, pieces, &read.reports, out) {
+        Ok(joined) => Ok(joined),
+        Err(fault) => Err(fault_of(fault, read.names)),
+    }
+}
+
+/// Why the reports from the files of these names were not joined.
+fn fault_of<'a>(fault: JoinFault, mut names: Vec<String>) -> ProgramFault<'a>
+    requires { (place : ℕ) → (why : Why) → fault ≡ JoinFault.Report place why → place < length names.items }
+    ensures { fault ≡ JoinFault.Write → result ≡ ProgramFault.CannotWrite }
+{
+    match fault {
+        JoinFault::Write => ProgramFault::CannotWrite,
+        JoinFault::Memory => ProgramFault::Memory,
+        JoinFault::Report { place, why } => {
+            ProgramFault::Report(names.swap_remove(place), Refusal::Rejected(why))
+        }
+    }
+}
+
+/// One line to the standard error for each piece that is missing or was cut.
+fn name_pieces<E: Write>(states: &[PieceState], err: &mut E) {
+    for (number, state) in states.iter().enumerate() {
+        let _ = name_piece(number, *state, err);
+    }
+}
+
+fn name_piece<E: Write>(number: usize, state: PieceState, err: &mut E) -> io::Result<()> {
+    match state {
+        PieceState::Missing => writeln!(err, "pbcube_join: piece {number} has no report"),
+        PieceState::Cut => writeln!(err, "pbcube_join: piece {number} was not solved to its end"),
+        PieceState::Done => Ok(()),
+    }
+}
+
+/// The end where the words ask for no run: help, a refusal, or no memory.
+fn end_at_line<W: Write, E: Write>(fault: &Error, out: &mut Device<W>, err: &mut E) -> u8
+    requires { out.old.failed ≡ false }
+    ensures { IsExitStatus result }
+{
+    if fault.kind() == ErrorKind::OutOfMemory {
+        return out_of_memory(err);
+    }
+    if fault.use_stderr() {
+        let _ = write!(err, "{fault}");
+        return 2;
+    }
+    match write!(out, "{fault}") {
+        Ok(()) => 0,
+        Err(_) => end_at_fault(&ProgramFault::CannotWrite, err),
+    }
+}
+
+/// One line to the standard error, whose own faults are ignored.
+fn end_at_fault<E: Write>(fault: &ProgramFault<'_>, err: &mut E) -> u8
+    ensures { IsExitStatus result }
+{
+    let _ = writeln!(err, "pbcube_join: {fault}");
+    1
+}
