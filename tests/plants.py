@@ -114,7 +114,7 @@ class Copy:
         told, said = work.ends(self.top, [name], 1, requests)
         if name not in told:
             sys.exit(f"plants: {name} was not run: {said}")
-        return None if "run=ended status=0" in told[name] else f"{name}: more than {requests - 1} requests"
+        return None if "output=expected" in told[name] else f"{name}: more than {requests - 1} requests"
 
     def by_program(self):
         status, said = self.run(["./pbcube", "--help"])

@@ -39,7 +39,7 @@ def ends(top, names, steps=STEPS, requests=REQUESTS):
 
 def complaint(end):
     """What is wrong with how a run ended, where anything is."""
-    if "run=ended" not in end or "status=0" not in end:
+    if "run=ended" not in end or "status=0" not in end or "output=expected" not in end:
         return f"another report, or none ({end})"
     if "runners=2" not in end:
         return f"more than {STEPS:,} steps"
