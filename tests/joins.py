@@ -4,7 +4,7 @@
     tests/joins.py
 
 It takes the programs that the merge gate built. The instances are the examples and fifty random ones, cut by splits, by cubes
-and by both. Then reports are left out, given twice, cut, exchanged and made up: a join must say so and claim no more than is so.
+and by both. Then a report is left out, unknown, given twice, cut short or changed: a join must say so and claim no more than is so.
 Last the recipes of examples/cluster/ are run on this machine: the one for GNU parallel where that is here or can be fetched, the
 one for Slurm task by task, without Slurm.
 """
