@@ -91,10 +91,10 @@ def value(terms, values):
     return sum(coefficient for coefficient, literal in terms if values[abs(literal) - 1] == (literal > 0))
 
 
-def instances():
+def instances(count=INSTANCES):
     """The same ones in each run."""
     random.seed(19)
-    for number in range(INSTANCES):
+    for number in range(count):
         variables = random.randint(2, 7)
         is_cnf = random.random() < 0.3
 

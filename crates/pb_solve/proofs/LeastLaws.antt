@@ -91,3 +91,20 @@ holds_least p list before parts first h whole = by_first first (none_better p li
     by_first : (o : Option Solution) → ((a : List Bool) → length a ≡ p.vars → IsFeasible p a → IsNoBetter p a o) → IfSome o (IsSolution p) → HoldsLeast p o
     by_first None none is = none
     by_first (Some s) none is = (record { for_all_variables = is.for_all_variables; feasible = is.feasible; first = none }, is.cost_is)
+
+-- what is held is the least assignment, where all pieces are done
+pub least_of_all_done : (d : Division) (held : Option Solution) → ((i : ℕ) → i < length d.cubes + 1 → IsDone d i held) → HoldsLeast d.problem held
+least_of_all_done d None done = λ a number feasible.
+    let lies = lies_in_some d.cubes a in
+    done lies.number lies.below a (record { for_all_variables = number; feasible = feasible; in_piece = lies.inside })
+least_of_all_done d (Some s) done =
+    let is : IsSolution d.problem s = (done 0 (omega arith)).0 in (
+      record {
+        for_all_variables = is.for_all_variables;
+        feasible = is.feasible;
+        first = λ a number feasible before.
+            let lies = lies_in_some d.cubes a in
+            (done lies.number lies.below).1 a (record { for_all_variables = number; feasible = feasible; in_piece = lies.inside }) before;
+      },
+      is.cost_is,
+    )

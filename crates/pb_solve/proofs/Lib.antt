@@ -1,3 +1,4 @@
+pub mod AloneLaws
 mod DividingLaws
 mod DivisionLaws
 pub mod ClaimLaws

@@ -16,19 +16,19 @@ use Rattle.pb_solve.specs.Claims.{piece_count, pieces_among, AreDealt, EndsPast,
 use Rattle.pb_share.specs.Sharing.{BoardShareView, KeepsClaims, SameSeat}
 
 -- what is held is a solution, where anything is
-abbrev IsFound : Division → Option Solution → Type 0
+abbrev pub IsFound : Division → Option Solution → Type 0
 IsFound d None = Unit {0}
 IsFound d (Some s) = IsSolution d.problem s
 
 -- a piece that is done stays done where what is held moves on
-stays_done : (d : Division) (i : ℕ) (old new : Option Solution) → IsNotAfter d.problem old new → IsFound d new → IsDone d i old → IsDone d i new
+pub stays_done : (d : Division) (i : ℕ) (old new : Option Solution) → IsNotAfter d.problem old new → IsFound d new → IsDone d i old → IsDone d i new
 stays_done d i None None later found done = done
 stays_done d i None (Some s) later found done = (found, λ a candidate before. done a candidate)
 stays_done d i (Some o) None later found done = absurd later
 stays_done d i (Some o) (Some s) later found done = (found, λ a candidate before. done.1 a candidate (improvement_on_earlier d.problem a (Some o) (Some s) later before))
 
 -- what is held is a solution, where anything is: by what an incumbent tells
-found_where_sound : (d : Division) (best : Incumbent) → best.problem ≡ d.problem → IfSome best.held (IsSolution best.problem) → IsFound d best.held
+pub found_where_sound : (d : Division) (best : Incumbent) → best.problem ≡ d.problem → IfSome best.held (IsSolution best.problem) → IsFound d best.held
 found_where_sound d best same sound = of best.held (subst (λ (p : Problem). IfSome best.held (IsSolution p)) same sound)
   where
     of : (held : Option Solution) → IfSome held (IsSolution d.problem) → IsFound d held

@@ -17,7 +17,8 @@ pub use report::{
     report_attained, report_infeasible, report_memory, report_optimum, report_satisfiable,
     report_unknown,
 };
-pub use running::run;
+pub use running::{run, run_alone};
+pub use workers::alone::solve_alone;
 pub use workers::gate::{Gate, OpenGate};
 pub use workers::gather::gather;
 pub use workers::part::Part;

@@ -1,5 +1,5 @@
 //! The whole run.
-ghost use Rattle.std.specs.Prelude.{◌≡◌, ◌≢◌, ◌↔◌, ℕ, List, Option, false, true, is_err, Ok, Some, IfOk, IfErr, IfSome, IfNone, IsErrOf, IsTrue};
+ghost use Rattle.std.specs.Prelude.{◌≡◌, ◌≢◌, ◌↔◌, ℕ, List, Option, false, true, is_err, Ok, Err, None, Some, IfOk, IfErr, IfSome, IfNone, IsErrOf, IsTrue};
 ghost use Rattle.std.specs.Io.KnownBytes.{Appends};
 ghost use Rattle.pb_read.specs.declared.fault.ReadFault.{ReadFault};
 ghost use Rattle.pb_solve.specs.Solving.{HoldsLeast};
@@ -15,8 +15,9 @@ use crate::report::{
     report_attained, report_infeasible, report_memory, report_optimum, report_refusal,
     report_satisfiable, report_unknown,
 };
+use crate::workers::alone::solve_alone;
 use crate::workers::gate::OpenGate;
-use crate::workers::solve::solve;
+use crate::workers::solve::{Answer, SolveFault, solve};
 use pb_inst::{Best, Instance};
 use pb_read::Format;
 use std::alloc::Global;
@@ -72,6 +73,44 @@ pub fn run<R: Threads + Sync, I: Read, C: Read, W: Write>(
     conclude(rt, alloc, found, options, out)
 }
 
+/// The same with no cube file and no split, by one search on the caller's own thread: it asks for no leave to start others.
+/// The report and the status are those of `run`.
+pub fn run_alone<I: Read, W: Write>(
+    alloc: Global,
+    input: &mut Device<I>,
+    format: Format,
+    nodes: Option<u64>,
+    out: &mut Device<W>,
+) -> Result<Ran, RunFault>
+    requires input { input.old.failed ≡ false }
+    requires out { out.old.failed ≡ false }
+
+    ensures headline { IfOk result (λ ran. ran.cut ≡ false → ran.status ≢ Status.Unknown
+        → Reports format (I.remaining input.old.held) None 0 (W.contents out.old.held) (W.contents out.new.held) ran.status) }
+
+    ensures budgeted { IfOk result (λ ran. ran.cut ≡ true
+        → ReportsFound format (I.remaining input.old.held) None 0 (W.contents out.old.held) (W.contents out.new.held) ran.status) }
+
+    ensures no_budget { IfNone nodes (IfOk result (λ ran. ran.cut ≡ false)) }
+
+    ensures memory { IfOk result (λ ran. ran.cut ≡ false → ran.status ≡ Status.Unknown
+        → Appends (W.contents out.old.held) (W.contents out.new.held) memory_report) }
+
+    ensures read_input { IsTrue input.new.failed ↔ IsErrOf result RunFault.ReadInput }
+    ensures write { IsTrue out.new.failed ↔ IsErrOf result RunFault.Write }
+    ensures no_cubes { IfErr result (λ fault. fault ≢ RunFault.ReadCubes) }
+    ensures unwritten { IfErr result (λ fault. fault ≢ RunFault.Write → out.new ≡ out.old) }
+{
+    match prepare(alloc, input, &mut NoCubeFile, format, 0) {
+        Ok(found) => {
+            let (instance, pieces) = (&found.instance, &found.pieces);
+            let answered = solve_alone(alloc, instance, pieces, nodes);
+            report_answered(out, format, instance, answered)
+        }
+        Err(halt) => report_halt(out, halt),
+    }
+}
+
 /// Ends a run that has read its texts: with the report of the answer on what was found, or of why there is none.
 fn conclude<R: Threads + Sync, W: Write>(
     rt: &R,
@@ -97,12 +136,28 @@ fn conclude<R: Threads + Sync, W: Write>(
 {
     match found {
         Ok(found) => answer(rt, alloc, &found, options, out),
-        Err(halt) => match halt {
-            Halt::Refused(refusal) => Ok(Ran::uncut(report_refusal(out, refusal)?)),
-            Halt::Memory => Ok(Ran::uncut(report_memory(out)?)),
-            Halt::ReadInput => Err(RunFault::ReadInput),
-            Halt::ReadCubes => Err(RunFault::ReadCubes),
-        },
+        Err(halt) => report_halt(out, halt),
+    }
+}
+
+/// Ends a run in which nothing is solved.
+fn report_halt<W: Write>(out: &mut Device<W>, halt: Halt) -> Result<Ran, RunFault>
+    requires out { out.old.failed ≡ false }
+    ensures reports { (format : Format) (input : Option (List ℕ)) (cubes : Option (Option (List ℕ))) (split : ℕ) → IsPrepared format input cubes split (Err halt)
+        → IfOk result (λ ran. ran.cut ≡ false → ran.status ≢ Status.Unknown
+        → Reports format input cubes split (W.contents out.old.held) (W.contents out.new.held) ran.status) }
+    ensures uncut { IfOk result (λ ran. ran.cut ≡ false) }
+    ensures memory { IfOk result (λ ran. ran.status ≡ Status.Unknown → Appends (W.contents out.old.held) (W.contents out.new.held) memory_report) }
+    ensures read_input { (halt ≡ Halt.ReadInput) ↔ IsErrOf result RunFault.ReadInput }
+    ensures read_cubes { (halt ≡ Halt.ReadCubes) ↔ IsErrOf result RunFault.ReadCubes }
+    ensures write { IsTrue out.new.failed ↔ IsErrOf result RunFault.Write }
+    ensures unwritten { IfErr result (λ fault. fault ≢ RunFault.Write → out.new ≡ out.old) }
+{
+    match halt {
+        Halt::Refused(refusal) => Ok(Ran::uncut(report_refusal(out, refusal)?)),
+        Halt::Memory => Ok(Ran::uncut(report_memory(out)?)),
+        Halt::ReadInput => Err(RunFault::ReadInput),
+        Halt::ReadCubes => Err(RunFault::ReadCubes),
     }
 }
 
@@ -127,13 +182,36 @@ fn answer<R: Threads + Sync, W: Write>(
 {
     let (instance, pieces) = (&found.instance, &found.pieces);
     let (workers, nodes) = (options.workers, options.nodes);
-    let Ok(answer) = solve(rt, alloc, instance, pieces, workers, &OpenGate, nodes) else {
+    let answered = solve(rt, alloc, instance, pieces, workers, &OpenGate, nodes);
+    report_answered(out, options.format, instance, answered)
+}
+
+/// Reports the answer on the instance, or where a piece was cut the best that was found, or that memory was refused.
+fn report_answered<W: Write>(
+    out: &mut Device<W>,
+    format: Format,
+    instance: &Instance,
+    answered: Result<Answer<'_>, SolveFault>,
+) -> Result<Ran, RunFault>
+    requires out { out.old.failed ≡ false }
+    requires same_instance { IfOk answered (λ answer. answer.best.problem ≡ instance.now) }
+    requires least { IfOk answered (λ answer. answer.cut ≡ false → HoldsLeast instance.now answer.best.held) }
+    ensures answers { IfOk result (λ ran. ran.cut ≡ false → ran.status ≢ Status.Unknown
+        → Answers format instance.now (W.contents out.old.held) (W.contents out.new.held) ran.status) }
+    ensures budgeted { IfOk result (λ ran. ran.cut ≡ true
+        → AnswersFound format instance.now (W.contents out.old.held) (W.contents out.new.held) ran.status) }
+    ensures uncut { IfOk answered.entry (λ answer. answer.cut ≡ false) → IfOk result (λ ran. ran.cut ≡ false) }
+    ensures memory { IfOk result (λ ran. ran.cut ≡ false → ran.status ≡ Status.Unknown → Appends (W.contents out.old.held) (W.contents out.new.held) memory_report) }
+    ensures fault { IfErr result (λ fault. fault ≡ RunFault.Write) }
+    ensures failed { out.new.failed ≡ is_err result }
+{
+    let Ok(answer) = answered else {
         return Ok(Ran::uncut(report_memory(out)?));
     };
     let status = if answer.cut {
-        report_found(out, options.format, instance, &answer.best)?
+        report_found(out, format, instance, &answer.best)?
     } else {
-        report_least(out, options.format, instance, &answer.best)?
+        report_least(out, format, instance, &answer.best)?
     };
     Ok(Ran {
         status,

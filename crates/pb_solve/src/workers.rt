@@ -1,5 +1,6 @@
-//! Workers: what each of them does, how they are forked, and what all of them found.
+//! Workers: what each of them does, how they are forked, and what all of them found; and one search without any of that.
 
+pub(crate) mod alone;
 pub(crate) mod crew;
 pub(crate) mod fork;
 pub(crate) mod gate;

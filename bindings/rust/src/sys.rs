@@ -1,0 +1,24 @@
+//! The declarations of `include/pbcube.h`.
+
+use std::ffi::{c_char, c_int};
+
+#[repr(C)]
+pub struct Raw {
+    private: [u8; 0],
+}
+
+extern "C" {
+    pub fn pbcube_new() -> *mut Raw;
+    pub fn pbcube_free(solver: *mut Raw);
+    pub fn pbcube_term(solver: *mut Raw, coefficient: i64, literal: i32) -> c_int;
+    pub fn pbcube_end(solver: *mut Raw, relation: c_int, bound: i64) -> c_int;
+    pub fn pbcube_end_objective(solver: *mut Raw) -> c_int;
+    pub fn pbcube_clause(solver: *mut Raw, literals: *const i32, count: usize) -> c_int;
+    pub fn pbcube_discard(solver: *mut Raw) -> c_int;
+    pub fn pbcube_variables(solver: *mut Raw) -> u32;
+    pub fn pbcube_solve(solver: *mut Raw, decisions: u64) -> c_int;
+    pub fn pbcube_cost_text(solver: *mut Raw, text: *mut c_char, size: usize) -> usize;
+    pub fn pbcube_value(solver: *mut Raw, variable: u32) -> c_int;
+    pub fn pbcube_run(solver: *mut Raw, format: c_int, text: *const c_char, length: usize, decisions: u64) -> c_int;
+    pub fn pbcube_report(solver: *mut Raw, text: *mut c_char, size: usize) -> usize;
+}

@@ -1,0 +1,3 @@
+pub mod ClauseLaws
+pub mod HandleValues
+pub mod LooseValues

@@ -1,0 +1,4 @@
+pub mod Called
+pub mod Codes
+pub mod Copied
+pub mod Held

@@ -1,0 +1,21 @@
+//! The solver for callers from C. Each export takes a `Solver` that lies in C's memory, and calls the session that it owns.
+//! `include/pbcube.h` tells the calls, `c/pbcube.c` tests pointers before it makes them. No thread is started.
+#![tactic(auto)]
+
+mod answers;
+mod building;
+mod codes;
+mod copying;
+mod handle;
+mod lifetime;
+mod literals;
+mod loose;
+mod solver;
+mod texts;
+
+pub use codes::{
+    BAD_ARGUMENT, BAD_VARIABLE, CLOSED, EMPTY, FOUND, MEMORY, NO_ANSWER, OK, OPTIMUM, OUT_OF_RANGE,
+    SATISFIABLE, TOO_LARGE, TOO_MANY, UNENDED, UNKNOWN, UNSATISFIABLE, UNSUPPORTED,
+};
+pub use handle::Handle;
+pub use solver::Solver;

@@ -1,0 +1,41 @@
+//! Literals, relations and formats as C writes them.
+ghost use Rattle.std.specs.Prelude.{◌≡◌, ◌↔◌, IfOk, IfErr, IsOk, IfSome, IfNone};
+ghost use Rattle.pb_c.specs.Called.{number_of, IsVariable, relation_number, format_number};
+
+use pb_inst::{InstFault, Lit, Relation};
+use pb_solve::Format;
+
+/// The literal of a number: variable n is n, and its negation -n. Fails with `BadVariable` where n is not from 1 to `MAX_VARS`.
+pub(crate) fn literal_of(number: i32) -> Result<Lit, InstFault>
+    ensures literal { IfOk result (λ lit. number_of lit ≡ number) }
+    ensures accepts { IsOk result ↔ IsVariable number }
+    ensures fault { IfErr result (λ fault. fault ≡ InstFault.BadVariable) }
+{
+    Lit::new(number.unsigned_abs(), number > 0)
+}
+
+/// The relation of a number, if it is one of a relation.
+pub(crate) fn relation_of(number: i32) -> Option<Relation>
+    ensures some { IfSome result (λ relation. relation_number relation ≡ number) }
+    ensures none { IfNone result ((relation : Relation) → ¬ (relation_number relation ≡ number)) }
+{
+    match number {
+        0 => Some(Relation::AtLeast),
+        1 => Some(Relation::AtMost),
+        2 => Some(Relation::Equal),
+        _ => None,
+    }
+}
+
+/// The format of a number, if it is one of a format.
+pub(crate) fn format_of(number: i32) -> Option<Format>
+    ensures some { IfSome result (λ format. format_number format ≡ number) }
+    ensures none { IfNone result ((format : Format) → ¬ (format_number format ≡ number)) }
+{
+    match number {
+        0 => Some(Format::Opb),
+        1 => Some(Format::Cnf),
+        2 => Some(Format::Icnf),
+        _ => None,
+    }
+}

@@ -1,0 +1,49 @@
+//! Solving by one search, on the caller's own thread.
+ghost use Rattle.std.specs.Prelude.{◌≡◌, ◌+◌, false, length, IfOk, IfNone};
+ghost use Rattle.pb_solve.specs.Solving.{HoldsLeast};
+
+use crate::workers::solve::{Answer, SolveFault};
+use pb_cubes::Pieces;
+use pb_inst::{Best, Instance};
+use pb_normal::normalise;
+use pb_search::{Alone, Outcome, Search};
+use std::alloc::Global;
+
+/// The least assignment, or none where nothing is feasible, as `solve` finds it with one worker. One search goes through the
+/// pieces in order, and starts no thread. Each piece is searched with at most `nodes` decisions, where a budget is given.
+/// Asks for pieces over the instance's variables. Fails where memory is refused.
+pub fn solve_alone<'i>(
+    alloc: Global,
+    inst: &'i Instance,
+    pieces: &Pieces,
+    nodes: Option<u64>,
+) -> Result<Answer<'i>, SolveFault>
+    requires { pieces.now.vars ≡ inst.now.vars }
+    ensures same_instance { IfOk result (λ answer. answer.best.problem ≡ inst.now) }
+    ensures least { IfOk result (λ answer. answer.cut ≡ false → HoldsLeast inst.now answer.best.held) }
+    ensures no_budget { IfNone nodes (IfOk result (λ answer. answer.cut ≡ false)) }
+{
+    let mut best = Best::none(alloc, inst)?;
+    let normal = normalise(alloc, inst)?;
+    let mut search = Search::new(alloc, inst, &normal, pieces)?;
+    let cut = search_all(&mut search, pieces.len(), &mut best, nodes);
+    Ok(Answer { best, cut })
+}
+
+/// Searches all pieces in order, each within the budget, and answers whether one was cut.
+fn search_all(search: &mut Search<'_>, count: u32, best: &mut Best<'_>, nodes: Option<u64>) -> bool
+    requires count { count ≡ length search.old.division.cubes + 1 }
+    requires same_instance { best.old.problem ≡ search.old.division.problem }
+    ensures same_instance { best.new.problem ≡ best.old.problem }
+    ensures least { result ≡ false → HoldsLeast best.old.problem best.new.held }
+    ensures no_budget { IfNone nodes (result ≡ false) }
+{
+    let mut cut = false;
+    for piece in 0..count {
+        let outcome = search.run(piece, best, &mut Alone, nodes);
+        // A call tells that what is held is a solution, by which what is done stays done.
+        let _ = best.cost();
+        cut |= outcome == Outcome::Cut;
+    }
+    cut
+}

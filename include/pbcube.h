@@ -1,0 +1,91 @@
+/* pbcube: a pseudo-Boolean optimiser whose answer is proved, for C and C++.
+ *
+ * A solver is told linear constraints over variables with the values 0 and 1, and finds the least cost and, among the
+ * assignments of that cost, the first one: at the first variable where two differ, the one with 0 comes first.
+ *
+ * A literal is n for variable n and -n for its negation, which is worth 1 where the variable is 0; n is from 1 to 1048576.
+ * There are as many variables as the greatest one that a statement names. The absolute numbers of a constraint, its bound
+ * included, add up to at most 2^126 - 1, as do those of the objective; there are at most 4194304 constraints, and 16777216
+ * terms. Nothing is printed. Link libpbcube.a; no thread is started, and memory comes from malloc.
+ *
+ * A call that answers a number below 0 changed nothing, but that pbcube_solve may have closed the solver where it wanted memory.
+ * A solver is owned by its caller until pbcube_free, and everything that it gives is copied. It may go from thread to thread, but
+ * is in one call at a time. To share work among threads, give each a solver of its own with the same statements and one cube of
+ * the division as unit clauses, and take the answer that comes first: the least cost, and of equal costs the one with 0 at the
+ * first variable where they differ. */
+#ifndef PBCUBE_H
+#define PBCUBE_H
+
+#include <stddef.h>
+#include <stdint.h>
+
+#ifdef __cplusplus
+extern "C" {
+#endif
+
+typedef struct pbcube pbcube;
+
+enum pbcube_answer { /* of pbcube_solve and pbcube_run */
+    PBCUBE_UNKNOWN = 1,        /* the search was cut by its budget, and found nothing */
+    PBCUBE_SATISFIABLE = 10,   /* there is no objective; the first feasible assignment was found */
+    PBCUBE_FOUND = 11,         /* the search was cut; what was found is feasible, and may not be the least */
+    PBCUBE_UNSATISFIABLE = 20, /* no assignment is feasible */
+    PBCUBE_OPTIMUM = 30,       /* the least assignment was found */
+    PBCUBE_UNSUPPORTED = 40    /* the text was refused; its report says why, and at which line */
+};
+
+enum pbcube_code { /* of every call that answers an int */
+    PBCUBE_OK = 0,
+    PBCUBE_BAD_VARIABLE = -1,  /* a variable is 0, over 1048576, or for pbcube_value over the number of variables */
+    PBCUBE_TOO_LARGE = -2,     /* the absolute numbers of a statement add up to more than the bound (no 2^62 terms of 64 bits do) */
+    PBCUBE_TOO_MANY = -3,      /* there would be more constraints or terms than the limit */
+    PBCUBE_MEMORY = -4,        /* memory was refused */
+    PBCUBE_UNENDED = -5,       /* terms were given, and their sum was not ended */
+    PBCUBE_CLOSED = -6,        /* the solver was asked for an answer, and takes no more statements */
+    PBCUBE_NO_ANSWER = -7,     /* nothing was found */
+    PBCUBE_BAD_ARGUMENT = -8,  /* a relation or a format is none of those below */
+    PBCUBE_OUT_OF_RANGE = -9,  /* the cost does not fit int64_t: pbcube_cost_text gives it */
+    PBCUBE_NULL = -10          /* a pointer is null */
+};
+
+enum pbcube_relation { PBCUBE_AT_LEAST = 0, PBCUBE_AT_MOST = 1, PBCUBE_EQUAL = 2 };
+enum pbcube_format { PBCUBE_OPB = 0, PBCUBE_CNF = 1, PBCUBE_ICNF = 2 };
+
+#define PBCUBE_NO_LIMIT UINT64_MAX
+
+/* Making and freeing. A null pointer is made where memory is refused, and may be freed. */
+pbcube *pbcube_new(void);
+void pbcube_free(pbcube *solver);
+
+/* Telling. A sum is given term by term, and then ended: as a constraint, or as the objective, in place of one told before. An
+ * empty sum is 0. Where an end is refused, the terms are still there: pbcube_discard forgets them. A clause is at least one true
+ * literal; it is refused as PBCUBE_UNENDED within a sum. */
+int pbcube_term(pbcube *solver, int64_t coefficient, int32_t literal);
+int pbcube_end(pbcube *solver, int relation, int64_t bound);
+int pbcube_end_objective(pbcube *solver);
+int pbcube_clause(pbcube *solver, const int32_t *literals, size_t count);
+int pbcube_discard(pbcube *solver);
+uint32_t pbcube_variables(pbcube *solver); /* how many there are so far */
+
+/* Solving, with at most so many decisions, or PBCUBE_NO_LIMIT. A solver may be solved again with another budget; what was found
+ * last is kept until something else is. */
+int pbcube_solve(pbcube *solver, uint64_t decisions);
+
+/* Reading what was found. The cost is 0 without an objective. A value is 0 or 1. The text of the cost is decimal: as many bytes
+ * of it as fit are written, with no zero at the end, and its length is answered, 0 where nothing was found. */
+int pbcube_cost(pbcube *solver, int64_t *cost);
+size_t pbcube_cost_text(pbcube *solver, char *text, size_t size);
+int pbcube_value(pbcube *solver, uint32_t variable);
+
+/* The short way: solves a text by itself, apart from what the solver was told, and keeps its report, which is what the program
+ * pbcube prints of such a file. pbcube_report writes it as pbcube_cost_text does the cost, up to the next pbcube_run. */
+int pbcube_run(pbcube *solver, int format, const char *text, size_t length, uint64_t decisions);
+size_t pbcube_report(pbcube *solver, char *text, size_t size);
+
+/* The name of an answer or a code, as "BadVariable"; never null, and never freed. */
+const char *pbcube_name(int number);
+
+#ifdef __cplusplus
+}
+#endif
+#endif

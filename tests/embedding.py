@@ -1,0 +1,185 @@
+#!/usr/bin/env python3
+"""Builds the library for C, and calls it from C, C++, Rust and Python.
+
+    tests/embedding.py
+
+The header must compile without a warning as C11 and as C++17. The calls of tests/calls.c and the planner of examples/c must run
+clean under AddressSanitizer and under valgrind, where there is one, with no memory left; and so the calls with each request for
+memory refused, under AddressSanitizer also with all that follow. The examples must print what stands beside them, the blocks of
+README.md one answer, and the documentation of the bindings what it shows. What ./install puts in place must serve a caller, and
+be taken away again. What has no compiler here is left out, with a word.
+"""
+import os
+import re
+import shutil
+import subprocess
+import sys
+import tempfile
+from concurrent.futures import ThreadPoolExecutor
+from pathlib import Path
+
+TOP = Path(__file__).resolve().parent.parent
+PROGRAM = TOP / "crates" / "pbcube" / "out" / "pbcube"
+LIBRARY = TOP / "c" / "out" / "libpbcube.a"
+PYTHON = TOP / "bindings" / "python"
+MANIFEST = TOP / "bindings" / "rust" / "Cargo.toml"
+WARNINGS = ["-Wall", "-Wextra", "-pedantic", "-Werror", "-I", str(TOP / "include")]
+WRAPS = [f"-Wl,--wrap={call}" for call in ("malloc", "calloc", "realloc")]
+SANITIZERS = ["-g", "-fsanitize=address,undefined", "-fno-sanitize-recover=all"]
+WATCH = ["valgrind", "--quiet", "--error-exitcode=9", "--leak-check=full", "--errors-for-leak-kinds=all"]
+ALONE, AND_ALL_THAT_FOLLOW = {}, {"REFUSE_ON": "1"}
+C_AROUND = '#include "pbcube.h"\n#include <inttypes.h>\n#include <stdio.h>\nint main(void)\n{\n%sreturn 0;\n}\n'
+RUST_AROUND = "use pbcube::Solver;\nfn main() -> Result<(), pbcube::Error> {\n%sOk(())\n}\n"
+CARGO = '[package]\nname = "shown"\nversion = "0.1.0"\nedition = "2021"\n\n[dependencies]\npbcube = { path = "%s" }\n'
+
+
+def compile_header(folder):
+    """The header alone, in both languages."""
+    for suffix, command in ((".c", ["cc", "-std=c11"]), (".cpp", ["c++", "-std=c++17"])):
+        if not shutil.which(command[0]):
+            print(f"embedding: no {command[0]} here")
+            continue
+        source = folder / f"header{suffix}"
+        source.write_text('#include "pbcube.h"\n#include "pbcube.h"\nint main(void) { return pbcube_name(0) == 0; }\n')
+        subprocess.run([*command, *WARNINGS, "-c", source, "-o", os.devnull], check=True)
+
+
+def link(program, source, words):
+    subprocess.run(["cc", "-std=c11", *WARNINGS, *words, source, LIBRARY, "-o", program], check=True)
+    return str(program)
+
+
+def run(command, **variables):
+    environment = {**os.environ, "PYTHONPATH": str(PYTHON), "PYTHONDONTWRITEBYTECODE": "1", **variables}
+    return subprocess.run(command, env=environment, capture_output=True, text=True, timeout=500)
+
+
+def refuse_each(command, ways):
+    """Runs the calls as they are and with each request for memory refused, in each way, and answers how many there are and the bad
+    ends."""
+    ordinary = run(command)
+    if ordinary.returncode != 0 or "requests" not in ordinary.stdout:
+        sys.exit(f"embedding: {command}: {ordinary.stdout}{ordinary.stderr}")
+    requests = int(ordinary.stdout.split()[0])
+    cases = [{"REFUSE_AT": str(at), **more} for more in ways for at in range(1, requests + 1)]
+    with ThreadPoolExecutor() as pool:
+        ends = list(pool.map(lambda case: run(command, **case), cases))
+    bad = [f"{command}: {case}: {end.stderr[-500:]}" for case, end in zip(cases, ends) if end.returncode != 0]
+    return requests, bad
+
+
+def differs(command, expected, status=0, **variables):
+    """That a command does not end with the status and print what is expected of it, as a list of one text or none."""
+    ended = run(command, **variables)
+    if (ended.returncode, ended.stdout) == (status, expected):
+        return []
+    return [f"{command}: status {ended.returncode}: {ended.stdout}{ended.stderr[-1000:]}"]
+
+
+def expected_of(name):
+    return (TOP / "examples" / name).with_suffix(".expected").read_text()
+
+
+def sanitizers(folder):
+    """The words that ask for AddressSanitizer, none where there is none."""
+    probe = folder / "probe.c"
+    probe.write_text("int main(void) { return 0; }\n")
+    ended = run(["cc", *SANITIZERS, probe, "-o", folder / "probe"])
+    if ended.returncode != 0:
+        print("embedding: no AddressSanitizer here")
+        return []
+    return SANITIZERS
+
+
+def from_c(folder):
+    calls, planner = TOP / "tests" / "calls.c", TOP / "examples" / "c" / "planner.c"
+    words = sanitizers(folder)
+    calls_asan = link(folder / "calls_asan", calls, words + WRAPS)
+    requests, bad = refuse_each([calls_asan], [ALONE, AND_ALL_THAT_FOLLOW])
+    at_limit = run([calls_asan, "limits"])
+    bad += [] if at_limit.returncode == 0 else [f"calls limits: {at_limit.stderr[-500:]}"]
+    bad += differs([link(folder / "planner_asan", planner, words)], expected_of("c/planner"))
+    print(f"embedding: calls from C{' under AddressSanitizer' if words else ''}, and with each of {requests} requests for memory refused")
+    if not shutil.which("valgrind"):
+        print("embedding: no valgrind here")
+        return bad
+    _, worse = refuse_each([*WATCH, link(folder / "calls", calls, ["-g", *WRAPS])], [ALONE])
+    worse += differs([*WATCH, link(folder / "planner", planner, ["-g"])], expected_of("c/planner"))
+    print("embedding: the same under valgrind")
+    return bad + worse
+
+
+def from_python():
+    configurator = TOP / "examples" / "python" / "configurator.py"
+    bad = differs([sys.executable, configurator], expected_of("python/configurator"))
+    bad += differs([sys.executable, "-m", "doctest", PYTHON / "pbcube.py"], "")
+    print("embedding: the configurator and the documentation of the module, from Python")
+    return bad
+
+
+def from_rust(folder):
+    if not shutil.which("cargo"):
+        print("embedding: no cargo here, so nothing is called from Rust")
+        return []
+    cargo = {"CARGO_TARGET_DIR": str(folder / "cargo")}
+    words = ["--offline", "--quiet", "--manifest-path", MANIFEST]
+    bad = differs(["cargo", "run", *words, "--example", "adder"], expected_of("rust/adder"), **cargo)
+    tested = run(["cargo", "test", *words], **cargo)
+    bad += [] if tested.returncode == 0 else [f"cargo test: {tested.stdout[-2000:]}{tested.stderr[-1000:]}"]
+    print("embedding: the verification query, cubes on threads and the documentation of the crate, from Rust")
+    return bad
+
+
+def shown_ways(folder):
+    """The blocks of the README that solve one instance in four ways, each with what it prints."""
+    section = (TOP / "README.md").read_text().split("\n## From C, Rust and Python\n")[1].split("\n## ")[0]
+    block = dict(re.findall(r"^```(\w+)\n(.*?)^```$", section, re.M | re.S))
+    for suffix, text in ((".c", C_AROUND % block["c"]), (".rs", RUST_AROUND % block["rust"]), (".py", block["python"])):
+        (folder / f"shown{suffix}").write_text(text)
+    words = ["bash", "-c", block["sh"].replace("pbcube", str(PROGRAM), 1)]
+    bad = differs(words, "o 3\ns OPTIMUM FOUND\nv -x1 x2 -x3\n", status=30)
+    bad += differs([link(folder / "shown", folder / "shown.c", [])], "0 1 0\n")
+    bad += differs([sys.executable, folder / "shown.py"], "Status.OPTIMUM 3 (False, True, False)\n")
+    if shutil.which("cargo"):
+        crate = folder / "shown_crate"
+        (crate / "src").mkdir(parents=True)
+        (crate / "Cargo.toml").write_text(CARGO % MANIFEST.parent)
+        shutil.copy(folder / "shown.rs", crate / "src" / "main.rs")
+        words = ["cargo", "run", "--offline", "--quiet", "--manifest-path", crate / "Cargo.toml"]
+        bad += differs(words, "Optimum Some(3) Some([false, true, false])\n", CARGO_TARGET_DIR=str(folder / "cargo"))
+    print("embedding: the ways that README.md shows")
+    return bad
+
+
+def installed(folder):
+    """What ./install puts in place is enough for a caller, and ./install --remove leaves no file."""
+    prefix = folder / "prefix"
+    said = run([TOP / "install", "--as-built", prefix])
+    names = {"bin/pbcube", "share/man/man1/pbcube.1", "lib/libpbcube.a", "lib/libpbcube.so", "include/pbcube.h"}
+    bad = [] if set(said.stdout.split()) == {str(prefix / name) for name in names} else [f"install: {said.stdout}{said.stderr}"]
+    planner = folder / "planner_installed"
+    words = [TOP / "examples" / "c" / "planner.c", "-I", prefix / "include", "-L", prefix / "lib", "-lpbcube", "-o", planner]
+    subprocess.run(["cc", "-std=c11", *words], check=True)
+    bad += differs([planner], expected_of("c/planner"), LD_LIBRARY_PATH=str(prefix / "lib"))
+    run([TOP / "install", "--remove", prefix])
+    left = [str(it) for it in prefix.rglob("*") if it.is_file()]
+    print("embedding: ./install, a caller of what it put in place, and ./install --remove")
+    return bad + [f"install --remove leaves {name}" for name in left]
+
+
+def main():
+    if not shutil.which("cc"):
+        print("embedding: no C compiler here, so there is no library")
+        return
+    subprocess.run([TOP / "c" / "build", "--as-built"], check=True, stdout=subprocess.DEVNULL)
+    with tempfile.TemporaryDirectory() as name:
+        folder = Path(name)
+        compile_header(folder)
+        bad = from_c(folder) + from_python() + from_rust(folder) + shown_ways(folder) + installed(folder)
+    if bad:
+        sys.exit("\n".join(bad))
+
+
+if __name__ == "__main__":
+    os.chdir(TOP)
+    main()
