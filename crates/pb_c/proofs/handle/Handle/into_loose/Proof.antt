@@ -21,7 +21,6 @@ use denote.Param.{layout}
 use denote.Steps.{nothing, heard}
 use denote.Triple.Entry.{alive}
 use denote.Triple.Walked.{Stays, stay_dropped, walk_of, Goes-dropped}
-use Rattle.libc.specs.Heap.{chunk}
 use Rattle.core.proofs.cell.Inside.{one}
 use Rattle.std.proofs.raw_atomic.Walks.{proved_at, leaves}
 use Rattle.std.specs.contracts.alloc.Global as heap
@@ -49,7 +48,7 @@ into_loose_spec 𝓤 𝓛 𝓜 𝓡 wired =
     -- [what is held; the allocator; nothing; the tokens]
     let x = some_of v.held some in let Told : Type 0 = Some x.0 ≡ v.held in
     rewrite ! 0 (λ (held : Option R.Denot). ‵ (holds R v.at held)) x.1 refl $
-    in_a_block ! v.at (λ p. holds R p (Some x.0)) (fst∗ 𝓤 (never 𝓤) (sem 𝓛 (chunk (bare (lone R.mir)) null_ptr))) (λ b o e.
+    in_a_block ! v.at (λ p. holds R p (Some x.0)) (fst∗ 𝓤 (never 𝓤) (sem 𝓛 (ghosts.dealloc_token a (bare (lone R.mir)) null_ptr))) (λ b o e.
     rewrite ! 1 (λ (us : List Val). ‵ (Z.own_val a us)) h.1 refl $
     let us : List Val = single (vptr b o) ∷ h.0 ∷ [] in let ew : z.0.4.0 ≡ single (vptr b o) ∷ [] = ev ∙ ap (λ (p : Ptr). single (ptr_val p) ∷ []) e in
     let good = loose_good R Z LZ ghosts b o h.0 h.2 in
