@@ -58,11 +58,9 @@ def readme_rows():
     if not rows:
         sys.exit("examples: README.md has no table of commands")
     for words, printed, status in rows:
-        lines = re.findall(r"`([^`]+)`", printed)
-        if printed.startswith("on standard error"):
-            yield words.split(), "", lines[0], int(status)
-        else:
-            yield words.split(), "".join(f"{line}\n" for line in lines), "", int(status)
+        written, _, said = printed.partition("on standard error")
+        lines, complaints = (re.findall(r"`([^`]+)`", it) for it in (written, said))
+        yield words.split(), "".join(f"{line}\n" for line in lines), complaints[0] if said else "", int(status)
 
 
 def word_rows():
@@ -71,9 +69,15 @@ def word_rows():
     yield ["examples/tie.opb", b"\xff"], "", "", 2
 
 
-def differences(program, words, out, complaint, status):
+def piped_rows():
+    """The same for texts from a pipe, which cannot be read again for a hint, and the text."""
+    yield ["--format", "cnf", "/dev/stdin"], "s SATISFIABLE\nv 1 0\n", "", 10, b"p cnf 1 1\n1 0\n"
+    yield ["/dev/stdin"], "c refused: Unfinished at line 1\ns UNSUPPORTED\n", "", 0, b"p cnf 1 1\n1 0\n"
+
+
+def differences(program, words, out, complaint, status, text=b""):
     """The lines that tell how the run is not as expected."""
-    ran = subprocess.run([program, *words], cwd=TOP, stdin=subprocess.DEVNULL, capture_output=True, timeout=60)
+    ran = subprocess.run([program, *words], cwd=TOP, input=text, capture_output=True, timeout=60)
     written, said = ran.stdout.decode(), ran.stderr.decode().split("\n")[0]
     found = list(difflib.unified_diff(out.split("\n"), written.split("\n"), "expected", "written", lineterm=""))
     if said != complaint:
@@ -84,7 +88,7 @@ def differences(program, words, out, complaint, status):
 
 
 def main(programs):
-    rows = [*example_rows(), *readme_rows(), *word_rows()]
+    rows = [*example_rows(), *readme_rows(), *word_rows(), *piped_rows()]
     failed = 0
     for program in programs or built():
         for row in rows:

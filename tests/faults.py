@@ -32,6 +32,7 @@ FILES = {
     "wide.opb": "min: 36893488147419103232 x1 55340232221128654848 x2 18446744073709551616 x3 ;\n1 x1 1 x2 >= 1 ;\n1 x2 1 x3 >= 1 ;\n",
     "contradiction.opb": "1 x1 >= 1 ;\n1 x1 = 0 ;\n",
     "product.opb": "1 x1 x2 >= 1 ;\n",
+    "older.opb": "* a comment\n+1*x1 >= 1 ;\n",
     "clauses.cnf": "p cnf 2 2\n1 2 0\n-1 2 0\n",
     "cube.icnf": "p inccnf\n1 2 0\na 1 0\n",
     # more than is read or written in one call
@@ -63,6 +64,13 @@ class Case:
     def files(self):
         return [word for word in self.words.split() if "." in word]
 
+    def without_hint(self):
+        """How a run ends that refuses its texts and cannot read the input again for a hint."""
+        return Ended(self.ordinary.out, "", self.ordinary.status)
+
+    def is_refused(self):
+        return self.ordinary.out.endswith(UNSUPPORTED)
+
 
 def solved(words, out, status):
     return Case(f"--workers 2 --split 1 {words}", Ended(out, "", status))
@@ -82,6 +90,8 @@ CASES = [
     solved("product.opb", f"c refused: NonLinear at line 1\n{UNSUPPORTED}", 0),
     solved("long.opb", f"s SATISFIABLE\nv{''.join(f' -x{i}' for i in range(1, 1000))} x1000\n", 10),
     Case("--split 2 contradiction.opb", Ended(f"c refused split: BadSplit\n{UNSUPPORTED}", "", 0)),
+    Case("clauses.cnf", Ended(f"c refused: Unfinished at line 1\n{UNSUPPORTED}", "pbcube: clauses.cnf begins as DIMACS CNF: --format cnf reads it\n", 0)),
+    Case("older.opb", Ended(f"c refused: Syntax at line 2\n{UNSUPPORTED}", "pbcube: line 2, column 1: '+1*x1'\n", 0)),
     Case("none.opb", Ended("", "pbcube: cannot read none.opb\n", 1)),
 ]
 # command lines, and their statuses: clap's texts are taken from a run without a fault
@@ -98,17 +108,19 @@ class Fault:
     def may_end(self, case, ended):
         """Whether a run of the case in which the fault came may end so."""
         if self.kind == "memory":
-            return ended in (case.ordinary, NO_MEMORY)
+            return ended in (case.ordinary, NO_MEMORY) or case.is_refused() and ended == case.without_hint()
         if self.kind == "thread" or self.how == "short":
             return ended == case.ordinary
         if self.kind == "write":
             return self.may_end_unwritten(case.ordinary, ended)
+        if self.kind == "read" and case.is_refused() and ended == case.without_hint():
+            return True
         return ended in [Ended("", f"pbcube: cannot read {file}\n", 1) for file in case.files()]
 
     def may_end_unwritten(self, ordinary, ended):
         """A report that is not taken whole is a fault; a line on standard error that is not taken is none."""
-        if ordinary.err:
-            return ended.out == ordinary.out and ordinary.err.startswith(ended.err) and ended.status == ordinary.status
+        if ordinary.err and ended.out == ordinary.out:
+            return ordinary.err.startswith(ended.err) and ended.status == ordinary.status
         said = "" if self.how == "on" else CANNOT_WRITE
         return ended.out != ordinary.out and ordinary.out.startswith(ended.out) and ended.err == said and ended.status == 1
 

@@ -11,3 +11,4 @@ pub mod Run
 pub mod Laws
 pub mod Parts
 pub mod Claims
+pub mod Statuses

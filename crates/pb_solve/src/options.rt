@@ -1,5 +1,6 @@
 //! What a run is asked for, and how it ends.
 ghost use Rattle.std.specs.Prelude.{◌≡◌, false};
+ghost use Rattle.pb_solve.specs.Statuses.{exit_status};
 
 use pb_inst::Workers;
 use pb_read::{Format, ReadFault};
@@ -50,6 +51,20 @@ pub enum Status {
     Unsupported,
     /// Memory ran out before the answer was known, or a piece was cut and no assignment was found.
     Unknown,
+}
+
+impl Status {
+    /// The exit status of a program whose report says so, as SAT and pseudo-Boolean solvers have it.
+    pub fn exit_status(self) -> u8
+        ensures { result ≡ exit_status self }
+    {
+        match self {
+            Status::Satisfiable => 10,
+            Status::Unsatisfiable => 20,
+            Status::Optimum => 30,
+            Status::Unsupported | Status::Unknown => 0,
+        }
+    }
 }
 
 /// The device that failed, because of which a run has no report.

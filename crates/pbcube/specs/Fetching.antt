@@ -1,5 +1,5 @@
 -- Which files the program fetches, and in which order.
-use Rattle.std.specs.Prelude.{◌≡◌, ◌⊎◌, Bool, true, false, List, Option, None, Some}
+use Rattle.std.specs.Prelude.{◌≡◌, ◌⊎◌, Bool, true, false, List, None, Some}
 use Rattle.clap.specs.Words.{Text, matches_of}
 use Rattle.pbcube.specs.declared.asked.Line.{Line}
 use Rattle.pbcube.specs.CommandLine.{IsLineOf, pbcube}

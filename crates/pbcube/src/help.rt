@@ -36,6 +36,18 @@ alone where nothing was. K pieces make at most B times K decisions in all. With
 several workers the bytes of a run in which a piece was cut may differ from run
 to run; those of other runs never do.
 
+The cubes of an iCNF text divide the work and are no part of the instance; other
+tools read them as 'some cube must hold'.
+
+A text that is refused is answered too: the report names its fault and the line,
+and the exit status is 0. One line on standard error may then say what helps: in
+which format the text begins, or which word of the line cannot stand there.
+
+Nothing is learnt from conflicts. So a refutation takes as many decisions as a
+tree of them needs: ten pigeons in nine holes, as clauses, take seconds, and each
+hole more ten times as long. And the long chains of implications that circuits
+make want a solver that learns clauses.
+
 Examples:
   pbcube instance.opb                          an OPB instance, by one worker
   pbcube --format cnf formula.cnf              a DIMACS CNF formula

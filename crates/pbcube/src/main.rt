@@ -5,10 +5,11 @@ ghost use Rattle.std.specs.Prelude.{◌≡◌};
 
 mod asked;
 mod command;
+mod faults;
 mod files;
 mod help;
+mod hinting;
 mod running;
-mod statuses;
 mod words;
 
 use crate::files::Files;

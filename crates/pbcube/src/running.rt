@@ -1,17 +1,18 @@
 //! The program over any files and any outputs.
 ghost use Rattle.std.specs.Prelude.{◌≡◌, false, map};
 ghost use Rattle.pbcube.specs.Fetching.{FetchesFor, FetchesInOrder};
-ghost use Rattle.pbcube.specs.Statuses.{IsExitStatus};
+ghost use Rattle.pb_solve.specs.Statuses.{IsExitStatus, exit_status};
 
 use crate::asked::Line;
+use crate::faults::ProgramFault;
 use crate::files::Files;
-use crate::statuses::{ProgramFault, exit_status};
+use crate::hinting::tell_hint;
 use crate::words::line;
 use clap::Error;
 use clap::error::ErrorKind;
-use pb_solve::{Device, Options, Ran, RunFault, report_memory, run};
+use pb_solve::{Device, Format, Options, Ran, RunFault, Status, report_memory, run};
 use std::alloc::Global;
-use std::io::{Empty, Read, Write};
+use std::io::{Empty, Read, Seek, Write};
 use std::thread::Threads;
 
 /// Runs the program on its words, its own name first, and answers its exit status. The input is fetched first, and where it
@@ -27,13 +28,14 @@ pub fn program<'a, R: Threads + Sync, F: Files, W: Write, E: Write>(
     ensures status { IsExitStatus result }
     ensures fetched { FetchesInOrder F.fetches (map (λ word. word.now) words.now) files.old files.new }
 {
-    let mut out = Device::new(out);
+    let mut out = Device::new(&mut *out);
     let line = match line(alloc, words) {
         Ok(line) => line,
         Err(fault) => return end_at_line(&fault, &mut out, err),
     };
+    let (name, format) = (line.file, line.options.format);
     match run_on_files(rt, alloc, line, files, &mut out) {
-        Ok(ran) => exit_status(ran.status),
+        Ok((ran, mut input)) => end_of_run(alloc, name, format, ran, &mut input, err),
         Err(fault) => end_at_fault(fault, err),
     }
 }
@@ -45,14 +47,14 @@ pub fn out_of_memory<W: Write, E: Write>(out: &mut W, err: &mut E) -> u8
     end_without_memory(&mut Device::new(out), err)
 }
 
-/// Fetches the files and runs on them, the input before the cube file.
+/// Fetches the files and runs on them, the input before the cube file. The input comes back with how the run ended.
 fn run_on_files<'a, R: Threads + Sync, F: Files, W: Write>(
     rt: &R,
     alloc: Global,
     line: Line<'a>,
     files: &mut F,
     out: &mut Device<W>,
-) -> Result<Ran, ProgramFault<'a>>
+) -> Result<(Ran, F::Input), ProgramFault<'a>>
     requires { out.old.failed ≡ false }
     ensures { FetchesFor F.fetches line.entry files.old files.new }
 {
@@ -61,28 +63,28 @@ fn run_on_files<'a, R: Threads + Sync, F: Files, W: Write>(
         cubes,
         options,
     } = line;
-    let Some(input) = files.fetch(file) else {
+    let Some(mut input) = files.fetch(file) else {
         return Err(ProgramFault::CannotRead(file));
     };
     let Some(name) = cubes else {
-        return match run_alone(rt, alloc, input, options, out) {
-            Ok(ran) => Ok(ran),
+        return match run_alone(rt, alloc, &mut input, options, out) {
+            Ok(ran) => Ok((ran, input)),
             Err(fault) => Err(fault_on(file, file, fault)),
         };
     };
     let Some(cubes) = files.fetch(name) else {
         return Err(ProgramFault::CannotRead(name));
     };
-    match run_with_cubes(rt, alloc, input, cubes, options, out) {
-        Ok(ran) => Ok(ran),
+    match run_with_cubes(rt, alloc, &mut input, cubes, options, out) {
+        Ok(ran) => Ok((ran, input)),
         Err(fault) => Err(fault_on(file, name, fault)),
     }
 }
 
-fn run_alone<R: Threads + Sync, I: Read + Drop, W: Write>(
+fn run_alone<R: Threads + Sync, I: Read, W: Write>(
     rt: &R,
     alloc: Global,
-    input: I,
+    input: &mut I,
     options: Options,
     out: &mut Device<W>,
 ) -> Result<Ran, RunFault>
@@ -102,7 +104,7 @@ fn run_alone<R: Threads + Sync, I: Read + Drop, W: Write>(
 fn run_with_cubes<R: Threads + Sync, I: Read + Drop, W: Write>(
     rt: &R,
     alloc: Global,
-    input: I,
+    input: &mut I,
     cubes: I,
     options: Options,
     out: &mut Device<W>,
@@ -121,6 +123,24 @@ fn fault_on<'a>(file: &'a str, cubes: &'a str, fault: RunFault) -> ProgramFault<
         RunFault::ReadCubes => ProgramFault::CannotRead(cubes),
         RunFault::Write => ProgramFault::CannotWrite,
     }
+}
+
+/// The end after a report. Where a text was refused, a hint goes to the standard error; neither the status nor what was written
+/// to the output depends on it.
+fn end_of_run<I: Read + Seek, E: Write>(
+    alloc: Global,
+    name: &str,
+    format: Format,
+    ran: Ran,
+    input: &mut I,
+    err: &mut E,
+) -> u8
+    ensures { result ≡ exit_status ran.status }
+{
+    if ran.status == Status::Unsupported {
+        tell_hint(alloc, name, format, input, err);
+    }
+    ran.status.exit_status()
 }
 
 /// The end where the words ask for no run: help, a refusal, or no memory.
@@ -146,7 +166,7 @@ fn end_without_memory<W: Write, E: Write>(out: &mut Device<W>, err: &mut E) -> u
     ensures { IsExitStatus result }
 {
     match report_memory(out) {
-        Ok(status) => exit_status(status),
+        Ok(status) => status.exit_status(),
         Err(_) => end_at_fault(ProgramFault::CannotWrite, err),
     }
 }

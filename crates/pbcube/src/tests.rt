@@ -5,7 +5,7 @@ use crate::asked::MAX_NODES;
 use crate::files::Files;
 use crate::running::{out_of_memory, program};
 use std::alloc::Global;
-use std::io::{self, Error, ErrorKind, Read, Write};
+use std::io::{self, Error, ErrorKind, Read, Seek, SeekFrom, Write};
 use std::process::Abort;
 use std::str;
 use std::test::Fail;
@@ -14,9 +14,10 @@ use std::thread::Threads;
 const TIE: &[u8] =
     b"* #variable= 3 #constraint= 2\nmin: 2 x1 3 x2 1 x3 ;\n1 x1 1 x2 >= 1 ;\n1 x2 1 x3 >= 1 ;\n";
 
-// A text that is read to its end, or that fails before it.
+// A text that is read to its end, or that fails before it, and that can go back to its start.
 #[derive(Drop)]
 struct Text {
+    whole: &'static [u8],
     rest: &'static [u8],
     is_broken: bool,
 }
@@ -30,6 +31,16 @@ impl Read for Text {
     }
 }
 
+impl Seek for Text {
+    fn seek(&mut self, to: SeekFrom) -> io::Result<u64> {
+        if to != SeekFrom::Start(0) {
+            return Err(Error::from(ErrorKind::Other));
+        }
+        self.rest = self.whole;
+        Ok(0)
+    }
+}
+
 // A few files, of which those with `broken` in front cannot be read.
 #[derive(Drop)]
 struct Folder;
@@ -40,11 +51,12 @@ impl Files for Folder {
     ghost fetches = { λ files name opened after. ⊤ };
 
     fn fetch(&mut self, name: &str) -> Option<Text> {
-        let rest: &'static [u8] = match name {
+        let whole: &'static [u8] = match name {
             "tie.opb" | "broken.opb" => TIE,
             "none_feasible.opb" => b"1 x1 >= 1 ;\n1 x1 = 0 ;\n",
             "no_objective.opb" => b"* #variable= 3 #constraint= 1\n1 x2>=1;\n",
             "product.opb" => b"1 x1 x2 >= 1 ;\n",
+            "older_spelling.opb" => b"* a comment\n+1*x1 >= 1 ;\n",
             "one_clause.cnf" => b"p cnf 2 2\n1 2 0\n-1 2 0\n",
             "own_cube.icnf" => b"p inccnf\n1 2 0\na 1 0\n",
             "good.cubes" => b"a 1 0\n",
@@ -52,7 +64,8 @@ impl Files for Folder {
             _ => return None,
         };
         Some(Text {
-            rest,
+            whole,
+            rest: whole,
             is_broken: name.starts_with("broken"),
         })
     }
@@ -115,7 +128,19 @@ struct Case {
     status: u8,
 }
 
-const CASES: [Case; 22] = [
+const CASES: [Case; 24] = [
+    Case {
+        words: &["pbcube", "one_clause.cnf"],
+        out: b"c refused: Unfinished at line 1\ns UNSUPPORTED\n",
+        err: b"pbcube: one_clause.cnf begins as DIMACS CNF: --format cnf reads it\n",
+        status: 0,
+    },
+    Case {
+        words: &["pbcube", "older_spelling.opb"],
+        out: b"c refused: Syntax at line 2\ns UNSUPPORTED\n",
+        err: b"pbcube: line 2, column 1: '+1*x1'\n",
+        status: 0,
+    },
     Case {
         words: &["pbcube", "tie.opb"],
         out: b"o 3\ns OPTIMUM FOUND\nv -x1 x2 -x3\n",

@@ -9,7 +9,6 @@ mod help;
 mod names;
 mod reading;
 mod running;
-mod statuses;
 mod words;
 
 use crate::files::Files;

@@ -3,14 +3,13 @@ ghost use Rattle.std.specs.Prelude.{◌≡◌, ◌≢◌, ◌≤◌, ◌<◌, �
 ghost use Rattle.pb_inst.specs.Problem.{Problem};
 ghost use Rattle.pb_join.specs.declared.faults.Rejection.{Rejection as Why};
 ghost use Rattle.pbcube_join.specs.Joining.{Tells};
-ghost use Rattle.pbcube_join.specs.Statuses.{IsExitStatus};
+ghost use Rattle.pb_solve.specs.Statuses.{IsExitStatus};
 
 use crate::asked::Line;
 use crate::faults::{ProgramFault, Refusal};
 use crate::files::Files;
 use crate::names::report_names;
 use crate::reading::{read_instance, read_reports};
-use crate::statuses::exit_status;
 use crate::words::line;
 use clap::Error;
 use clap::error::ErrorKind;
@@ -39,7 +38,7 @@ pub fn program<'a, F: Files, W: Write, E: Write>(
     match join_line(alloc, line, files, &mut out) {
         Ok(joined) => {
             name_pieces(&joined.states, err);
-            exit_status(joined.status)
+            joined.status.exit_status()
         }
         Err(fault) => end_at_fault(&fault, err),
     }

@@ -1,0 +1,135 @@
+//! The first token of OPB that cannot stand where it does.
+use crate::places::moved;
+use bstr::ByteSlice;
+use std::ops::Range;
+
+/// What a token may be, after those before it.
+#[derive(Clone, Copy, PartialEq, Eq)]
+enum Expected {
+    /// The first token of a statement.
+    Start,
+    /// A number of a term, or the end of the objective.
+    ObjectiveNumber,
+    /// The first literal of a term, of the objective or of a constraint.
+    Literal { objective: bool },
+    /// What follows a literal: one more, the next term, or in a constraint the relation.
+    AfterLiteral { objective: bool },
+    /// The number behind the relation.
+    Bound,
+    /// The end of a constraint.
+    End,
+}
+
+/// The first token, in a text that begins with a statement, that no statement has at its place. Products pass, as they are a
+/// fault of their own.
+pub fn misplaced(text: &[u8]) -> Option<Range<usize>> {
+    let mut expected = Expected::Start;
+    let mut start: usize = 0;
+    for line in text.lines_with_terminator() {
+        if !line.trim_start().starts_with(b"*") {
+            match misplaced_on(line, expected) {
+                Ok(after) => expected = after,
+                Err(bounds) => return Some(moved(bounds, start)),
+            }
+        }
+        start = start.saturating_add(line.len());
+    }
+    None
+}
+
+/// What is expected after the tokens of a line, or where on it the first misplaced one stands.
+fn misplaced_on(line: &[u8], expected: Expected) -> Result<Expected, Range<usize>> {
+    let mut expected = expected;
+    let mut start = None;
+    for (at, byte) in line.iter().enumerate() {
+        if ends_word(*byte) {
+            if let Some(from) = start {
+                expected = after_word(line, from..at, expected)?;
+                start = None;
+            }
+            expected = after_mark(line, at, expected)?;
+        } else if start.is_none() {
+            start = Some(at);
+        }
+        if *byte == b':' {
+            let from = start.unwrap_or(at);
+            expected = after_word(line, from..at.saturating_add(1), expected)?;
+            start = None;
+        }
+    }
+    match start {
+        Some(from) => after_word(line, from..line.len(), expected),
+        None => Ok(expected),
+    }
+}
+
+fn ends_word(byte: u8) -> bool {
+    matches!(
+        byte,
+        b' ' | b'\t' | b'\r' | b'\n' | b';' | b'>' | b'<' | b'='
+    )
+}
+
+/// What is expected after the mark at this place, if it is one: the end of a statement or a relation.
+fn after_mark(line: &[u8], at: usize, expected: Expected) -> Result<Expected, Range<usize>> {
+    let next = at.saturating_add(1);
+    let before = at.checked_sub(1).and_then(|it| line.get(it)).copied();
+    let relation = match line.get(at).copied() {
+        Some(b';') => return after_end(at..next, expected),
+        Some(b'>' | b'<') if line.get(next) != Some(&b'=') => return Err(at..next),
+        Some(b'>' | b'<') => at..next.saturating_add(1),
+        Some(b'=') if before != Some(b'>') && before != Some(b'<') => at..next,
+        _ => return Ok(expected),
+    };
+    match expected {
+        Expected::Start | Expected::AfterLiteral { objective: false } => Ok(Expected::Bound),
+        _ => Err(relation),
+    }
+}
+
+fn after_end(bounds: Range<usize>, expected: Expected) -> Result<Expected, Range<usize>> {
+    match expected {
+        Expected::ObjectiveNumber | Expected::AfterLiteral { objective: true } | Expected::End =>
+            Ok(Expected::Start),
+        _ => Err(bounds),
+    }
+}
+
+/// What is expected after the word between these bounds.
+fn after_word(
+    line: &[u8],
+    bounds: Range<usize>,
+    expected: Expected,
+) -> Result<Expected, Range<usize>> {
+    let word = line.get(bounds.start..bounds.end).unwrap_or_default();
+    match expected {
+        Expected::Start if word == b"min:".as_slice() => Ok(Expected::ObjectiveNumber),
+        Expected::Start if is_number(word) => Ok(Expected::Literal { objective: false }),
+        Expected::ObjectiveNumber if is_number(word) => Ok(Expected::Literal { objective: true }),
+        Expected::Literal { objective } | Expected::AfterLiteral { objective }
+            if is_literal(word) => { Ok(Expected::AfterLiteral { objective }) }
+        Expected::AfterLiteral { objective } if is_number(word) => {
+            Ok(Expected::Literal { objective })
+        }
+        Expected::Bound if is_number(word) => Ok(Expected::End),
+        _ => Err(bounds),
+    }
+}
+
+fn is_number(word: &[u8]) -> bool {
+    let digits = match word.first() {
+        Some(b'+' | b'-') => word.get(1..).unwrap_or_default(),
+        _ => word,
+    };
+    are_digits(digits)
+}
+
+fn is_literal(word: &[u8]) -> bool {
+    let variable = word.strip_prefix(b"~").unwrap_or(word);
+    variable.strip_prefix(b"x").is_some_and(are_digits)
+}
+
+/// Whether there are digits alone, one at least.
+pub fn are_digits(word: &[u8]) -> bool {
+    !word.is_empty() && word.iter().all(|byte| byte.is_ascii_digit())
+}
