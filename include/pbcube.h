@@ -26,7 +26,7 @@ extern "C" {
 typedef struct pbcube pbcube;
 
 enum pbcube_answer { /* of pbcube_solve and pbcube_run */
-    PBCUBE_UNKNOWN = 1,        /* the search was cut by its budget, and found nothing */
+    PBCUBE_UNKNOWN = 1,        /* the search was cut by its budget, and found nothing; or of pbcube_run: memory was refused */
     PBCUBE_SATISFIABLE = 10,   /* there is no objective; the first feasible assignment was found */
     PBCUBE_FOUND = 11,         /* the search was cut; what was found is feasible, and may not be the least */
     PBCUBE_UNSATISFIABLE = 20, /* no assignment is feasible */
@@ -37,7 +37,7 @@ enum pbcube_answer { /* of pbcube_solve and pbcube_run */
 enum pbcube_code { /* of every call that answers an int */
     PBCUBE_OK = 0,
     PBCUBE_BAD_VARIABLE = -1,  /* a variable is 0, over 1048576, or for pbcube_value over the number of variables */
-    PBCUBE_TOO_LARGE = -2,     /* the absolute numbers of a statement add up to more than the bound (no 2^62 terms of 64 bits do) */
+    PBCUBE_TOO_LARGE = -2,     /* the absolute numbers of a statement add up to more than 2^126 - 1 (it takes over 2^62 terms) */
     PBCUBE_TOO_MANY = -3,      /* there would be more constraints or terms than the limit */
     PBCUBE_MEMORY = -4,        /* memory was refused */
     PBCUBE_UNENDED = -5,       /* terms were given, and their sum was not ended */
@@ -65,20 +65,22 @@ int pbcube_end(pbcube *solver, int relation, int64_t bound);
 int pbcube_end_objective(pbcube *solver);
 int pbcube_clause(pbcube *solver, const int32_t *literals, size_t count);
 int pbcube_discard(pbcube *solver);
-uint32_t pbcube_variables(pbcube *solver); /* how many there are so far */
+uint32_t pbcube_variables(pbcube *solver); /* how many there are so far; of null 0 */
 
-/* Solving, with at most so many decisions, or PBCUBE_NO_LIMIT. A solver may be solved again with another budget; what was found
- * last is kept until something else is. */
+/* Solving, with at most so many decisions, or PBCUBE_NO_LIMIT. A solver may be solved again with another budget; it begins anew.
+ * What was found is kept until a later search ends, which also takes it away where that one finds nothing. */
 int pbcube_solve(pbcube *solver, uint64_t decisions);
 
-/* Reading what was found. The cost is 0 without an objective. A value is 0 or 1. The text of the cost is decimal: as many bytes
- * of it as fit are written, with no zero at the end, and its length is answered, 0 where nothing was found. */
+/* Reading what was found. The cost is 0 without an objective; where a code is answered none is written. A value is 0 or 1. The
+ * text of the cost is decimal, of at most 39 bytes: as many of them as fit are written, with no zero at the end, and its length is
+ * answered, 0 where nothing was found or the solver is null. Null for the text is room for none. */
 int pbcube_cost(pbcube *solver, int64_t *cost);
 size_t pbcube_cost_text(pbcube *solver, char *text, size_t size);
 int pbcube_value(pbcube *solver, uint32_t variable);
 
 /* The short way: solves a text by itself, apart from what the solver was told, and keeps its report, which is what the program
- * pbcube prints of such a file. pbcube_report writes it as pbcube_cost_text does the cost, up to the next pbcube_run. */
+ * pbcube prints of such a file: where memory is refused it may say so ("c refused: Memory"), with the answer PBCUBE_UNKNOWN.
+ * pbcube_report writes it as pbcube_cost_text does the cost, up to the next pbcube_run. */
 int pbcube_run(pbcube *solver, int format, const char *text, size_t length, uint64_t decisions);
 size_t pbcube_report(pbcube *solver, char *text, size_t size);
 

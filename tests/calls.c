@@ -79,6 +79,8 @@ static void in_order(pbcube *solver)
     EXPECT(pbcube_value(solver, 0) == PBCUBE_BAD_VARIABLE && pbcube_value(solver, 3) == PBCUBE_BAD_VARIABLE);
     EXPECT(pbcube_term(solver, 1, 1) == PBCUBE_CLOSED && pbcube_end(solver, PBCUBE_EQUAL, 0) == PBCUBE_CLOSED);
     EXPECT(pbcube_clause(solver, clause, 2) == PBCUBE_CLOSED && pbcube_end_objective(solver) == PBCUBE_CLOSED);
+    EXPECT(pbcube_solve(solver, 0) == PBCUBE_UNKNOWN && pbcube_value(solver, 1) == PBCUBE_NO_ANSWER); /* in place of the optimum */
+    EXPECT(pbcube_cost(solver, &cost) == PBCUBE_NO_ANSWER && cost == 2);
 }
 
 static void great_costs(pbcube *solver)

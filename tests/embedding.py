@@ -50,7 +50,8 @@ def link(program, source, words):
 
 
 def run(command, **variables):
-    environment = {**os.environ, "PYTHONPATH": str(PYTHON), "PYTHONDONTWRITEBYTECODE": "1", **variables}
+    others = {name: text for name, text in os.environ.items() if not name.startswith("PBCUBE_")}  # which name other libraries
+    environment = {**others, "PYTHONPATH": str(PYTHON), "PYTHONDONTWRITEBYTECODE": "1", **variables}
     return subprocess.run(command, env=environment, capture_output=True, text=True, timeout=500)
 
 
@@ -153,14 +154,16 @@ def shown_ways(folder):
 
 def installed(folder):
     """What ./install puts in place is enough for a caller, and ./install --remove leaves no file."""
-    prefix = folder / "prefix"
+    prefix = folder / "a prefix"
     said = run([TOP / "install", "--as-built", prefix])
     names = {"bin/pbcube", "share/man/man1/pbcube.1", "lib/libpbcube.a", "lib/libpbcube.so", "include/pbcube.h"}
-    bad = [] if set(said.stdout.split()) == {str(prefix / name) for name in names} else [f"install: {said.stdout}{said.stderr}"]
+    placed = {str(prefix / name) for name in names}
+    bad = [] if set(said.stdout.splitlines()) == placed else [f"install: {said.stdout}{said.stderr}"]
     planner = folder / "planner_installed"
     words = [TOP / "examples" / "c" / "planner.c", "-I", prefix / "include", "-L", prefix / "lib", "-lpbcube", "-o", planner]
     subprocess.run(["cc", "-std=c11", *words], check=True)
     bad += differs([planner], expected_of("c/planner"), LD_LIBRARY_PATH=str(prefix / "lib"))
+    bad += differs([TOP / "install", "--take-away", prefix], "", status=2)
     run([TOP / "install", "--remove", prefix])
     left = [str(it) for it in prefix.rglob("*") if it.is_file()]
     print("embedding: ./install, a caller of what it put in place, and ./install --remove")

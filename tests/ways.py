@@ -24,6 +24,8 @@ sys.path.insert(0, str(Path(__file__).resolve().parent.parent / "bindings" / "py
 if not shutil.which("cc"):
     print("ways: no C compiler here, so there is no library")
     sys.exit(0)
+os.environ.pop("PBCUBE_LIBRARY", None)
+os.environ.pop("PBCUBE_LIB_DIR", None)
 import pbcube
 from budgets import Instance, instances
 from examples import TOP, built

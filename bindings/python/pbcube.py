@@ -18,22 +18,22 @@ or tell the rules one by one:
 Among the assignments of the least cost the answer is the first one: at the first variable where two differ, the one with
 False comes first. The module needs the shared object libpbcube.so, which `c/build` builds and `./install` puts in place: under the
 name in the environment variable PBCUBE_LIBRARY, or else beside this file, in c/out of the repository, in ~/.local/lib, or where
-the system's loader looks.
+the system's loader looks. A search ends by itself or by its budget: while one runs, Ctrl-C waits.
 """
 
 from __future__ import annotations
 
 import ctypes
-import ctypes.util
 import enum
 import os
 import re
 import threading
 from dataclasses import dataclass
+from operator import index
 from pathlib import Path
 from typing import Callable, Iterable, Sequence
 
-__all__ = ["Answer", "Constraint", "Error", "Literal", "Model", "Refused", "Status", "Sum", "solve"]
+__all__ = ["Answer", "Constraint", "Error", "Literal", "Model", "Refused", "Status", "Sum", "solve", "total"]
 
 _NO_LIMIT = 2**64 - 1
 _FORMATS = {"opb": 0, "cnf": 1, "icnf": 2}
@@ -72,6 +72,7 @@ class Refused(Error):
 
     def __init__(self, name: str, line: int) -> None:
         super().__init__(name)
+        self.args = (name, line)  # by which it is made again in another process
         self.line = line
 
     def __str__(self) -> str:
@@ -80,18 +81,16 @@ class Refused(Error):
 
 def _find_library() -> str:
     here = Path(__file__).resolve().parent
-    named = os.environ.get("PBCUBE_LIBRARY")
-    places = [here, here.parent.parent / "c" / "out", Path.home() / ".local" / "lib"]
+    places = [here, here.parent.parent / "c" / "out", Path(os.path.expanduser("~/.local/lib"))]
     built = [str(place / "libpbcube.so") for place in places if (place / "libpbcube.so").exists()]
-    found = [named] if named else [*built, ctypes.util.find_library("pbcube")]
-    for path in found:
-        if path:
-            return path
-    raise ImportError("libpbcube.so is not found: build it by c/build, or name it in PBCUBE_LIBRARY")
+    return os.environ.get("PBCUBE_LIBRARY") or next(iter(built), "libpbcube.so")
 
 
 def _load() -> ctypes.CDLL:
-    library = ctypes.CDLL(_find_library())
+    try:
+        library = ctypes.CDLL(_find_library())
+    except OSError as fault:
+        raise ImportError(f"{fault}: build libpbcube.so by c/build, or name it in PBCUBE_LIBRARY") from fault
     pointer, integer, size = ctypes.c_void_p, ctypes.c_int, ctypes.c_size_t
     signatures = {
         "new": (pointer, []),
@@ -151,9 +150,9 @@ def _checked(code: int) -> int:
 def _budget(nodes: int | None) -> int:
     if nodes is None:
         return _NO_LIMIT
-    if not 0 <= nodes < _NO_LIMIT:
+    if not 0 <= index(nodes) < _NO_LIMIT:
         raise ValueError("a budget is from 0 to 2**64 - 2")
-    return nodes
+    return index(nodes)
 
 
 @dataclass(frozen=True, eq=False)
@@ -162,11 +161,15 @@ class Literal:
 
     number: int
 
+    def __post_init__(self) -> None:
+        if not 1 <= abs(index(self.number)) <= _MOST_VARIABLES:
+            raise Error("BadVariable")
+
     def __invert__(self) -> Literal:
         return Literal(-self.number)
 
     def __mul__(self, coefficient: int) -> Sum:
-        return Sum(((coefficient, self.number),))
+        return Sum(((index(coefficient), self.number),))
 
     __rmul__ = __mul__
 
@@ -196,10 +199,13 @@ class Literal:
 
     __hash__ = object.__hash__
 
+    def __bool__(self) -> bool:
+        raise TypeError("a literal has no truth value: an answer tells it")
+
 
 @dataclass(frozen=True, eq=False)
 class Sum:
-    """A sum of literals with coefficients, and a number."""
+    """A sum of literals with coefficients, and a number. Each `+` makes a new one: of very many parts, take their `total`."""
 
     terms: tuple[tuple[int, int], ...] = ()
     constant: int = 0
@@ -211,6 +217,7 @@ class Sum:
     __radd__ = __add__
 
     def __mul__(self, factor: int) -> Sum:
+        factor = index(factor)
         return Sum(tuple((factor * coefficient, literal) for coefficient, literal in self.terms), factor * self.constant)
 
     __rmul__ = __mul__
@@ -239,15 +246,31 @@ class Sum:
 
     __hash__ = object.__hash__
 
+    def __bool__(self) -> bool:
+        raise TypeError("a sum has no truth value: compare it")
+
 
 def _sum(value: object) -> Sum:
     if isinstance(value, Sum):
         return value
     if isinstance(value, Literal):
         return value * 1
-    if isinstance(value, int):
-        return Sum(constant=value)
-    raise TypeError(f"no sum of literals: {value!r}")
+    try:
+        return Sum(constant=index(value))  # type: ignore[arg-type]
+    except TypeError:
+        raise TypeError(f"no sum of literals: {value!r}") from None
+
+
+def _number(literal: object) -> int:
+    if isinstance(literal, Literal):
+        return literal.number
+    raise TypeError(f"no literal: {literal!r}")
+
+
+def total(parts: Iterable[Literal | Sum | int]) -> Sum:
+    """The sum of all parts, 0 of none, in time by their number, where `sum` takes it by the square of that."""
+    sums = [_sum(part) for part in parts]
+    return Sum(tuple(term for each in sums for term in each.terms), sum(each.constant for each in sums))
 
 
 @dataclass(frozen=True)
@@ -272,12 +295,13 @@ class Answer:
     values: tuple[bool, ...] | None
 
     def __getitem__(self, literal: Literal) -> bool:
-        """Whether a literal is true. Raises LookupError where nothing was found."""
+        """Whether a literal is true. Raises LookupError where nothing was found, or its variable is none of the answer's."""
+        number = _number(literal)
         if self.values is None:
             raise LookupError("nothing was found")
-        place = abs(literal.number) - 1
-        value = self.values[place] if place < len(self.values) else False
-        return value if literal.number > 0 else not value
+        if abs(number) > len(self.values):
+            raise LookupError(f"no variable {abs(number)} among {len(self.values)}")
+        return self.values[abs(number) - 1] == (number > 0)
 
 
 def _within_64_bits(*numbers: int) -> None:
@@ -293,6 +317,7 @@ class Model:
         self._solver = _Solver()
         self._variables = 0
         self._has_objective = False
+        self._added_cost = 0
 
     def variable(self) -> Literal:
         """A new variable."""
@@ -300,26 +325,40 @@ class Model:
 
     def variables(self, count: int) -> list[Literal]:
         """So many new variables."""
-        if count < 0 or self._variables + count > _MOST_VARIABLES:
-            raise Error("BadVariable")
-        first = self._variables + 1
-        self._variables += count
+        count = index(count)
+        with self._solver.lock:
+            first = self._variables + 1
+            if count < 0 or self._variables + count > _MOST_VARIABLES:
+                raise Error("BadVariable")
+            self._variables += count
         return [Literal(number) for number in range(first, first + count)]
 
     def minimise(self, cost: Literal | Sum | int) -> None:
-        """Makes the sum what is to be least, in place of an earlier one. Its number is added to no cost."""
-        self._tell(_sum(cost).terms, lambda solver: _library.pbcube_end_objective(solver))
-        self._has_objective = True
+        """Makes the sum what is to be least, in place of an earlier one."""
+        objective = _sum(cost)
+        self._tell(objective.terms, lambda solver: _library.pbcube_end_objective(solver))
+        self._has_objective, self._added_cost = True, objective.constant
 
-    def add(self, constraint: Constraint) -> None:
-        """Adds a constraint, as `2 * x + 3 * ~y >= 2`. Raises Error, and adds nothing, where it is refused."""
+    def add(self, constraint: Constraint | bool) -> None:
+        """Adds a constraint, as `2 * x + 3 * ~y >= 2`. Raises Error, and adds nothing, where it is refused. What Python itself
+        compared, as a `sum` of nothing is, holds always or never:
+
+            >>> model = Model()
+            >>> model.add(sum([]) == 1)
+            >>> model.solve().status
+            Status.UNSATISFIABLE
+        """
+        if isinstance(constraint, bool):
+            constraint = Constraint((), ">=", 0 if constraint else 1)
+        if not isinstance(constraint, Constraint):
+            raise TypeError(f"no constraint: {constraint!r}")
         _within_64_bits(constraint.bound)
         relation, bound = _RELATIONS[constraint.relation], constraint.bound
         self._tell(constraint.terms, lambda solver: _library.pbcube_end(solver, relation, bound))
 
     def clause(self, literals: Iterable[Literal]) -> None:
         """Adds that at least one of the literals is true."""
-        numbers = [literal.number for literal in literals]
+        numbers = [_number(literal) for literal in literals]
         array = (ctypes.c_int32 * len(numbers))(*numbers)
         with self._solver.lock:
             _checked(_library.pbcube_clause(self._solver.pointer, array, len(numbers)))
@@ -337,7 +376,7 @@ class Model:
 
     def solve(self, nodes: int | None = None) -> Answer:
         """Searches for the least assignment, with at most `nodes` decisions where they are given. After the first call no more
-        can be added; another call searches again, with a budget of its own."""
+        can be added; another call searches again from the beginning, with a budget of its own."""
         solver = self._solver.pointer
         with self._solver.lock:
             status = Status(_checked(_library.pbcube_solve(solver, _budget(nodes))))
@@ -345,7 +384,7 @@ class Model:
                 return Answer(status, None, None)
             named = _library.pbcube_variables(solver)
             values = tuple(_library.pbcube_value(solver, variable) == 1 for variable in range(1, named + 1))
-            cost = int(self._solver.text("cost_text")) if self._has_objective else None
+            cost = int(self._solver.text("cost_text")) + self._added_cost if self._has_objective else None
         return Answer(status, cost, values + (False,) * (self._variables - named))
 
 
@@ -359,10 +398,14 @@ def solve(text: str | bytes, format: str = "opb", nodes: int | None = None) -> A
 
     Raises Refused, with the fault's name and its line, where the text is not of the format, and MemoryError where memory is
     refused.
+
+        >>> solve("1 x1 >= 1 ;\\n1 x1 x2 >= 1 ;\\n")
+        Traceback (most recent call last):
+        pbcube.Refused: NonLinear at line 2
     """
     if format not in _FORMATS:
         raise ValueError(f"no format: {format!r}")
-    data = text.encode("utf-8") if isinstance(text, str) else text
+    data = text.encode("utf-8", "surrogateescape") if isinstance(text, str) else bytes(memoryview(text))
     solver = _Solver()
     code = _checked(_library.pbcube_run(solver.pointer, _FORMATS[format], data, len(data), _budget(nodes)))
     report = solver.text("report")

@@ -6,6 +6,8 @@
 A wish is the name of a part. Exits with 1 where no bicycle has all of them.
 """
 
+from __future__ import annotations
+
 import sys
 
 from pbcube import Literal, Model, Status
@@ -48,7 +50,7 @@ def cheapest(wishes: tuple[str, ...], besides: set[str] | None = None) -> tuple[
     if besides is not None:
         model.clause([~part[name] if name in besides else part[name] for name in part])
     answer = model.solve()
-    if answer.status is not Status.OPTIMUM:
+    if answer.status is not Status.OPTIMUM or answer.cost is None:
         return None
     return answer.cost, {name for name in part if answer[part[name]]}
 

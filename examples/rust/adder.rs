@@ -64,7 +64,7 @@ fn fault(is_more: bool, lost_carry: Option<usize>) -> Result<Option<i128>, Error
 
 fn main() -> Result<(), Error> {
     for lost_carry in [None, Some(3)] {
-        match fault(true, lost_carry)?.or(fault(false, lost_carry)?) {
+        match fault(true, lost_carry)?.into_iter().chain(fault(false, lost_carry)?).min() {
             None => println!("the circuit adds all numbers of {BITS} bits"),
             Some(sum) => println!("a circuit that loses a carry gets the sum {sum} wrong, and no lesser one"),
         }

@@ -125,7 +125,7 @@ fn status(code: i32) -> Result<Status, Error> {
 pub struct Answer {
     /// What the search found.
     pub status: Status,
-    /// The cost, where something was found that 128 bits hold: 0 without an objective.
+    /// The cost, where something was found: 0 without an objective.
     pub cost: Option<i128>,
     /// The values of the variables from 1 on, where something was found.
     pub values: Option<Vec<bool>>,
@@ -196,7 +196,7 @@ impl Solver {
     }
 
     /// Searches for the least assignment, with at most `decisions` decisions where they are given. No more can be added
-    /// afterwards; another call searches again, with a budget of its own.
+    /// afterwards; another call searches again from the beginning, with a budget of its own.
     pub fn solve(&mut self, decisions: Option<u64>) -> Result<Answer, Error> {
         let pointer = self.pointer.as_ptr();
         // SAFETY: the solver is ours.
@@ -212,7 +212,7 @@ impl Solver {
         Ok(Answer { status, cost, values: Some(values) })
     }
 
-    /// Solves a text by itself, apart from what the solver was told.
+    /// Solves a text by itself, apart from what the solver was told. Fails where memory is refused.
     ///
     /// ```
     /// # use pbcube::{Error, Format, Solver, Status};
@@ -228,7 +228,11 @@ impl Solver {
         // SAFETY: the solver is ours, and the slice lives through the call.
         let code = unsafe { sys::pbcube_run(self.pointer.as_ptr(), format as i32, text.as_ptr().cast(), text.len(), decisions) };
         let status = status(code)?;
-        Ok(Report { status, text: self.text(sys::pbcube_report) })
+        let text = self.text(sys::pbcube_report);
+        if status == Status::Unknown && text.starts_with("c refused: Memory") {
+            return Err(Error::Memory);
+        }
+        Ok(Report { status, text })
     }
 
     fn text(&mut self, write: unsafe extern "C" fn(*mut sys::Raw, *mut std::ffi::c_char, usize) -> usize) -> String {
