@@ -1,5 +1,5 @@
 -- What a call does to the session that a solver holds, and which number it answers.
-use Rattle.std.specs.Prelude.{◌≡◌, ◌≢◌, ◌↔◌, ◌⊎◌, ℕ, ◌+◌, ◌-◌, ◌<◌, ◌≤◌, ℤ, ◌≤ℤ◌, pos, neg_ℤ, if◌then◌else◌, unsigned_abs, true, false, List, [], ◌∷◌, ◌++◌, length, map, Option, None, Some, IfSome, IfNone, Result, OnOk, OnErr, IfOk, IfErr, IsErrOf, ◌==◌, slice_index_or}
+use Rattle.std.specs.Prelude.{◌≡◌, ◌≢◌, ◌↔◌, ◌⊎◌, ℕ, ◌+◌, ◌-◌, ◌<◌, ◌≤◌, ℤ, ◌≤ℤ◌, pos, neg_ℤ, if◌then◌else◌, unsigned_abs, true, false, List, [], ◌∷◌, ◌++◌, length, map, All, Option, None, Some, IfSome, IfNone, Result, OnOk, OnErr, IfOk, IfErr, IsErrOf, ◌==◌, slice_index_or}
 use Rattle.std.specs.Fmt.{signed_decimal}
 use Rattle.pb_inst.specs.declared.TheConstants.{MAX_VARS, MAX_TERMS, SUM_BOUND}
 use Rattle.pb_inst.specs.declared.constraints.Relation.{Relation}
@@ -78,11 +78,24 @@ pub record SetsObjective (old new : Told) (said : Result (Unit {0}) SessionFault
   pub too_many : IsErrOf said (Statement refused.TooMany) ↔ ((old.is_closed ≡ false) × (total_magnitude old.terms ≤ SUM_BOUND) × (MAX_TERMS < length old.terms + constraint_terms old.problem.constraints))
   pub other : IfErr said (λ fault. (fault ≢ Statement refused.BadVariable) × (fault ≢ Unended))
 
+-- why a clause is refused
+abbrev pub RefusesClause : Told → List ℤ → SessionFault → Type 0
+RefusesClause old literals Unended = old.terms ≢ []
+RefusesClause old literals Closed = old.is_closed ≡ true
+RefusesClause old literals (Statement refused.BadVariable) = ¬ All IsVariable literals
+RefusesClause old literals (Statement refused.TooLarge) = SUM_BOUND < length literals + 1
+RefusesClause old literals (Statement refused.TooMany) = ¬ HasRoom (statements old.problem) (length literals)
+RefusesClause old literals (Statement refused.Memory) = Unit {0}
+
 -- the literals become a clause, unless a sum is not ended
 pub record AddsClause (old new : Told) (literals : List ℤ) (said : Result (Unit {0}) SessionFault) : Type 0 where
   pub added : OnOk said ((lits : List Literal) × (map number_of lits ≡ literals) × (new ≡ record old { problem = with_constraint old.problem (clause_constraint lits) }))
   pub unchanged : OnErr said (new ≡ old)
   pub unended : IsErrOf said Unended ↔ (old.terms ≢ [])
+
+-- a clause is taken or refused for what it and the session are
+abbrev pub JudgesClause : Told → List ℤ → Result (Unit {0}) SessionFault → Type 0
+JudgesClause old literals said = OnOk said ((old.is_closed ≡ false) × All IsVariable literals) × IfErr said (RefusesClause old literals)
 
 abbrev pub TellsTerm : (old new : Told) (coefficient literal answer : ℤ) → Type 0
 TellsTerm old new coefficient literal answer = Says answer (AddsTerm old new coefficient literal)
@@ -97,7 +110,7 @@ abbrev pub TellsObjective : (old new : Told) (answer : ℤ) → Type 0
 TellsObjective old new answer = Says answer (SetsObjective old new)
 
 abbrev pub TellsClause : (old new : Told) (literals : List ℤ) (answer : ℤ) → Type 0
-TellsClause old new literals answer = Says answer (AddsClause old new literals)
+TellsClause old new literals answer = Says answer (λ said. AddsClause old new literals said × JudgesClause old literals said)
 
 abbrev pub Forgets : (old new : Told) (answer : ℤ) → Type 0
 Forgets old new answer = (new ≡ record old { terms = [] }) × (answer ≡ number.OK)

@@ -1,9 +1,9 @@
 //! Telling a solver its statements.
-ghost use Rattle.std.specs.Prelude.{◌≡◌, ◌≢◌, List, [], map, OnOk, IfErr};
+ghost use Rattle.std.specs.Prelude.{◌≡◌, ◌≢◌, List, [], map, false, All, OnOk, IfErr};
 ghost use Rattle.pb_inst.specs.Constraints.{unit_term};
 ghost use Rattle.pb_inst.specs.Literal.{Literal};
 ghost use Rattle.pb_c.specs.Codes.{told_code};
-ghost use Rattle.pb_c.specs.Called.{number_of, OnHeld, AddsTerm, AddsClause, TellsTerm, TellsEnd, TellsObjective, TellsClause, Forgets};
+ghost use Rattle.pb_c.specs.Called.{number_of, IsVariable, OnHeld, AddsTerm, AddsClause, RefusesClause, TellsTerm, TellsEnd, TellsObjective, TellsClause, Forgets};
 
 use crate::codes::{BAD_ARGUMENT, EMPTY, OK, code_of_fault};
 use crate::literals::{literal_of, relation_of};
@@ -113,7 +113,9 @@ fn add_term(session: &mut Session, coefficient: i64, literal: i32) -> Result<(),
 
 /// Adds the clause of literals' numbers. Changes nothing where one of them is refused.
 fn add_clause(session: &mut Session, literals: &[i32]) -> Result<(), SessionFault>
-    ensures { AddsClause session.old session.new literals.now result }
+    ensures added { AddsClause session.old session.new literals.now result }
+    ensures accepted { OnOk result ((session.old.is_closed ≡ false) × All IsVariable literals.now) }
+    ensures refused { IfErr result (RefusesClause session.old literals.now) }
 {
     if session.has_terms() {
         return Err(SessionFault::Unended);
@@ -131,7 +133,9 @@ fn add_units(session: &mut Session, literals: &[i32]) -> Result<(), SessionFault
     requires { session.old.terms ≡ [] }
     ensures units { OnOk result ((lits : List Literal) × (map number_of lits ≡ literals.now) × (session.new ≡ record session.old { terms = map unit_term lits })) }
     ensures apart { record session.new { terms = [] } ≡ session.old }
+    ensures accepted { OnOk result (All IsVariable literals.now) }
     ensures other { IfErr result (λ fault. fault ≢ SessionFault.Unended) }
+    ensures refused { IfErr result (RefusesClause session.old literals.now) }
 {
     for literal in literals {
         session.term(1, literal_of(*literal)?)?;

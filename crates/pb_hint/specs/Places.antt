@@ -1,5 +1,5 @@
 -- Where words stand in a text.
-use Rattle.std.specs.Prelude.{◌≡◌, ℕ, ◌+◌, ◌==◌, Bool, List, ◌++◌, length, Some}
+use Rattle.std.specs.Prelude.{◌≡◌, ℕ, ◌+◌, ◌<◌, ◌==◌, Bool, List, ◌++◌, length, take, Some}
 use Rattle.std.specs.List.{count_by, last_or}
 use Rattle.pb_hint.specs.declared.places.Place.{Place}
 
@@ -17,9 +17,13 @@ pub record IsPosition (before : List ℕ) (line_number column_number : ℕ) : Ty
   pub line : line_number ≡ count_by is_line_feed above + 1
   pub column : column_number ≡ length left + 1
 
--- the word of the place stands in the text, at the place's line and column
-pub record StandsIn (text : List ℕ) (place : Place) : Type 0 where
-  pub before : List ℕ
+-- the word of the place, which has a byte at least, stands in the text after so many bytes, at the place's line and column
+pub record StandsAfter (text : List ℕ) (start : ℕ) (place : Place) : Type 0 where
   pub after : List ℕ
-  pub parts : text ≡ before ++ (place.word.now ++ after)
-  pub position : IsPosition before place.line place.column
+  pub parts : text ≡ take start text ++ (place.word.now ++ after)
+  pub position : IsPosition (take start text) place.line place.column
+  pub shown : 0 < length place.word.now
+
+-- the word of the place stands in the text, at the place's line and column
+abbrev pub StandsIn : List ℕ → Place → Type 0
+StandsIn text place = (start : ℕ) × StandsAfter text start place

@@ -4,8 +4,9 @@ use crate::places::moved;
 use bstr::ByteSlice;
 use std::ops::Range;
 
-/// The first word that is neither a literal nor a 0. The `a` in front of a cube passes, and a line with `%` ends the text.
-pub fn misplaced(text: &[u8]) -> Option<Range<usize>> {
+/// The first word that is neither a literal nor a 0. Where there are cubes, the `a` in front of one passes. A line with `%` ends
+/// the text.
+pub fn misplaced(text: &[u8], has_cubes: bool) -> Option<Range<usize>> {
     let mut start: usize = 0;
     for line in text.lines_with_terminator() {
         let front = line.trim_start();
@@ -13,7 +14,7 @@ pub fn misplaced(text: &[u8]) -> Option<Range<usize>> {
             return None;
         }
         if !front.starts_with(b"c") {
-            if let Some(bounds) = misplaced_on(line) {
+            if let Some(bounds) = misplaced_on(line, has_cubes) {
                 return Some(moved(bounds, start));
             }
         }
@@ -23,32 +24,32 @@ pub fn misplaced(text: &[u8]) -> Option<Range<usize>> {
 }
 
 /// Where on a line the first such word stands.
-fn misplaced_on(line: &[u8]) -> Option<Range<usize>> {
+fn misplaced_on(line: &[u8], has_cubes: bool) -> Option<Range<usize>> {
     let mut start = None;
-    let mut is_first = true;
+    let mut may_be_mark = has_cubes;
     for (at, byte) in line.iter().enumerate() {
         let is_blank = matches!(*byte, b' ' | b'\t' | b'\r' | b'\n');
         match start {
             None if !is_blank => start = Some(at),
             Some(from) if is_blank => {
-                if !may_stand(line, from..at, is_first) {
+                if !may_stand(line, from..at, may_be_mark) {
                     return Some(from..at);
                 }
-                is_first = false;
+                may_be_mark = false;
                 start = None;
             }
             _ => {}
         }
     }
     let from = start?;
-    (!may_stand(line, from..line.len(), is_first)).then_some(from..line.len())
+    (!may_stand(line, from..line.len(), may_be_mark)).then_some(from..line.len())
 }
 
-/// Whether the word between these bounds is a literal, a 0, or the first one of its line and `a`.
-fn may_stand(line: &[u8], bounds: Range<usize>, is_first: bool) -> bool {
+/// Whether the word between these bounds is a literal, a 0, or the `a` that marks a cube where one may stand.
+fn may_stand(line: &[u8], bounds: Range<usize>, may_be_mark: bool) -> bool {
     let word = line.get(bounds).unwrap_or_default();
     match word.strip_prefix(b"-") {
         Some(digits) => are_digits(digits) && digits.iter().any(|digit| *digit != b'0'),
-        None => are_digits(word) || (is_first && word == b"a".as_slice()),
+        None => are_digits(word) || (may_be_mark && word == b"a".as_slice()),
     }
 }

@@ -34,11 +34,13 @@ pub fn hint_on<'t>(format: Format, text: &'t [u8], fault: ReadFault) -> Option<H
     if fault.kind != ReadKind::Syntax && fault.kind != ReadKind::Unfinished {
         return None;
     }
-    let from = start_of_line(text, fault.line);
-    let rest = text.get(from..)?;
     let bounds = match format {
-        Format::Opb => opb::misplaced(rest)?,
-        Format::Cnf | Format::Icnf => dimacs::misplaced(rest)?,
+        Format::Opb => opb::misplaced(text)?,
+        Format::Cnf | Format::Icnf => {
+            let start = start_of_line(text, fault.line);
+            let misplaced = dimacs::misplaced(text.get(start..)?, format == Format::Icnf)?;
+            moved(misplaced, start)
+        }
     };
-    Some(Hint::At(locate(text, moved(bounds, from))?))
+    Some(Hint::At(locate(text, bounds)?))
 }

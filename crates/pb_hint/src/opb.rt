@@ -20,8 +20,7 @@ enum Expected {
     End,
 }
 
-/// The first token, in a text that begins with a statement, that no statement has at its place. Products pass, as they are a
-/// fault of their own.
+/// The first token that no statement has at its place. Products pass, as they are a fault of their own.
 pub fn misplaced(text: &[u8]) -> Option<Range<usize>> {
     let mut expected = Expected::Start;
     let mut start: usize = 0;

@@ -1,6 +1,6 @@
 //! Words by line and column.
-ghost use Rattle.std.specs.Prelude.{IfSome};
-ghost use Rattle.pb_hint.specs.Places.{IsPosition, StandsIn};
+ghost use Rattle.std.specs.Prelude.{◌<◌, ◌≤◌, ◌⊎◌, length, IfSome, IfNone};
+ghost use Rattle.pb_hint.specs.Places.{IsPosition, StandsAfter};
 
 use bstr::ByteSlice;
 use std::ops::Range;
@@ -19,14 +19,17 @@ pub struct Place<'t> {
 /// The most bytes of a word that a place shows.
 const LONGEST: usize = 40;
 
-/// The place of the word between these bounds, if what is shown of it lies in the text. Whoever proposes the bounds, this is
-/// where they are.
+/// The place of the word between these bounds, whoever proposes them: none only where they are no bounds of a word in the text.
 pub fn locate<'t>(text: &'t [u8], bounds: Range<usize>) -> Option<Place<'t>>
-    ensures { IfSome result (StandsIn text.now) }
+    ensures place { IfSome result (StandsAfter text.now bounds.start) }
+    ensures none { IfNone result ((bounds.end ≤ bounds.start) ⊎ (length text.now < bounds.end)) }
 {
     let (before, rest) = text.split_at_checked(bounds.start)?;
     let len = bounds.end.checked_sub(bounds.start)?;
     let (word, _) = rest.split_at_checked(len.min(LONGEST))?;
+    if word.is_empty() {
+        return None;
+    }
     let (line, column) = position_after(before);
     Some(Place { line, column, word })
 }

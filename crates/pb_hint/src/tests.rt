@@ -54,6 +54,16 @@ const CASES: &[Case] = &[
     },
     Case {
         format: Format::Opb,
+        text: b"min: 1 x1\n 2 x2 ; foo >= 1 ;\n",
+        says: "line 2, column 9: 'foo'",
+    },
+    Case {
+        format: Format::Cnf,
+        text: b"p cnf 2 1\na 1 0\n",
+        says: "line 2, column 1: 'a'",
+    },
+    Case {
+        format: Format::Opb,
         text: b"1 x1>=1;2 ~x2=;\n",
         says: "line 1, column 15: ';'",
     },
