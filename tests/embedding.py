@@ -4,8 +4,8 @@
     tests/embedding.py
 
 The header must compile without a warning as C11 and as C++17. The calls of tests/calls.c and the planner of examples/c must run
-clean under AddressSanitizer and under valgrind, where there is one, with no memory left; and so the calls with each request for
-memory refused, under AddressSanitizer also with all that follow. The examples must print what stands beside them, the blocks of
+clean under AddressSanitizer and under valgrind, where there is one, with no memory left. With each request for memory refused
+(tests/refusing.c) so must both under AddressSanitizer, also with all that follow, and the planner under valgrind. The examples must print what stands beside them, the blocks of
 README.md one answer, and the documentation of the bindings what it shows. What ./install puts in place must serve a caller, and
 be taken away again. What has no compiler here is left out, with a word.
 """
@@ -45,7 +45,9 @@ def compile_header(folder):
 
 
 def link(program, source, words):
-    subprocess.run(["cc", "-std=c11", *WARNINGS, *words, source, LIBRARY, "-o", program], check=True)
+    """The program of a source, whose requests for memory can be refused."""
+    sources = [source, TOP / "tests" / "refusing.c"]
+    subprocess.run(["cc", "-std=c11", *WARNINGS, *words, *WRAPS, *sources, LIBRARY, "-o", program], check=True)
     return str(program)
 
 
@@ -55,18 +57,19 @@ def run(command, **variables):
     return subprocess.run(command, env=environment, capture_output=True, text=True, timeout=500)
 
 
-def refuse_each(command, ways):
-    """Runs the calls as they are and with each request for memory refused, in each way, and answers how many there are and the bad
-    ends."""
-    ordinary = run(command)
-    if ordinary.returncode != 0 or "requests" not in ordinary.stdout:
+def refuse_each(command, ways, may_end):
+    """Runs a program as it is and with each request for memory refused, in each way, and answers how many there are and the bad
+    ends: another status and output than those that it may end with, or a word on standard error."""
+    ordinary = run(command, TELL_REQUESTS="1")
+    told = re.fullmatch(r"(\d+) requests\n", ordinary.stderr)
+    if not told or (ordinary.returncode, ordinary.stdout) != may_end[0]:
         sys.exit(f"embedding: {command}: {ordinary.stdout}{ordinary.stderr}")
-    requests = int(ordinary.stdout.split()[0])
+    requests = int(told[1])
     cases = [{"REFUSE_AT": str(at), **more} for more in ways for at in range(1, requests + 1)]
     with ThreadPoolExecutor() as pool:
         ends = list(pool.map(lambda case: run(command, **case), cases))
-    bad = [f"{command}: {case}: {end.stderr[-500:]}" for case, end in zip(cases, ends) if end.returncode != 0]
-    return requests, bad
+    is_bad = lambda end: end.stderr or (end.returncode, end.stdout) not in may_end
+    return requests, [f"{command}: {case}: {end.stdout}{end.stderr[-500:]}" for case, end in zip(cases, ends) if is_bad(end)]
 
 
 def differs(command, expected, status=0, **variables):
@@ -94,20 +97,22 @@ def sanitizers(folder):
 
 def from_c(folder):
     calls, planner = TOP / "tests" / "calls.c", TOP / "examples" / "c" / "planner.c"
-    words = sanitizers(folder)
-    calls_asan = link(folder / "calls_asan", calls, words + WRAPS)
-    requests, bad = refuse_each([calls_asan], [ALONE, AND_ALL_THAT_FOLLOW])
-    at_limit = run([calls_asan, "limits"])
-    bad += [] if at_limit.returncode == 0 else [f"calls limits: {at_limit.stderr[-500:]}"]
-    bad += differs([link(folder / "planner_asan", planner, words)], expected_of("c/planner"))
-    print(f"embedding: calls from C{' under AddressSanitizer' if words else ''}, and with each of {requests} requests for memory refused")
+    sources = {calls: [(0, "")], planner: [(0, expected_of("c/planner")), (1, "no plan: Memory\n")]}
+    words, bad = sanitizers(folder), []
+    for source, may_end in sources.items():
+        program = link(folder / f"{source.stem}_asan", source, words)
+        requests, worse = refuse_each([program], [ALONE, AND_ALL_THAT_FOLLOW], may_end)
+        under = " under AddressSanitizer" if words else ""
+        print(f"embedding: {source.name}{under}, and with each of {requests} requests for memory refused")
+        bad += worse
+    bad += differs([folder / "calls_asan", "limits"], "")
     if not shutil.which("valgrind"):
         print("embedding: no valgrind here")
         return bad
-    _, worse = refuse_each([*WATCH, link(folder / "calls", calls, ["-g", *WRAPS])], [ALONE])
-    worse += differs([*WATCH, link(folder / "planner", planner, ["-g"])], expected_of("c/planner"))
-    print("embedding: the same under valgrind")
-    return bad + worse
+    bad += differs([*WATCH, link(folder / "calls", calls, ["-g"])], "")
+    bad += refuse_each([*WATCH, link(folder / "planner", planner, ["-g"])], [ALONE], sources[planner])[1]
+    print("embedding: the calls, and the planner with each request refused, under valgrind")
+    return bad
 
 
 def from_python():
