@@ -4,8 +4,10 @@
     tests/memory.py [PROGRAM ..]
 
 Without a word it takes the programs that the merge gate built. The library memory.c is compiled by cc and preloaded. Both
-numbers are the same in each run of one worker; each bound is what the program takes today and a tenth more. So a body that asks
-at each node, for each row or once more for each cube fails here, and one that keeps the text, or tables for each worker. Without
+numbers are the same in each run of one worker. So of one worker no more requests are allowed than it makes today and two: what
+asks once more in all, say for a better table, need not change a number here, and what asks at each node, for each row, cube or
+worker, asks more often than that. Bytes have a tenth more, since what is asked for is rounded up, and so have the requests of two
+workers, of which each may be the one that asks. So a body that keeps the text, or tables for each worker, fails here too. Without
 a C compiler nothing is run.
 """
 import struct
@@ -20,6 +22,7 @@ from examples import STATUSES, TOP, built
 from faults import build_library
 
 SECONDS = 120  # after which a run is taken to hang
+SPARE = 2  # so many requests of one worker more than today are allowed
 MEBIBYTE = 1 << 20
 
 # A comment of 65 mebibytes, in lines of 64 bytes, and a constraint.
@@ -41,10 +44,12 @@ REQUESTS = {
     "cubes": 343,
     "cubes_of_a_contradiction": 375,
     "cubes_of_last_variables": 183,
+    "descent": 140,
     "garden": 128,
     "knapsack": 111,
     "long_row": 99,
     "machines": 127,
+    "met_rows": 144,
     "packages": 123,
     "unconstrained": 99,
     "wide_knapsack": 115,
@@ -62,10 +67,9 @@ class Run:
     requests: int
     mebibytes: float = float("inf")
 
-
-def bound(today):
-    """A tenth more."""
-    return today + today // 10
+    def most_requests(self):
+        """How many requests are allowed."""
+        return self.requests + (self.requests // 10 if "--workers" in self.words else SPARE)
 
 
 def runs(room):
@@ -99,7 +103,7 @@ def complaints(program, library, room):
         status, requests, most = taken(program, library, room / "counts", run.words)
         if status != run.status:
             yield f"{run.name}: status {status}"
-        if requests > bound(run.requests):
+        if requests > run.most_requests():
             yield f"{run.name}: {requests} requests for memory, where {run.requests} were enough"
         if most > 1.1 * run.mebibytes * MEBIBYTE:
             yield f"{run.name}: {most / MEBIBYTE:.2f} mebibytes at once, where {run.mebibytes} were enough"

@@ -8,8 +8,8 @@ the form of a must-fail edit. The guards are
 
     prover           the crate is no longer proved (`rt must-fail` on the copy)
     test CRATE NAME  the tests of that crate whose names contain NAME fail (`rt try --test`, no proof)
-    work NAME ..     on one of these instances, or of all, a run takes more steps than tests/work.py allows (no proof)
-    requests NAME    on this instance a run makes more requests for memory than tests/memory.py allows (no proof)
+    work NAME ..     on one of these instances, or of all, a run takes more steps or requests than tests/work.py allows (no proof)
+    requests NAME    on this instance a run makes more requests for memory than tests/work.py allows (no proof)
     program          the program, if it can still be proved and built, fails in one of tests/examples.py, budgets.py, faults.py,
                      threads.py and memory.py
     none             nothing refuses it, and the plant says why that is right
@@ -26,7 +26,6 @@ from dataclasses import dataclass
 from pathlib import Path
 
 sys.dont_write_bytecode = True
-import memory
 import work
 from examples import TOP
 
@@ -109,12 +108,10 @@ class Copy:
         return "; ".join(work.complaints(self.top, names)) or None
 
     def by_requests(self, name):
-        """By the compiled code alone, to which the first request is refused that is not allowed."""
-        requests = memory.bound(memory.REQUESTS[name]) + 1
-        told, said = work.ends(self.top, [name], 1, requests)
-        if name not in told:
-            sys.exit(f"plants: {name} was not run: {said}")
-        return None if "output=expected" in told[name] else f"{name}: more than {requests - 1} requests"
+        """By the interpreter's count, in twice the steps that tests/work.py allows, since a request costs steps too."""
+        requests = work.ends_of(self.top, [name], 2 * work.STEPS)[name].requests
+        today = work.TODAY[name].requests
+        return f"{name}: {requests} requests, where {today} were enough" if requests > today + work.SPARE else None
 
     def by_program(self):
         status, said = self.run(["./pbcube", "--help"])

@@ -1,13 +1,20 @@
 #!/usr/bin/env python3
-"""Bounds the work of whole runs from above, without a clock.
+"""Bounds the work of whole runs from above, without a clock: their steps in an interpreter, and their requests for memory.
 
     tests/work.py
+    tests/work.py --measure [NAME ..]
 
 `bench_work` is built without proof (`rt try`) and solves each instance of tests/work/ in an interpreter, whose steps are the same
-in each run. Each must end within STEPS of them, with the report that stands beside it, and with fewer requests for memory than
-REQUESTS. For most of them an instance of the same family that is greater by a half, or by less, does not end within those steps
-today. So a body that looks at more rows, makes more decisions, undoes more than it did, or takes memory at each node, can fail
-here though its answer is right.
+in each run. Each must end within STEPS of them, with the report that stands beside it. So that the bound is near for each, a
+comment is put in after the first line, so long that the run takes more than nine tenths of the steps today; reading it costs the
+same in each run, some 172 steps a byte. So a body that looks at more rows, makes more decisions, undoes more than it did, or
+clears what need not be cleared, fails here though its answer is right, where that takes a run past the bound.
+
+The interpreter counts the requests for memory too. They are the same in each run as well, so no more than SPARE may be added.
+
+With --measure it prints what is to stand in TODAY below, of all instances or of these: comments with which the runs take 97 to 98
+of 100 of the steps. It makes three builds, on two processors. That is for a change that is meant to cost steps or requests, and
+for one that saves many of them, since the bound would be loose after it.
 """
 import re
 import shutil
@@ -15,55 +22,145 @@ import subprocess
 import sys
 import tempfile
 from concurrent.futures import ThreadPoolExecutor
+from dataclasses import dataclass
 from pathlib import Path
 
 TOP = Path(__file__).resolve().parent.parent
 INSTANCES = TOP / "tests/work"
 STEPS = 20_000_000
-REQUESTS = 400  # memory.py bounds those of each instance
-SECONDS = 20  # for the run of the compiled code, with checks, that stands beside the interpreter's
-SIDES = 2  # so many parts of the instances are run at the same time
+SPARE = 2  # so many requests for memory more than today are allowed
+SECONDS = 60  # for the run of the compiled code, with checks, that stands beside the interpreter's
+SIDES = 2  # so many parts of the cases are run at the same time
+NEAR = STEPS * 98 // 100  # what a run may take where the bytes of its comment are measured
+ROUNDS, TRIES = 3, 5  # so many builds, each with so many comments for an instance
+MOST_BYTES = 120_000  # a comment of so many takes more steps than the bound
 
 
-def ends(top, names, steps=STEPS, requests=REQUESTS):
-    """How the runs on the instances of these names ended, by name, and the last line that was said."""
+@dataclass(frozen=True)
+class Today:
+    """What belongs to an instance today: the bytes of the comment that is put in, and the requests for memory of its run."""
+
+    bytes: int
+    requests: int
+
+
+TODAY = {
+    "assignment": Today(71_300, 97),
+    "chain": Today(5_500, 91),
+    "clauses": Today(33_900, 90),
+    "colours": Today(23_500, 95),
+    "cubes": Today(5_200, 311),
+    "cubes_of_a_contradiction": Today(0, 343),
+    "cubes_of_last_variables": Today(43_900, 154),
+    "descent": Today(66_300, 113),
+    "garden": Today(64_900, 101),
+    "knapsack": Today(4_100, 78),
+    "long_row": Today(12_100, 68),
+    "machines": Today(83_900, 100),
+    "met_rows": Today(45_400, 115),
+    "packages": Today(99_300, 96),
+    "unconstrained": Today(7_900, 67),
+    "wide_knapsack": Today(0, 80),
+}
+
+
+@dataclass(frozen=True)
+class End:
+    """How a run ended, as `rt try` says it, and how many requests for memory the interpreter counted until then."""
+
+    said: str
+    requests: int
+
+    def complaint(self, requests):
+        """What is wrong with it where so many requests are allowed, or None."""
+        if "run=ended" not in self.said or "status=0" not in self.said or "output=expected" not in self.said:
+            return f"another report, or none ({self.said})"
+        if "runners=2" not in self.said:
+            return f"more than {STEPS:,} steps"
+        if self.requests > requests:
+            return f"{self.requests} requests for memory, where {requests - SPARE} were enough"
+        return None
+
+
+def instances():
+    """The names of all instances."""
+    return sorted(it.stem for it in INSTANCES.glob("*.stdout"))
+
+
+def with_comment(name, count):
+    """The text of the instance with a comment of so many bytes after its first line."""
+    first, rest = (INSTANCES / name).read_text().split("\n", 1)
+    mark = "c" if first.startswith("p ") else "*"
+    return f"{first}\n{mark:.<{count - 1}}\n{rest}" if count else f"{first}\n{rest}"
+
+
+def run_side(top, cases, steps):
+    """How the runs on these cases ended, and the last line that was said."""
     with tempfile.TemporaryDirectory(prefix="pbcube-work-") as folder:
-        for name in names:
-            for file in (name, f"{name}.stdout"):
-                shutil.copy(INSTANCES / file, folder)
-        words = ["rt", "try", "--steps", steps, "--seconds", SECONDS, "--fail-alloc", requests, "--cases", folder]
+        for case, (name, count) in cases.items():
+            Path(folder, case).write_text(with_comment(name, count))
+            shutil.copy(INSTANCES / f"{name}.stdout", Path(folder, f"{case}.stdout"))
+        # No run makes so many requests that one is refused, but with this word they are counted.
+        words = ["rt", "try", "--steps", steps, "--seconds", SECONDS, "--fail-alloc", 10**9, "--cases", folder]
         ran = subprocess.run(list(map(str, words)), cwd=top / "crates/bench_work", stdin=subprocess.DEVNULL, capture_output=True, text=True)
-    said = ran.stdout + ran.stderr
-    return dict(re.findall(r"^case=(\S+) (.*)$", said, re.M)), said.strip().split("\n")[-1]
+    said, ended, requests = ran.stdout + ran.stderr, {}, 0
+    for line in said.splitlines():
+        if found := re.match(r"allocations: (?:at least )?(\d+)$", line):
+            requests = int(found[1])
+        if found := re.match(r"case=(\S+) (.*)$", line):
+            ended[found[1]] = End(found[2], requests)
+    return ended, said.strip().split("\n")[-1]
 
 
-def complaint(end):
-    """What is wrong with how a run ended, where anything is."""
-    if "run=ended" not in end or "status=0" not in end or "output=expected" not in end:
-        return f"another report, or none ({end})"
-    if "runners=2" not in end:
-        return f"more than {STEPS:,} steps"
-    return None
+def ends(top, cases, steps=STEPS, sides=SIDES):
+    """How the runs on the cases ended in the repository of that folder. A case has a name, an instance and the bytes of its
+    comment."""
+    names = sorted(cases)
+    parted = [{name: cases[name] for name in names[side::sides]} for side in range(sides)]
+    with ThreadPoolExecutor() as pool:
+        parts = list(pool.map(lambda part: run_side(top, part, steps), parted))
+    ended = {name: end for part, _ in parts for name, end in part.items()}
+    if set(ended) != set(names):
+        sys.exit(f"work: not run on each instance: {parts[0][1]}")
+    return ended
+
+
+def ends_of(top, names, steps=STEPS, sides=1):
+    """The same on the instances of these names, each with its comment."""
+    return ends(top, {name: (name, TODAY[name].bytes) for name in names}, steps, sides)
 
 
 def complaints(top, chosen=()):
     """What is wrong with the runs of the repository in that folder on the chosen instances, or on all, one line for each."""
-    names = sorted(chosen or (it.stem for it in INSTANCES.glob("*.stdout")))
-    sides = [names[side::SIDES] for side in range(SIDES) if not chosen] or [names]
-    with ThreadPoolExecutor() as pool:
-        parts = list(pool.map(lambda side: ends(top, side), sides))
-    told = {name: end for part, _ in parts for name, end in part.items()}
-    if not names or set(told) != set(names):
-        return [f"not run on each instance: {parts[0][1]}"]
-    return [f"{name}: {complaint(told[name])}" for name in names if complaint(told[name])]
+    ended = ends_of(top, chosen) if chosen else ends_of(top, instances(), sides=SIDES)
+    wrong = {name: end.complaint(TODAY[name].requests + SPARE) for name, end in ended.items()}
+    return [f"{name}: {said}" for name, said in wrong.items() if said]
 
 
-def main():
+def measured(top, names):
+    """What belongs to each of these instances today, by its name. In each round comments of several lengths are tried between the
+    longest that was short enough and the shortest that was too long. An instance that is too long without one is given none."""
+    short, requests, width = dict.fromkeys(names, 0), {}, MOST_BYTES
+    for rounds in range(ROUNDS):
+        width //= TRIES + 1
+        places = range(min(rounds, 1), TRIES + 1)
+        tried = {f"{name}.{place}": (name, short[name] + place * width) for name in names for place in places}
+        for case, end in ends(top, tried, NEAR).items():
+            name, count = tried[case]
+            if count >= short[name] and (count == 0 or not end.complaint(end.requests)):
+                short[name], requests[name] = count, end.requests
+    return {name: Today(short[name], requests[name]) for name in names}
+
+
+def main(words):
+    if words[:1] == ["--measure"]:
+        for name, today in measured(TOP, words[1:] or instances()).items():
+            print(f'    "{name}": Today({today.bytes:_}, {today.requests}),')
+        return 0
     wrong = complaints(TOP)
-    count = len(list(INSTANCES.glob("*.stdout")))
-    print(*[f"work: {line}" for line in wrong], f"work: {count} instances, {len(wrong)} complaints", sep="\n")
+    print(*[f"work: {line}" for line in wrong], f"work: {len(instances())} instances, {len(wrong)} complaints", sep="\n")
     return 1 if wrong else 0
 
 
 if __name__ == "__main__":
-    sys.exit(main())
+    sys.exit(main(sys.argv[1:]))
