@@ -64,11 +64,12 @@ def plant_of(path):
 
 
 class Copy:
-    """A copy of the repository. `rt` begins there with what earlier proofs on this machine kept."""
+    """A copy of the repository, with what earlier checks left of each crate: so `rt` proves there what a bug changes, and no library
+    again that stands below it."""
 
     def __init__(self, folder):
         self.top = folder / TOP.name
-        shutil.copytree(TOP, self.top, symlinks=True, ignore=shutil.ignore_patterns(".git", "out"))
+        shutil.copytree(TOP, self.top, symlinks=True, ignore=shutil.ignore_patterns(".git"))
 
     def run(self, words, folder="."):
         """The exit status, and all that was said."""
