@@ -37,6 +37,7 @@ SOME_CLAUSES = "".join(f"1 x{1 + place} 1 ~x{2 + place} >= 1 ;\n" for place in r
 
 # What one worker asks for on each instance of tests/work/ today.
 REQUESTS = {
+    "aside": 123,
     "assignment": 124,
     "chain": 123,
     "clauses": 119,
