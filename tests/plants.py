@@ -118,6 +118,8 @@ class Copy:
         status, said = self.run(["./pbcube", "--help"])
         if status and "proved" in said:
             return f"no longer proved: {said.splitlines()[-1]}"
+        if status:  # what stands there is the program of an earlier build
+            sys.exit(f"plants: the program was not built:\n{said}")
         for script in SCRIPTS:
             status, said = self.run([f"tests/{script}", "crates/pbcube/out/pbcube"])
             if status:
