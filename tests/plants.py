@@ -10,11 +10,11 @@ the form of a must-fail edit. The guards are
     test CRATE NAME  the tests of that crate whose names contain NAME fail (`rt try --test`, no proof)
     work NAME ..     on one of these instances, or of all, a run takes more steps or requests than tests/work.py allows (no proof)
     requests NAME    on this instance a run makes more requests for memory than tests/work.py allows (no proof)
-    program          the program, if it can still be proved and built, fails in one of tests/examples.py, budgets.py, faults.py,
-                     threads.py and memory.py
+    program SCRIPT   the program, built without proof, fails in tests/SCRIPT.py: examples, budgets, faults, threads or memory
     none             nothing refuses it, and the plant says why that is right
 
-With no names all are planted: hours, so this is no part of the gate. `rt check` of each crate beforehand saves most of that.
+With no names all are planted: hours, so this is no part of the gate. `rt check` of each crate beforehand saves most of that. The
+programs want a C compiler.
 """
 import os
 import re
@@ -30,7 +30,18 @@ import work
 from examples import TOP
 
 PLANTS = TOP / "tests/plants"
-SCRIPTS = ("examples.py", "budgets.py", "faults.py", "threads.py", "memory.py")
+# In place of the kit's C compiler for programs that are tried: nothing is watched, and the code is as fast as a built program's.
+COMPILER = """#!/usr/bin/env bash
+words=()
+for word in "$@"; do
+    case $word in
+        -fsanitize=address) ;;
+        -O0 | -O1) words+=(-O2) ;;
+        *) words+=("$word") ;;
+    esac
+done
+exec -a "$0" '{clang}' "${{words[@]}}"
+"""
 
 
 @dataclass(frozen=True)
@@ -69,6 +80,8 @@ class Copy:
 
     def __init__(self, folder):
         self.top = folder / TOP.name
+        self.kit = folder / "kit"
+        self.kept = folder / "program"
         shutil.copytree(TOP, self.top, symlinks=True, ignore=shutil.ignore_patterns(".git"))
 
     def run(self, words, folder="."):
@@ -114,17 +127,41 @@ class Copy:
         today = work.TODAY[name].requests
         return f"{name}: {requests} requests, where {today} were enough" if requests > today + work.SPARE else None
 
-    def by_program(self):
-        status, said = self.run(["./pbcube", "--help"])
-        if status and "proved" in said:
-            return f"no longer proved: {said.splitlines()[-1]}"
-        if status:  # what stands there is the program of an earlier build
-            sys.exit(f"plants: the program was not built:\n{said}")
-        for script in SCRIPTS:
-            status, said = self.run([f"tests/{script}", "crates/pbcube/out/pbcube"])
-            if status:
-                return f"{script}: {said.splitlines()[0]}"
-        return None
+    def by_program(self, script):
+        status, said = self.run([f"tests/{script}.py", self.unproved_program()])
+        return said.splitlines()[0] if status else None
+
+    def unproved_program(self):
+        """The program as `rt try` compiles it, without proof, but optimized and with nothing watched."""
+        if not self.kit.exists():
+            self.make_kit()
+        self.kept.unlink(missing_ok=True)
+        words = ["try", "--steps", "1", "--data", "tie.opb=../../examples/tie.opb", "--", "tie.opb"]
+        _, said = self.run([self.kit / "bin/rt", *words], "crates/pbcube")
+        if not self.kept.exists():
+            sys.exit(f"plants: the program was not compiled:\n{said}")
+        return self.kept
+
+    def make_kit(self):
+        """Makes a folder that stands for the kit, but for its C compiler and for AddressSanitizer's library."""
+        kit = Path(shutil.which("rt")).resolve().parent.parent
+        own = ("bin", "c", "toolchain", "toolchain/bin")
+        for part in own:
+            (self.kit / part).mkdir(parents=True)
+        for it in (it for part in (".", *own) for it in (kit / part).iterdir()):
+            to = self.kit / it.relative_to(kit)
+            if it.name in ("rt", "rtlib.py"):  # the kit is where their own files are
+                shutil.copy(it, to)
+            elif not to.exists():
+                to.symlink_to(it)
+        clang, library = self.kit / "toolchain/bin/clang", self.kit / "c/asan.a"
+        clang.unlink()
+        clang.write_text(COMPILER.format(clang=kit / "toolchain/bin/clang"))
+        clang.chmod(0o755)
+        library.unlink()
+        words = [os.environ.get("CC", "cc"), "-O1", "-fPIC", f'-DKEPT="{self.kept}"', "-c", TOP / "tests/kept.c"]
+        subprocess.run([*words, "-o", self.kit / "kept.o"], check=True)
+        subprocess.run(["ar", "rcs", library, self.kit / "kept.o"], check=True)
 
     def refusals(self, crate, plants):
         """What the prover says against plants of one crate, by name; nothing of those that it lets pass."""

@@ -93,6 +93,14 @@ def complaints(program, library, file):
             yield f"{name}: it had {run.taken.get(held, run.all_taken):.3f} of {run.all_taken:.3f} processor seconds to do"
 
 
+def until_one_hangs(lines):
+    """The lines, and one more in place of all that follow where a run had not ended in time."""
+    try:
+        yield from lines
+    except subprocess.TimeoutExpired as late:
+        yield f"not ended after {late.timeout:.0f} seconds: {' '.join(map(str, late.cmd[1:]))}"
+
+
 def main(programs):
     failed = 0
     with tempfile.TemporaryDirectory(prefix="pbcube-threads-") as room:
@@ -104,7 +112,7 @@ def main(programs):
         with open(file, "w") as text:
             subprocess.run([sys.executable, TOP / "bench/make_small.py", FAMILY, SIZE], stdout=text, check=True)
         for program in programs or built():
-            for line in complaints(Path(program).resolve(), library, file):
+            for line in until_one_hangs(complaints(Path(program).resolve(), library, file)):
                 failed += 1
                 print(f"threads: {program}: {line}")
     runs = (1 + 4 + len(CREWS) + len(HELD)) * len(programs or built())
