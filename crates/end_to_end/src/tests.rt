@@ -16,6 +16,7 @@ mod refused_memory;
 mod reports;
 mod scales;
 mod spoiled_texts;
+mod turns;
 mod workers;
 
 use pb_inst::Workers;
