@@ -1,5 +1,5 @@
 //! The turn in which a worker reads the rows of the others goes on from piece to piece.
-ghost use Rattle.std.specs.Prelude.{◌<◌, ◌×◌};
+ghost use Rattle.std.specs.Prelude.{◌<◌};
 
 use pb_board::Board;
 use pb_inst::{Assignment, Workers};
