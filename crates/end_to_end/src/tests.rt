@@ -8,6 +8,7 @@ mod division;
 mod draws;
 mod failing_inputs;
 mod failing_outputs;
+mod fixing;
 mod largest_inputs;
 mod limits;
 mod optima;

@@ -1,0 +1,42 @@
+//! Which literals an engine fixes. No answer rests on it: what is fixed saves decisions.
+
+use pb_engine::{Count, Engine};
+use pb_inst::{Lit, Memory, Number};
+use pb_normal::{EitherWidth, Form, normalise};
+use pb_read::read_opb;
+use std::alloc::Global;
+use std::test::Fail;
+
+/// The last of many variables alone costs more than the limit leaves room for.
+const DEAR_LAST_VARIABLE: &[u8] = b"min: +1 x1 +1 x2 +10 x600 ;\n+1 x1 +1 x2 >= 1 ;\n";
+
+const LIMIT: Number = 5;
+
+/// What the first two calls fix at the first node, as variables and values.
+fn first_fixed<C: Count>(
+    alloc: Global,
+    form: &Form<C>,
+) -> Result<[Option<(u32, bool)>; 2], Memory> {
+    let shown = |lit: Option<Lit>| lit.map(|lit| (lit.var(), lit.positive()));
+    let mut engine = Engine::new(alloc, form, &[])?;
+    let bound = engine.bound();
+    engine.relaxed_bound(bound, Number::MAX);
+    Ok([
+        shown(engine.fixed_literal(LIMIT)),
+        shown(engine.fixed_literal(LIMIT)),
+    ])
+}
+
+// One call looks among the first 512 variables alone, and the next one goes on behind them.
+#[test]
+fn literals_of_late_variables_are_fixed(rt: HostRuntime) -> Result<(), Fail> {
+    let alloc = rt.alloc();
+    let instance = read_opb(alloc, DEAR_LAST_VARIABLE)?;
+    let normal = normalise(alloc, &instance)?;
+    let fixed = match normal.form() {
+        EitherWidth::Narrow(form) => first_fixed(alloc, form)?,
+        EitherWidth::Wide(form) => first_fixed(alloc, form)?,
+    };
+    assert_eq!(rt; fixed, [None, Some((600, false))]);
+    Ok(())
+}
