@@ -1,5 +1,6 @@
 //! One run over readers and a writer, and what the tests expect of it.
 
+mod alone;
 mod beginnings;
 mod budgets;
 mod cases;
