@@ -1,6 +1,7 @@
 //! What the options make of words.
 use crate::{cubes_option, file_operand, format_of, format_option, named, split_option, words_of};
 use pb_read::Format;
+use std::alloc::Global;
 use std::test::Fail;
 
 #[test]
@@ -27,6 +28,58 @@ fn options_in_one_command(rt: HostRuntime) -> Result<(), Fail> {
     assert_eq!(rt; matches.get_str("cubes"), Some("some.cubes"));
     assert_eq!(rt; matches.get_str("file"), Some("instance"));
     Ok(())
+}
+
+// What help says of each option and of the program itself is what was given, the longer texts at `--help` alone.
+#[test]
+fn help_says_what_was_given(rt: HostRuntime) -> Result<(), Fail> {
+    let short = help(rt.alloc(), "-h")?;
+    assert_eq!(rt; short.as_str(), SHORT_HELP);
+    let long = help(rt.alloc(), "--help")?;
+    assert!(rt;
+        long.starts_with("all that it does\n\nUsage: tool [OPTIONS] <FILE>\n"),
+        "{long}"
+    );
+    assert!(rt;
+        long.trim_end()
+            .ends_with("(see a summary with '-h')\n\nan example"),
+        "{long}"
+    );
+    Ok(())
+}
+
+const SHORT_HELP: &str = "what it does
+
+Usage: tool [OPTIONS] <FILE>
+
+Arguments:
+  <FILE>  the instance
+
+Options:
+      --format <FORMAT>  its format [default: opb]
+      --split <K>        the split variables [default: 0]
+      --cubes <FILE>     the cubes
+  -h, --help             Print help (see more with '--help')
+";
+
+// The help that the word asks for.
+fn help(alloc: Global, word: &'static str) -> Result<String, Fail> {
+    let command = named(
+        alloc,
+        "tool",
+        "what it does",
+        "all that it does",
+        "an example",
+    )
+    .arg(format_option(alloc, "its format"))?
+    .arg(split_option(alloc, "the split variables"))?
+    .arg(cubes_option(alloc, "the cubes"))?
+    .arg(file_operand(alloc, "the instance"))?;
+    let words = ["tool", word];
+    match command.try_get_matches_from(words.as_slice()) {
+        Ok(_) => Ok(String::new(alloc)),
+        Err(fault) => Ok(format!(in alloc; "{fault}")?),
+    }
 }
 
 #[test]

@@ -1,8 +1,6 @@
 -- The one command, and what a line takes from its matches.
-use Rattle.std.specs.Prelude.{◌≡◌, ◌⊎◌, ◌≤◌, List, [], ◌∷◌, Some, option_map, codes, IsSomeAnd}
-use Rattle.clap.specs.Words.{App, IsAmong, Row, Rule, Text, fault_of, first_of, matches_of, one_of, new_app, new_rule, with_rule}
-use Rattle.clap.specs.declared.error.kind.ErrorKind.{ErrorKind}
-use Rattle.clap.specs.declared.error.kind.ErrorKind.TheVariants.{InvalidValue, OutOfMemory}
+use Rattle.std.specs.Prelude.{◌≡◌, ◌≤◌, List, [], ◌∷◌, Some, option_map, codes, IsSomeAnd}
+use Rattle.clap.specs.Words.{App, Row, Rule, first_of, one_of, new_app, new_rule, with_rule}
 use Rattle.clap.specs.declared.builder.ValueParser.TheVariants as parser
 use Rattle.pb_inst.specs.declared.TheConstants.{MAX_WORKERS}
 use Rattle.pb_line.specs.Options.{cubes, file, format, format_name, split}
@@ -36,8 +34,3 @@ pub record IsLineOf (matches : List Row) (line : Line) : Type 0 where
 -- no line, of 1 to `MAX_WORKERS` workers, has the values of the matches
 abbrev pub HasNoLine : List Row → Type 0
 HasNoLine matches = (line : Line) → 1 ≤ line.options.workers → line.options.workers ≤ MAX_WORKERS → IsLineOf matches line → ⊥
-
--- the words may have a fault of this kind: memory ran out, or clap refuses the words by it, or a value is wrong, so
--- that no line has the values of the matches
-abbrev pub MayFailBy : List Text → ErrorKind → Type 0
-MayFailBy words kind = (kind ≡ OutOfMemory) ⊎ (IsAmong kind (fault_of pbcube words) ⊎ ((kind ≡ InvalidValue) × HasNoLine (matches_of pbcube words)))

@@ -1,7 +1,10 @@
 //! The program over any files and any outputs.
 ghost use Rattle.std.specs.Prelude.{◌≡◌, false, map};
 ghost use Rattle.pbcube.specs.Fetching.{FetchesFor, FetchesInOrder};
+ghost use Rattle.clap.specs.Words.{kind_of};
+ghost use Rattle.pb_line.specs.Ends.{EndsBy};
 ghost use Rattle.pb_solve.specs.Statuses.{IsExitStatus, exit_status};
+ghost use Rattle.pbcube.specs.Ending.{Ends, EndsWithoutMemory};
 
 use crate::asked::Line;
 use crate::faults::ProgramFault;
@@ -26,6 +29,7 @@ pub fn program<'a, R: Threads + Sync, F: Files, W: Write, E: Write>(
     err: &mut E,
 ) -> u8
     ensures status { IsExitStatus result }
+    ensures ended { Ends (W.contents out.old) (W.contents out.new) (map (λ word. word.now) words.now) result }
     ensures fetched { FetchesInOrder F.fetches (map (λ word. word.now) words.now) files.old files.new }
 {
     let mut out = Device::new(&mut *out);
@@ -42,7 +46,7 @@ pub fn program<'a, R: Threads + Sync, F: Files, W: Write, E: Write>(
 
 /// The program's end where its words found no memory.
 pub fn out_of_memory<W: Write, E: Write>(out: &mut W, err: &mut E) -> u8
-    ensures { IsExitStatus result }
+    ensures { EndsWithoutMemory (W.contents out.old) (W.contents out.new) result }
 {
     end_without_memory(&mut Device::new(out), err)
 }
@@ -146,7 +150,7 @@ fn end_of_run<I: Read + Seek, E: Write>(
 /// The end where the words ask for no run: help, a refusal, or no memory.
 fn end_at_line<W: Write, E: Write>(fault: &Error, out: &mut Device<W>, err: &mut E) -> u8
     requires { out.old.failed ≡ false }
-    ensures { IsExitStatus result }
+    ensures { EndsBy (EndsWithoutMemory (W.contents out.old.held) (W.contents out.new.held)) (kind_of fault.now) result }
 {
     if fault.kind() == ErrorKind::OutOfMemory {
         return end_without_memory(out, err);
@@ -163,7 +167,7 @@ fn end_at_line<W: Write, E: Write>(fault: &Error, out: &mut Device<W>, err: &mut
 
 fn end_without_memory<W: Write, E: Write>(out: &mut Device<W>, err: &mut E) -> u8
     requires { out.old.failed ≡ false }
-    ensures { IsExitStatus result }
+    ensures { EndsWithoutMemory (W.contents out.old.held) (W.contents out.new.held) result }
 {
     match report_memory(out) {
         Ok(status) => status.exit_status(),
@@ -173,7 +177,7 @@ fn end_without_memory<W: Write, E: Write>(out: &mut Device<W>, err: &mut E) -> u
 
 /// One line to the standard error, whose own faults are ignored.
 fn end_at_fault<E: Write>(fault: ProgramFault<'_>, err: &mut E) -> u8
-    ensures { IsExitStatus result }
+    ensures { result ≡ 1 }
 {
     let _ = writeln!(err, "{fault}");
     1

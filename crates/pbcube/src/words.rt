@@ -2,7 +2,8 @@
 ghost use Rattle.std.specs.Prelude.{◌≡◌, ◌≤◌, map, IfErr, IfOk, IfSome, IsNone, Some, SomeIff, []};
 ghost use Rattle.pb_inst.specs.declared.TheConstants.{MAX_WORKERS};
 ghost use Rattle.clap.specs.Words.{fault_of, found_of, kind_of, matches_of, rows_of};
-ghost use Rattle.pbcube.specs.CommandLine.{HasNoLine, IsLineOf, MayFailBy, pbcube};
+ghost use Rattle.pb_line.specs.Ends.{MayFailBy};
+ghost use Rattle.pbcube.specs.CommandLine.{HasNoLine, IsLineOf, pbcube};
 
 use crate::asked::Line;
 use crate::command::command;
@@ -18,7 +19,7 @@ use std::alloc::Global;
 pub fn line<'a>(alloc: Global, words: &'a [&'a str]) -> Result<Line<'a>, Error>
     ensures line { IfOk result (IsLineOf (matches_of pbcube (map (λ word. word.now) words.now))) }
     ensures accepted { IfOk result (λ line. fault_of pbcube (map (λ word. word.now) words.now) ≡ []) }
-    ensures refused { IfErr result (λ fault. MayFailBy (map (λ word. word.now) words.now) (kind_of fault)) }
+    ensures refused { IfErr result (λ fault. MayFailBy pbcube HasNoLine (map (λ word. word.now) words.now) (kind_of fault)) }
 {
     let mut command = command(alloc)?;
     let matches = command.try_get_matches_from_mut(words)?;

@@ -1,5 +1,5 @@
 -- The one command, and what a line takes from its matches.
-use Rattle.std.specs.Prelude.{◌≡◌, List, [], Some, codes, map, true, unwrap_or, IsSomeAnd}
+use Rattle.std.specs.Prelude.{◌≡◌, ◌≤◌, List, [], Some, codes, map, true, unwrap_or, IsSomeAnd}
 use Rattle.clap.specs.Lexer.{usize_max}
 use Rattle.clap.specs.Words.{App, Row, Rule, all_of, first_of, new_app, new_rule, one_of, with_rule}
 use Rattle.clap.specs.declared.builder.ValueParser.TheVariants as parser
@@ -27,3 +27,7 @@ pub record IsLineOf (matches : List Row) (line : Line) : Type 0 where
   pub format : first_of (codes "format") matches ≡ Some (format_name line.format)
   pub pieces : IsSomeAnd (one_of (codes "pieces") matches) (λ text. Spells 32 text line.pieces)
   pub reports : map (λ name. name.now) line.reports.items ≡ unwrap_or (all_of (codes "reports") matches) []
+
+-- no line, of one piece at least, has the values of the matches
+abbrev pub HasNoLine : List Row → Type 0
+HasNoLine matches = (line : Line) → 1 ≤ line.pieces → IsLineOf matches line → ⊥

@@ -1,7 +1,10 @@
 //! The program over any files and any outputs.
-ghost use Rattle.std.specs.Prelude.{◌≡◌, ◌≢◌, ◌≤◌, ◌<◌, ℕ, length, false, IfOk, IfErr};
+ghost use Rattle.std.specs.Prelude.{◌≡◌, ◌≢◌, ◌≤◌, ◌<◌, ℕ, length, false, map, IfOk, IfErr};
+ghost use Rattle.clap.specs.Words.{kind_of};
 ghost use Rattle.pb_inst.specs.Problem.{Problem};
 ghost use Rattle.pb_join.specs.declared.faults.Rejection.{Rejection as Why};
+ghost use Rattle.pb_line.specs.Ends.{EndsBy};
+ghost use Rattle.pbcube_join.specs.Ending.{Ends};
 ghost use Rattle.pbcube_join.specs.Joining.{Tells};
 ghost use Rattle.pb_solve.specs.Statuses.{IsExitStatus};
 
@@ -28,7 +31,8 @@ pub fn program<'a, F: Files, W: Write, E: Write>(
     out: &mut W,
     err: &mut E,
 ) -> u8
-    ensures { IsExitStatus result }
+    ensures status { IsExitStatus result }
+    ensures ended { Ends (map (λ word. word.now) words.now) result }
 {
     let mut out = Device::new(out);
     let line = match line(alloc, words) {
@@ -46,7 +50,7 @@ pub fn program<'a, F: Files, W: Write, E: Write>(
 
 /// The program's end where its words found no memory.
 pub fn out_of_memory<E: Write>(err: &mut E) -> u8
-    ensures { IsExitStatus result }
+    ensures { result ≡ 1 }
 {
     end_at_fault(&ProgramFault::Memory, err)
 }
@@ -131,7 +135,7 @@ fn name_piece<E: Write>(number: usize, state: PieceState, err: &mut E) -> io::Re
 /// The end where the words ask for no run: help, a refusal, or no memory.
 fn end_at_line<W: Write, E: Write>(fault: &Error, out: &mut Device<W>, err: &mut E) -> u8
     requires { out.old.failed ≡ false }
-    ensures { IsExitStatus result }
+    ensures { EndsBy (λ status. status ≡ 1) (kind_of fault.now) result }
 {
     if fault.kind() == ErrorKind::OutOfMemory {
         return out_of_memory(err);
@@ -148,7 +152,7 @@ fn end_at_line<W: Write, E: Write>(fault: &Error, out: &mut Device<W>, err: &mut
 
 /// One line to the standard error, whose own faults are ignored.
 fn end_at_fault<E: Write>(fault: &ProgramFault<'_>, err: &mut E) -> u8
-    ensures { IsExitStatus result }
+    ensures { result ≡ 1 }
 {
     let _ = writeln!(err, "pbcube_join: {fault}");
     1

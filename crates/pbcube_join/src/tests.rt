@@ -1,7 +1,7 @@
 //! The program over memory: its statuses, and what it writes to either output.
 use crate::files::Files;
 use crate::names::piece_number;
-use crate::running::program;
+use crate::running::{out_of_memory, program};
 use std::alloc::Global;
 use std::io::{self, Error, ErrorKind};
 
@@ -199,6 +199,14 @@ fn refused_words(rt: HostRuntime) {
         assert_eq!(rt; status, 2);
         assert!(rt; out.is_empty());
     }
+}
+
+#[test]
+fn words_that_find_no_memory(rt: HostRuntime) {
+    let mut err = Vec::new(rt.alloc());
+    let status = out_of_memory(&mut err);
+    assert_eq!(rt; status, 1);
+    assert!(rt; err.as_slice() == b"pbcube_join: out of memory\n");
 }
 
 #[test]

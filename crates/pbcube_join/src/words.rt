@@ -1,7 +1,8 @@
 //! From the words to what they ask for.
-ghost use Rattle.std.specs.Prelude.{◌≡◌, ◌≤◌, [], codes, map, unwrap_or, IfOk, IfSome, SomeIff};
-ghost use Rattle.clap.specs.Words.{all_of, fault_of, found_of, matches_of, rows_of};
-ghost use Rattle.pbcube_join.specs.CommandLine.{IsLineOf, pbcube_join};
+ghost use Rattle.std.specs.Prelude.{◌≡◌, ◌≤◌, [], codes, map, unwrap_or, IfErr, IfOk, IfSome, IsNone, SomeIff};
+ghost use Rattle.clap.specs.Words.{all_of, fault_of, found_of, kind_of, matches_of, rows_of};
+ghost use Rattle.pb_line.specs.Ends.{MayFailBy};
+ghost use Rattle.pbcube_join.specs.CommandLine.{HasNoLine, IsLineOf, pbcube_join};
 
 use crate::asked::Line;
 use crate::command::command;
@@ -16,6 +17,7 @@ pub fn line<'a>(alloc: Global, words: &'a [&'a str]) -> Result<Line<'a>, Error>
     ensures line { IfOk result (IsLineOf (matches_of pbcube_join (map (λ word. word.now) words.now))) }
     ensures accepted { IfOk result (λ line. fault_of pbcube_join (map (λ word. word.now) words.now) ≡ []) }
     ensures pieces { IfOk result (λ line. 1 ≤ line.pieces) }
+    ensures refused { IfErr result (λ fault. MayFailBy pbcube_join HasNoLine (map (λ word. word.now) words.now) (kind_of fault)) }
 {
     let mut command = command(alloc)?;
     let matches = command.try_get_matches_from_mut(words)?;
@@ -44,6 +46,7 @@ fn line_of<'a>(matches: &ArgMatches<'a>, reports: Vec<&'a str>) -> Option<Line<'
     requires { map (λ name. name.now) reports.items ≡ unwrap_or (all_of (codes "reports") (rows_of (found_of matches.now))) [] }
     ensures line { IfSome result (IsLineOf (rows_of (found_of matches.now))) }
     ensures pieces { IfSome result (λ line. 1 ≤ line.pieces) }
+    ensures none { IsNone result → HasNoLine (rows_of (found_of matches.now)) }
 {
     Some(Line {
         file: matches.get_str("file")?,

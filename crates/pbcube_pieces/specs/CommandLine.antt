@@ -20,3 +20,7 @@ pub record IsLineOf (matches : List Row) (line : Line) : Type 0 where
   pub cubes : first_of (codes "cubes") matches ≡ option_map (λ name. name.now) line.cubes
   pub split : IsSomeAnd (one_of (codes "split") matches) (λ text. Spells 32 text line.split)
   pub out : first_of (codes "out") matches ≡ Some line.out.now
+
+-- no line has the values of the matches
+abbrev pub HasNoLine : List Row → Type 0
+HasNoLine matches = (line : Line) → IsLineOf matches line → ⊥

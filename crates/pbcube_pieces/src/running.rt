@@ -1,5 +1,8 @@
 //! The program over any files and any outputs.
-ghost use Rattle.std.specs.Prelude.{◌≤◌};
+ghost use Rattle.std.specs.Prelude.{◌≡◌, ◌≤◌, map};
+ghost use Rattle.clap.specs.Words.{kind_of};
+ghost use Rattle.pb_line.specs.Ends.{EndsBy};
+ghost use Rattle.pbcube_pieces.specs.Ending.{Ends};
 
 use crate::asked::Line;
 use crate::faults::Fault;
@@ -20,7 +23,8 @@ pub fn program<'a, F: Folders, W: Write, E: Write>(
     out: &mut W,
     err: &mut E,
 ) -> u8
-    ensures { result ≤ 2 }
+    ensures status { result ≤ 2 }
+    ensures ended { Ends (map (λ word. word.now) words.now) result }
 {
     let line = match line(alloc, words) {
         Ok(line) => line,
@@ -34,7 +38,7 @@ pub fn program<'a, F: Folders, W: Write, E: Write>(
 
 /// The program's end where its words found no memory.
 pub fn out_of_memory<E: Write>(err: &mut E) -> u8
-    ensures { result ≤ 2 }
+    ensures { result ≡ 1 }
 {
     end_at_fault(&Fault::Memory, err)
 }
@@ -50,7 +54,7 @@ fn write_all<'a, F: Folders>(
 
 /// The end where the words ask for no run: help, a refusal, or no memory.
 fn end_at_line<W: Write, E: Write>(fault: &Error, out: &mut W, err: &mut E) -> u8
-    ensures { result ≤ 2 }
+    ensures { EndsBy (λ status. status ≡ 1) (kind_of fault.now) result }
 {
     if fault.kind() == ErrorKind::OutOfMemory {
         return out_of_memory(err);
@@ -70,7 +74,7 @@ fn end_at_line<W: Write, E: Write>(fault: &Error, out: &mut W, err: &mut E) -> u
 
 /// One line to the standard error, whose own faults are ignored.
 fn end_at_fault<E: Write>(fault: &Fault<'_>, err: &mut E) -> u8
-    ensures { result ≤ 2 }
+    ensures { result ≡ 1 }
 {
     let _ = writeln!(err, "pbcube_pieces: {fault}");
     1

@@ -2,7 +2,7 @@
 use crate::folders::Folders;
 use crate::index::{Index, write_index};
 use crate::names::{path, piece_name};
-use crate::running::program;
+use crate::running::{out_of_memory, program};
 use pb_read::Format;
 use std::alloc::Global;
 use std::io::{self, Error, ErrorKind, Read, Write};
@@ -219,6 +219,17 @@ fn refused_words(rt: HostRuntime) {
     let status = program(rt.alloc(), &words, &mut Room, &mut out, &mut err);
     assert_eq!(rt; status, 2);
     assert!(rt; err.starts_with(b"error: the following required arguments were not provided"));
+}
+
+#[test]
+fn words_that_find_no_memory(rt: HostRuntime) {
+    let mut err = Vec::new(rt.alloc());
+    let status = out_of_memory(&mut err);
+    assert_eq!(rt; status, 1);
+    assert_eq!(rt;
+        err.as_slice(),
+        b"pbcube_pieces: out of memory\n".as_slice()
+    );
 }
 
 fn index_of(alloc: Global) -> Result<Vec<u8>, Fail> {

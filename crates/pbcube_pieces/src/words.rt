@@ -1,7 +1,8 @@
 //! From the words to what they ask for.
-ghost use Rattle.std.specs.Prelude.{◌≡◌, map, IfOk, IfSome, []};
-ghost use Rattle.clap.specs.Words.{fault_of, found_of, matches_of, rows_of};
-ghost use Rattle.pbcube_pieces.specs.CommandLine.{IsLineOf, pbcube_pieces};
+ghost use Rattle.std.specs.Prelude.{◌≡◌, map, IfErr, IfOk, IfSome, IsNone, []};
+ghost use Rattle.clap.specs.Words.{fault_of, found_of, kind_of, matches_of, rows_of};
+ghost use Rattle.pb_line.specs.Ends.{MayFailBy};
+ghost use Rattle.pbcube_pieces.specs.CommandLine.{HasNoLine, IsLineOf, pbcube_pieces};
 
 use crate::asked::Line;
 use crate::command::command;
@@ -15,6 +16,7 @@ use std::alloc::Global;
 pub fn line<'a>(alloc: Global, words: &'a [&'a str]) -> Result<Line<'a>, Error>
     ensures line { IfOk result (IsLineOf (matches_of pbcube_pieces (map (λ word. word.now) words.now))) }
     ensures accepted { IfOk result (λ line. fault_of pbcube_pieces (map (λ word. word.now) words.now) ≡ []) }
+    ensures refused { IfErr result (λ fault. MayFailBy pbcube_pieces HasNoLine (map (λ word. word.now) words.now) (kind_of fault)) }
 {
     let mut command = command(alloc)?;
     let matches = command.try_get_matches_from_mut(words)?;
@@ -29,7 +31,8 @@ pub fn line<'a>(alloc: Global, words: &'a [&'a str]) -> Result<Line<'a>, Error>
 
 // What the matches ask for, unless a value is missing or the format has another name.
 fn line_of<'a>(matches: &ArgMatches<'a>) -> Option<Line<'a>>
-    ensures { IfSome result (IsLineOf (rows_of (found_of matches.now))) }
+    ensures some { IfSome result (IsLineOf (rows_of (found_of matches.now))) }
+    ensures none { IsNone result → HasNoLine (rows_of (found_of matches.now)) }
 {
     Some(Line {
         file: matches.get_str("file")?,

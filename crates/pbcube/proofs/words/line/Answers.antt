@@ -1,9 +1,8 @@
 use Rattle.std.proofs.Common.{ap, inr, refl, subst, sym, map, true, ◌≡◌, ◌∙◌}
-use Rattle.clap.proofs.KindLemmas.{fails_by_from}
 use Rattle.clap.specs.Words.{HasKind, fault_of, is_simple, is_simple_and_free, matches_of}
 use Rattle.clap.proofs.OnLiterals.{clap_on_literals}
 use Rattle.pbcube.specs.CommandLine.{HasNoLine, IsLineOf, pbcube}
-use Rattle.pbcube.proofs.Refusals.{refused_by_clap}
+use Rattle.pb_line.proofs.Refusals.{refused_as_passed_on}
 use Rattle.pbcube.proofs.words.line.Goals as goal
 
 simple : is_simple pbcube ≡ true
@@ -37,4 +36,4 @@ returns-in_err-matches-clause-refused c =
     let one = c.in_ok-command.ensures in
     let kinds = subst (λ app. HasKind (fault_of app words) c.in_err-matches.field-0.0) one (c.in_err-matches.ensures.kinds (ap is_simple_and_free one ∙ simple_and_free)) in
     let passed_on = c.from_residual-in_err-matches.ensures in
-    refused_by_clap words c.from_residual-in_err-matches.result (fails_by_from (fault_of pbcube words) c.from_residual-in_err-matches.result c.in_err-matches.field-0.0 kinds passed_on.0 passed_on.1)
+    refused_as_passed_on pbcube HasNoLine words c.from_residual-in_err-matches.result c.in_err-matches.field-0.0 kinds passed_on.0 passed_on.1
