@@ -128,7 +128,7 @@ struct Case {
     status: u8,
 }
 
-const CASES: [Case; 24] = [
+const CASES: [Case; 25] = [
     Case {
         words: &["pbcube", "one_clause.cnf"],
         out: b"c refused: Unfinished at line 1\ns UNSUPPORTED\n",
@@ -139,6 +139,12 @@ const CASES: [Case; 24] = [
         words: &["pbcube", "older_spelling.opb"],
         out: b"c refused: Syntax at line 2\ns UNSUPPORTED\n",
         err: b"pbcube: line 2, column 1: '+1*x1'\n",
+        status: 0,
+    },
+    Case {
+        words: &["pbcube", "--format", "cnf", "tie.opb"],
+        out: b"c refused: BadHeader at line 1\ns UNSUPPORTED\n",
+        err: b"pbcube: tie.opb begins as OPB: --format opb reads it\n",
         status: 0,
     },
     Case {

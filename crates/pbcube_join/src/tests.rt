@@ -16,6 +16,8 @@ impl Files for Folder {
         let text: &'static [u8] = match name {
             "tie.opb" => b"min: 2 x1 3 x2 1 x3 ;\n1 x1 1 x2 >= 1 ;\n1 x2 1 x3 >= 1 ;\n",
             "product.opb" => b"1 x1 x2 >= 1 ;\n",
+            "clause.cnf" => b"p cnf 2 1\n1 2 0\n",
+            "clause-0.out" => b"s SATISFIABLE\nv -1 2 0\n",
             "out/0.out" | "again-0.out" | "pieces/0.report" =>
                 b"o 3\ns OPTIMUM FOUND\nv x1 -x2 x3\n",
             "piece-001.out" => b"c another solver\no 4\no 3\ns OPTIMUM FOUND\nv -x1 x2\nv -x3\n",
@@ -89,6 +91,20 @@ const CASES: &[Case] = &[
         ],
         out: b"o 3\ns SATISFIABLE\nv x1 -x2 x3\n",
         err: b"pbcube_join: piece 1 was not solved to its end\npbcube_join: piece 2 has no report\n",
+        status: 10,
+    },
+    Case {
+        words: &[
+            "pbcube_join",
+            "--format",
+            "cnf",
+            "--pieces",
+            "1",
+            "clause.cnf",
+            "clause-0.out",
+        ],
+        out: b"s SATISFIABLE\nv -1 2 0\n",
+        err: b"",
         status: 10,
     },
     Case {
