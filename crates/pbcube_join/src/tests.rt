@@ -222,7 +222,7 @@ fn words_that_find_no_memory(rt: HostRuntime) {
     let mut err = Vec::new(rt.alloc());
     let status = out_of_memory(&mut err);
     assert_eq!(rt; status, 1);
-    assert!(rt; err.as_slice() == b"pbcube_join: out of memory\n");
+    assert!(rt; err.as_slice() == b"pbcube_join: out of memory\n".as_slice());
 }
 
 #[test]
