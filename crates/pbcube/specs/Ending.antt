@@ -1,5 +1,6 @@
 -- How the program may end.
-use Rattle.std.specs.Prelude.{◌≡◌, ◌⊎◌, ℕ, List, Option, Appends}
+use Rattle.std.specs.Prelude.{◌≡◌, ◌⊎◌, ℕ, List, Option}
+use Rattle.std.specs.Io.KnownBytes.{Appends}
 use Rattle.clap.specs.Words.{Text}
 use Rattle.pb_line.specs.Ends.{EndsOn}
 use Rattle.pb_solve.specs.Report.{memory_report}
