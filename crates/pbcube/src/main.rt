@@ -15,6 +15,7 @@ mod words;
 use crate::files::Files;
 use crate::running::{out_of_memory, program};
 use pb_line::{texts_of, words_of};
+use pb_solve::Device;
 use std::fs::{self, File};
 use std::io::ErrorKind;
 use std::process::ExitCode;
@@ -37,7 +38,7 @@ impl Files for SystemFiles<'_> {
 
 /// Runs the program on the system's words, files and outputs. Words that are no text end with status 2.
 fn main(rt: HostRuntime) -> ExitCode {
-    let mut out = rt.stdout();
+    let mut out = Device::new(rt.stdout());
     let mut err = rt.stderr();
     let texts = match texts_of(&rt) {
         Ok(texts) => texts,

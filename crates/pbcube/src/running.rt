@@ -25,30 +25,34 @@ pub fn program<'a, R: Threads + Sync, F: Files, W: Write, E: Write>(
     alloc: Global,
     words: &'a [&'a str],
     files: &mut F,
-    out: &mut W,
+    out: &mut Device<W>,
     err: &mut E,
 ) -> u8
+    requires { out.old.failed ≡ false }
     ensures status { IsExitStatus result }
-    ensures ended { Ends (W.contents out.old) (W.contents out.new) (map (λ word. word.now) words.now) result }
+    ensures ended { Ends (W.contents out.old.held) (W.contents out.new.held) (map (λ word. word.now) words.now) result }
     ensures fetched { FetchesInOrder F.fetches (map (λ word. word.now) words.now) files.old files.new }
 {
-    let mut out = Device::new(&mut *out);
     let line = match line(alloc, words) {
         Ok(line) => line,
-        Err(fault) => return end_at_line(&fault, &mut out, err),
+        Err(fault) => return end_at_line(&fault, out, err),
     };
     let (name, format) = (line.file, line.options.format);
-    match run_on_files(rt, alloc, line, files, &mut out) {
+    match run_on_files(rt, alloc, line, files, out) {
         Ok((ran, mut input)) => end_of_run(alloc, name, format, ran, &mut input, err),
         Err(fault) => end_at_fault(fault, err),
     }
 }
 
 /// The program's end where its words found no memory.
-pub fn out_of_memory<W: Write, E: Write>(out: &mut W, err: &mut E) -> u8
-    ensures { EndsWithoutMemory (W.contents out.old) (W.contents out.new) result }
+pub fn out_of_memory<W: Write, E: Write>(out: &mut Device<W>, err: &mut E) -> u8
+    requires { out.old.failed ≡ false }
+    ensures { EndsWithoutMemory (W.contents out.old.held) (W.contents out.new.held) result }
 {
-    end_without_memory(&mut Device::new(out), err)
+    match report_memory(out) {
+        Ok(status) => status.exit_status(),
+        Err(_) => end_at_fault(ProgramFault::CannotWrite, err),
+    }
 }
 
 /// Fetches the files and runs on them, the input before the cube file. The input comes back with how the run ended.
@@ -153,7 +157,7 @@ fn end_at_line<W: Write, E: Write>(fault: &Error, out: &mut Device<W>, err: &mut
     ensures { EndsBy (EndsWithoutMemory (W.contents out.old.held) (W.contents out.new.held)) (kind_of fault.now) result }
 {
     if fault.kind() == ErrorKind::OutOfMemory {
-        return end_without_memory(out, err);
+        return out_of_memory(out, err);
     }
     if fault.use_stderr() {
         let _ = write!(err, "{fault}");
@@ -161,16 +165,6 @@ fn end_at_line<W: Write, E: Write>(fault: &Error, out: &mut Device<W>, err: &mut
     }
     match write!(out, "{fault}") {
         Ok(()) => 0,
-        Err(_) => end_at_fault(ProgramFault::CannotWrite, err),
-    }
-}
-
-fn end_without_memory<W: Write, E: Write>(out: &mut Device<W>, err: &mut E) -> u8
-    requires { out.old.failed ≡ false }
-    ensures { EndsWithoutMemory (W.contents out.old.held) (W.contents out.new.held) result }
-{
-    match report_memory(out) {
-        Ok(status) => status.exit_status(),
         Err(_) => end_at_fault(ProgramFault::CannotWrite, err),
     }
 }

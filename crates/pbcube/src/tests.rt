@@ -4,6 +4,7 @@ ghost use Rattle.std.specs.Prelude.{⊤};
 use crate::asked::MAX_NODES;
 use crate::files::Files;
 use crate::running::{out_of_memory, program};
+use pb_solve::Device;
 use std::alloc::Global;
 use std::io::{self, Error, ErrorKind, Read, Seek, SeekFrom, Write};
 use std::process::Abort;
@@ -116,7 +117,14 @@ struct Outcome {
 fn run_on_folder<'a>(rt: &(impl Threads + Sync), alloc: Global, words: &'a [&'a str]) -> Outcome {
     let mut out = Vec::new(alloc);
     let mut err = Vec::new(alloc);
-    let status = program(rt, alloc, words, &mut Folder, &mut out, &mut err);
+    let status = program(
+        rt,
+        alloc,
+        words,
+        &mut Folder,
+        &mut Device::new(&mut out),
+        &mut err,
+    );
     Outcome { out, err, status }
 }
 
@@ -328,7 +336,7 @@ fn the_file_is_fetched_before_the_cube_file(rt: HostRuntime) -> Result<(), Fail>
         rt.alloc(),
         words.as_slice(),
         &mut files,
-        &mut out,
+        &mut Device::new(&mut out),
         &mut err,
     );
     assert_eq!(rt; status, 30);
@@ -459,7 +467,7 @@ fn an_output_that_fails(rt: HostRuntime) -> Result<(), Fail> {
             rt.alloc(),
             words.as_slice(),
             &mut Folder,
-            &mut Full,
+            &mut Device::new(Full),
             &mut err,
         );
         assert_eq!(rt; status, 1);
@@ -477,7 +485,7 @@ fn a_standard_error_that_fails_is_ignored(rt: HostRuntime) -> Result<(), Fail> {
             rt.alloc(),
             words.as_slice(),
             &mut Folder,
-            &mut out,
+            &mut Device::new(&mut out),
             &mut Full,
         );
         assert_eq!(rt; status, ended);
@@ -489,7 +497,7 @@ fn a_standard_error_that_fails_is_ignored(rt: HostRuntime) -> Result<(), Fail> {
         rt.alloc(),
         words.as_slice(),
         &mut Folder,
-        &mut Full,
+        &mut Device::new(Full),
         &mut Full,
     );
     assert_eq!(rt; status, 1);
@@ -500,14 +508,14 @@ fn a_standard_error_that_fails_is_ignored(rt: HostRuntime) -> Result<(), Fail> {
 fn words_that_find_no_memory(rt: HostRuntime) -> Result<(), Fail> {
     let mut out = Vec::new(rt.alloc());
     let mut err = Vec::new(rt.alloc());
-    let status = out_of_memory(&mut out, &mut err);
+    let status = out_of_memory(&mut Device::new(&mut out), &mut err);
     assert_eq!(rt; status, 0);
     assert_eq!(rt;
         out.as_slice(),
         b"c refused: Memory\ns UNKNOWN\n".as_slice()
     );
     assert_eq!(rt; err.len(), 0);
-    let status = out_of_memory(&mut Full, &mut err);
+    let status = out_of_memory(&mut Device::new(Full), &mut err);
     assert_eq!(rt; status, 1);
     assert_eq!(rt; err.as_slice(), b"pbcube: cannot write\n".as_slice());
     Ok(())
