@@ -10,7 +10,7 @@ use std::alloc::Global;
 use std::marker::Model;
 
 /// Flags, 64 in a word. Contracts see a list of truth values.
-#[derive(Debug, Drop)]
+#[derive(Drop)]
 pub struct Bits {
     words: Vec<u64>,
     count: usize,

@@ -8,7 +8,7 @@ use std::marker::Model;
 
 /// Whether each variable is marked. A variable is marked where it has the present stamp, so a new stamp takes back all marks.
 /// Contracts see a list of truth values, that of variable 1 first.
-#[derive(Debug, Drop)]
+#[derive(Drop)]
 pub struct Marks {
     stamps: Vec<u32>,
     stamp: u32,

@@ -13,7 +13,7 @@ use std::marker::Model;
 
 /// A set of rows: a flag for each row, and three levels of flags of groups above, so that one word stands above 16 million rows.
 /// Contracts see for each row whether it is a member.
-#[derive(Debug, Drop)]
+#[derive(Drop)]
 pub struct RowSet {
     members: Summary<Summary<Summary<Bits>>>,
 }

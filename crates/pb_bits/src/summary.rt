@@ -8,7 +8,7 @@ use std::marker::Model;
 
 /// Flags, and for each 64 of them whether one is set. Where the flags of the groups are a summary in their turn, each level
 /// has a 64th of the flags of the one below, and a call reads at most two words of each. Contracts see the flags below.
-#[derive(Debug, Drop)]
+#[derive(Drop)]
 pub struct Summary<G: Flags> {
     members: Bits,
     groups: G,

@@ -10,7 +10,7 @@ use std::marker::Model;
 use std::ops::{Add, AddAssign, Div, Mul, Sub, SubAssign};
 
 /// A number of an engine's type of counters. Contracts see a natural number.
-#[derive(Copy, Debug)]
+#[derive(Copy)]
 pub struct Tally<C: Count>(C);
 
 impl<C: Count> Model for Tally<C> {

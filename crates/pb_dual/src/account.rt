@@ -39,7 +39,7 @@ const FADING: u64 = 8_388_608;
 const LASTING_CREDIT: u64 = FADING / 4;
 
 /// A node that the multipliers close and that is searched without them all the same, to see what they save.
-#[derive(Clone, Copy, Debug)]
+#[derive(Clone, Copy)]
 struct Trial {
     /// The number of assumptions at the node.
     level: usize,
@@ -49,7 +49,7 @@ struct Trial {
 
 /// What the search costs without multipliers, what they cost, and what they seem to have saved: as many times the mean work
 /// of the trials as there were closings.
-#[derive(Clone, Copy, Debug)]
+#[derive(Clone, Copy)]
 pub struct Account {
     credit: u64,
     search: u64,

@@ -25,7 +25,6 @@ const TERMS: u64 = 20_000_000;
 const SCALE: i128 = 256;
 
 /// The best multipliers that were found, and where better ones are looked for.
-#[derive(Debug)]
 pub struct Ascent<C: Count> {
     /// By how much, times the scale, the next round is to raise the bound.
     reach: Tally<C>,

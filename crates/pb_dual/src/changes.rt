@@ -4,7 +4,7 @@ use pb_count::{Count, Tally};
 use std::marker::Model;
 
 /// A row whose multiplier was changed, and what it was before.
-#[derive(Clone, Copy, Debug)]
+#[derive(Clone, Copy)]
 pub struct Change<C: Count> {
     pub row: usize,
     pub before: Tally<C>,

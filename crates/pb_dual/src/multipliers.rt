@@ -20,7 +20,6 @@ use std::marker::Model;
 
 /// A multiplier for each row of a normal form, a trail over its variables, and a lower bound of what the completions of the
 /// trail cost. All of them are numbers of the width of the form.
-#[derive(Debug)]
 pub struct Multipliers<'a, C: Count = u64> {
     form: &'a Form<C>,
     scale: Tally<C>,

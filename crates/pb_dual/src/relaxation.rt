@@ -47,7 +47,7 @@ const CHANGES_OF_FEW_ROWS: usize = 512;
 const MOST_CHANGES_OF_FEW_ROWS: usize = 262_144;
 
 /// Where the multiplier of a row makes a literal free of cost, and the literal's coefficient.
-#[derive(Clone, Copy, Debug)]
+#[derive(Clone, Copy)]
 struct Breakpoint<C: Count> {
     at: Tally<C>,
     coef: Tally<C>,
@@ -55,7 +55,6 @@ struct Breakpoint<C: Count> {
 
 /// Multipliers beside the trail of a search. Where they are used they follow the trail, and are shifted at the rows that it
 /// touches. What was shifted below an assumption is taken back with it. An account tells where they are used.
-#[derive(Debug)]
 pub struct Relaxation<'a, C: Count = u64> {
     multipliers: Multipliers<'a, C>,
     /// The rows to step next: those of variables that joined the trail, those whose multipliers were taken back, and those

@@ -7,7 +7,7 @@ use std::marker::Model;
 
 /// A number with a sign, which is kept with the limit of the counters more. What does not fit is cut to the range: from minus
 /// the limit up to below it. Contracts see an integer.
-#[derive(Clone, Copy, Debug)]
+#[derive(Clone, Copy)]
 pub struct Signed<C: Count>(Tally<C>);
 
 impl<C: Count> Model for Signed<C> {

@@ -29,7 +29,6 @@ use std::marker::Model;
 
 /// Rows, a trail over their variables with some literals assumed, and whether a conflict stands. It counts in numbers of
 /// type `C`, the width of its normal form.
-#[derive(Debug)]
 pub struct Engine<'a, C: Count = u64> {
     propagator: Propagator<'a, C>,
     needs: Needs<C>,

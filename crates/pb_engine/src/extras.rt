@@ -17,7 +17,7 @@ use pb_trail::Slacks;
 use std::marker::Model;
 
 /// The sum and the greatest of the coefficients of costly literals, and the least cost of one of them.
-#[derive(Clone, Copy, Debug)]
+#[derive(Clone, Copy)]
 struct Offer<C: Count> {
     total: Tally<C>,
     greatest: Tally<C>,

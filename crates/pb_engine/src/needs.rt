@@ -19,7 +19,7 @@ use std::alloc::Global;
 
 /// What the first literals of a trail pay, and what each row lacks after them: its degree less what it has at no cost, and the
 /// limit of the counters more, since it may have more than its degree. Rows that lack more than the limit stand in a set.
-#[derive(Debug, Drop)]
+#[derive(Drop)]
 pub struct Needs<C: Count> {
     counted: usize,
     paid: Tally<C>,

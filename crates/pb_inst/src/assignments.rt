@@ -11,7 +11,7 @@ use std::marker::Model;
 const WORD_BITS: usize = 64;
 
 /// Truth values of the variables 1 to n. Contracts see the list of them, that of variable 1 first.
-#[derive(Debug, Drop)]
+#[derive(Drop)]
 pub struct Assignment {
     vars: u32,
     words: Vec<u64>,

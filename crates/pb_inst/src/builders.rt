@@ -17,7 +17,7 @@ use std::marker::Model;
 
 /// The statements of an instance so far, within all limits on sums and counts. Contracts see the objective, if one was
 /// set, and the constraints in order.
-#[derive(Debug, Drop)]
+#[derive(Drop)]
 pub struct InstanceBuilder {
     alloc: Global,
     objective: Option<TermList>,
@@ -37,7 +37,7 @@ impl Model for InstanceBuilder {
 }
 
 /// Why an instance was not finished, and the builder as it was.
-#[derive(Debug, Drop)]
+#[derive(Drop)]
 pub struct FinishFault {
     /// `BadVariable` or `TooMany`.
     pub fault: InstFault,

@@ -28,7 +28,7 @@ pub enum Relation {
 }
 
 /// A constraint as it is read back: the sum of the terms stands in the relation to the bound.
-#[derive(Debug, Drop)]
+#[derive(Drop)]
 pub struct Constraint<'a> {
     /// The terms as they were added, repeats included.
     pub terms: Terms<'a>,
@@ -39,7 +39,7 @@ pub struct Constraint<'a> {
 }
 
 /// Where a constraint's terms lie in the list of all terms, and the rest of the constraint. `MAX_TERMS` fits 32 bits.
-#[derive(Clone, Copy, Debug)]
+#[derive(Clone, Copy)]
 struct Row {
     start: u32,
     end: u32,
@@ -51,7 +51,7 @@ struct Row {
 const _: () = prove!(size_of::<Row>() <= 32);
 
 /// Constraints in the order in which they were added, over one list of all their terms. Contracts see the list of them.
-#[derive(Debug, Drop)]
+#[derive(Drop)]
 pub struct ConstraintList {
     terms: TermList,
     rows: Vec<Row>,

@@ -9,7 +9,7 @@ use std::marker::Model;
 
 /// A list of literals that are to be true together, of which 16 are kept inline. It may be empty, repeat a literal or
 /// hold a literal and its negation. Contracts see the list.
-#[derive(Debug, Drop)]
+#[derive(Drop)]
 pub struct Cube {
     lits: SmallVec<Lit, 16>,
 }

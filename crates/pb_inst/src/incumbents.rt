@@ -10,7 +10,7 @@ use std::alloc::Global;
 use std::marker::Model;
 
 /// Nothing, or an assignment that the instance's `check` accepts, and its cost. Contracts see an `Incumbent`.
-#[derive(Debug, Drop)]
+#[derive(Drop)]
 pub struct Best<'i> {
     instance: &'i Instance,
     cost: Option<Number>,

@@ -13,7 +13,7 @@ use crate::{Assignment, Constraint, Number, Terms};
 use std::marker::Model;
 
 /// Variables, an objective or none, and constraints, within all limits. Contracts see them as a `Problem`.
-#[derive(Debug, Drop)]
+#[derive(Drop)]
 pub struct Instance {
     vars: u32,
     objective: Option<TermList>,

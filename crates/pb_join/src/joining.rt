@@ -16,7 +16,7 @@ use std::alloc::Global;
 use std::io::Write;
 
 /// How a report that was joined ended, and what became of each piece.
-#[derive(Debug, Drop)]
+#[derive(Drop)]
 pub struct Joined {
     /// What the written report says.
     pub status: Status,

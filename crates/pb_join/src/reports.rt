@@ -3,7 +3,7 @@
 use pb_report::Claim;
 
 /// What the report of the piece with this number, from 0, claims.
-#[derive(Debug, Drop)]
+#[derive(Drop)]
 pub struct PieceReport {
     pub number: u32,
     pub claim: Claim,

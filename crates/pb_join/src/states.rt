@@ -1,7 +1,7 @@
 //! What became of a piece.
 
 /// What became of a piece: whether there is a report of it, and whether that claims to be its answer.
-#[derive(Clone, Copy, Debug, PartialEq, Eq)]
+#[derive(Clone, Copy, PartialEq, Eq)]
 pub enum PieceState {
     /// No report is of this piece.
     Missing,

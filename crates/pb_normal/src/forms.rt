@@ -26,7 +26,6 @@ use std::marker::Model;
 /// and the terms of the objective are what the cost is above its base. The degree of each row, the coefficients of a row
 /// together and those of the objective are below the limit of the numbers in which engines over the form count. Contracts
 /// see a `NormalForm`.
-#[derive(Debug)]
 pub struct Form<C: Count = u64> {
     vars: u32,
     rows: RowList<C>,

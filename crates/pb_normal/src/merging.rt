@@ -12,7 +12,7 @@ use pb_inst::{Magnitude, Memory, Number, Term, Terms};
 use std::alloc::Global;
 
 /// A base and positive terms by rising variable. Its lists keep their memory, so that one value serves for one sum after the other.
-#[derive(Debug, Drop)]
+#[derive(Drop)]
 pub struct PositiveSum {
     pub base: Number,
     pub terms: Vec<PositiveTerm>,

@@ -13,7 +13,7 @@ use std::alloc::Global;
 use std::marker::Model;
 
 /// Where a row's terms lie in the list of all terms, and its degree.
-#[derive(Clone, Copy, Debug)]
+#[derive(Clone, Copy)]
 struct Span<C: Count> {
     start: u32,
     end: u32,
@@ -21,7 +21,7 @@ struct Span<C: Count> {
 }
 
 /// Rows in the order in which they were added. Contracts see the list of them.
-#[derive(Debug, Drop)]
+#[derive(Drop)]
 pub struct RowList<C: Count> {
     terms: Vec<FormTerm<C>>,
     spans: Vec<Span<C>>,

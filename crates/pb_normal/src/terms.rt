@@ -8,7 +8,7 @@ use pb_inst::{Lit, Magnitude};
 use std::marker::Model;
 
 /// A coefficient and the literal that it counts.
-#[derive(Clone, Copy, Debug, PartialEq, Eq)]
+#[derive(Clone, Copy, PartialEq, Eq)]
 pub struct PositiveTerm {
     /// In a normal form at least 1. The coefficients of a row, and those of the objective, add up to at most `SUM_BOUND`.
     pub coef: Magnitude,
@@ -17,7 +17,7 @@ pub struct PositiveTerm {
 }
 
 /// A term of a form, whose coefficient is of the width in which an engine over the form counts. Contracts see a `PositiveTerm`.
-#[derive(Clone, Copy, Debug)]
+#[derive(Clone, Copy)]
 pub struct FormTerm<C: Count = u64> {
     coef: Tally<C>,
     lit: Lit,

@@ -12,7 +12,7 @@ use std::alloc::{AllocError, Global};
 use std::marker::Model;
 
 /// What is kept at one of two widths.
-#[derive(Debug, Drop)]
+#[derive(Drop)]
 pub enum EitherWidth<N, W> {
     /// It counts in 64 bits.
     Narrow(N),
@@ -23,7 +23,6 @@ pub enum EitherWidth<N, W> {
 /// The normal form of an instance: rows of positive terms, and the cost as a base and positive terms. It is kept in numbers
 /// of 64 bits where the sums of its rows and of its objective are below 2^63, else in numbers of 128. Contracts see a
 /// `NormalForm`.
-#[derive(Debug)]
 pub struct Normal {
     form: EitherWidth<Form, Form<u128>>,
 }

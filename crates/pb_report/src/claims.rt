@@ -6,7 +6,7 @@ ghost use Rattle.pb_report.specs.Claims.{witness_of, is_final};
 use pb_inst::{Assignment, Number};
 
 /// An assignment, and the cost that the report gives it, if it gives one. Neither is checked against an instance.
-#[derive(Debug, Drop)]
+#[derive(Drop)]
 pub struct Witness {
     /// The number of the last `o` line.
     pub cost: Option<Number>,
@@ -15,7 +15,7 @@ pub struct Witness {
 }
 
 /// What a report claims of its instance, by its `s` line.
-#[derive(Debug, Drop)]
+#[derive(Drop)]
 pub enum Claim {
     /// `s OPTIMUM FOUND`: the assignment is least.
     Optimum(Witness),

@@ -8,14 +8,14 @@ use std::alloc::Global;
 use std::marker::Model;
 
 /// Where a list lies in the list of all literals.
-#[derive(Clone, Copy, Debug)]
+#[derive(Clone, Copy)]
 struct LiteralSpan {
     start: usize,
     end: usize,
 }
 
 /// Lists of literals in the order in which they were added. Contracts see the list of them.
-#[derive(Debug, Drop)]
+#[derive(Drop)]
 pub struct LiteralLists {
     lits: Vec<Lit>,
     spans: Vec<LiteralSpan>,

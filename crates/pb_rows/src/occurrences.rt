@@ -23,7 +23,7 @@ pub trait Occurs<C: Count>: Copy {
 }
 
 /// A row in which a literal occurs, and with which coefficient.
-#[derive(Clone, Copy, Debug)]
+#[derive(Clone, Copy)]
 pub struct Occurrence<C: Count> {
     pub row: u32,
     pub coef: Tally<C>,
@@ -54,7 +54,7 @@ impl<C: Count> Occurs<C> for Occurrence<C> {
 }
 
 /// A row in which a literal occurs with the coefficient 1, which is not stored. Contracts see an `Occurrence`.
-#[derive(Clone, Copy, Debug)]
+#[derive(Clone, Copy)]
 pub struct UnitOccurrence {
     pub row: u32,
 }
@@ -95,7 +95,7 @@ impl<C: Count> Occurs<C> for UnitOccurrence {
 
 /// An occurrence, and the place of its literal. The occurrence's parts stand beside the place, since so an entry takes no more
 /// room than an occurrence alone: while tables are built there is one of each for every term. Contracts see an `Occurrence` in it.
-#[derive(Clone, Copy, Debug)]
+#[derive(Clone, Copy)]
 pub struct Entry<C: Count> {
     pub place: u32,
     pub row: u32,

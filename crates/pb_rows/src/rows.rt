@@ -18,7 +18,7 @@ use std::alloc::Global;
 use std::marker::Model;
 
 /// The degree of a row, and what it must be able to reach so that it forces no literal, side by side for the test of its sum.
-#[derive(Clone, Copy, Debug)]
+#[derive(Clone, Copy)]
 pub struct Limits<C: Count> {
     pub degree: Tally<C>,
     pub enough: Tally<C>,
@@ -26,7 +26,7 @@ pub struct Limits<C: Count> {
 
 /// The rows of a normal form, with the rows in which each literal occurs and what the objective says of it. They are built
 /// once and lent to engines.
-#[derive(Debug, Drop)]
+#[derive(Drop)]
 pub struct Rows<'a, C: Count = u64> {
     form: &'a Form<C>,
     limits: Vec<Limits<C>>,

@@ -19,14 +19,14 @@ use pb_normal::{Form, FormTerm, total_of};
 use std::marker::Model;
 
 /// The terms of a row of the form, or the literals of a clause, whose coefficients are 1.
-#[derive(Clone, Copy, Debug)]
+#[derive(Clone, Copy)]
 pub enum RowTerms<'a, C: Count> {
     Weighted(&'a [FormTerm<C>]),
     Units(&'a [Lit]),
 }
 
 /// The rows of a normal form, and the clauses of cubes numbered on from them, as one list of rows.
-#[derive(Debug, Drop)]
+#[derive(Drop)]
 pub struct Tables<'t, 'a, C: Count> {
     rows: &'t Rows<'a, C>,
     clauses: &'t Clauses,

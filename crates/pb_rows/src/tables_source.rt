@@ -16,7 +16,7 @@ use std::alloc::Global;
 use std::marker::Model;
 
 /// Where an engine has its tables from.
-#[derive(Debug, Drop)]
+#[derive(Drop)]
 enum Source<'a, C: Count> {
     Lent(&'a Rows<'a, C>, &'a Clauses),
     Own(Rows<'a, C>, Clauses),
@@ -44,7 +44,7 @@ impl<'a, C: Count> Source<'a, C> {
 
 /// Rows and clauses that are lent to an engine, or that it has for itself. Which of the two is asked once for each call of the
 /// engine: what then runs over them takes `Tables`.
-#[derive(Debug, Drop)]
+#[derive(Drop)]
 pub struct TablesSource<'a, C: Count> {
     source: Source<'a, C>,
 }

@@ -30,7 +30,7 @@ pub trait Share {
 }
 
 /// A share with nobody: it does nothing and does not lend.
-#[derive(Clone, Copy, Debug)]
+#[derive(Clone, Copy)]
 pub struct Alone;
 
 impl Share for Alone {

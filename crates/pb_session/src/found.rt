@@ -12,7 +12,7 @@ use pb_solve::{SolveFault, solve_alone};
 use std::alloc::{AllocError, Global};
 
 /// A feasible assignment and its cost.
-#[derive(Debug, Drop)]
+#[derive(Drop)]
 pub struct Found {
     pub cost: Number,
     pub values: Assignment,

@@ -20,14 +20,14 @@ use std::alloc::Global;
 use std::marker::Model;
 
 /// Where an assumption stands on the trail, and whether every row was settled before it.
-#[derive(Clone, Copy, Debug)]
+#[derive(Clone, Copy)]
 struct Level {
     start: usize,
     settled: bool,
 }
 
 /// A trail over the variables of rows with some literals assumed, and whether a conflict stands.
-#[derive(Debug, Drop)]
+#[derive(Drop)]
 pub struct Propagator<'a, C: Count> {
     source: TablesSource<'a, C>,
     trail: Trail<C>,

@@ -15,7 +15,7 @@ use pb_rows::Tables;
 use std::marker::Model;
 
 /// A trail over the variables of rows, with the sum that each row can still reach and the value of each variable.
-#[derive(Debug, Drop)]
+#[derive(Drop)]
 pub struct Slacks<'t, 'a, C: Count> {
     tables: Tables<'t, 'a, C>,
     trail: &'t Trail<C>,

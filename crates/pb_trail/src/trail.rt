@@ -16,7 +16,7 @@ use std::marker::Model;
 
 /// The literals of a trail, the value of each variable, and for each row of some tables the sum that it can still reach. The
 /// tables are not kept here, so whoever changes the trail hands them over, and may hold a part of them meanwhile.
-#[derive(Debug, Drop)]
+#[derive(Drop)]
 pub struct Trail<C: Count> {
     sums: Vec<Tally<C>>,
     values: Vec<Option<bool>>,

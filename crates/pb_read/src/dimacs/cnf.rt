@@ -15,7 +15,7 @@ use pb_inst::{Instance, MAX_CONSTRAINTS, MAX_VARS};
 use std::alloc::Global;
 
 /// How many variables and clauses a text announces. A number over `GREATEST_COUNT` is `GREATEST_COUNT`.
-#[derive(Clone, Copy, Debug, PartialEq, Eq)]
+#[derive(Clone, Copy, PartialEq, Eq)]
 pub(crate) struct Header {
     vars: u32,
     clauses: u32,

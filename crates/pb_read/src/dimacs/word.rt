@@ -9,7 +9,7 @@ use crate::digits::digits_count;
 use crate::line::{after_blanks, is_blank};
 
 /// A word, in which an index over `GREATEST_COUNT` is `GREATEST_COUNT`.
-#[derive(Clone, Copy, Debug, PartialEq, Eq)]
+#[derive(Clone, Copy, PartialEq, Eq)]
 pub(crate) enum Word {
     Literal { positive: bool, var: u32 },
     Zero,

@@ -6,7 +6,7 @@ ghost use Rattle.pb_read.specs.Places.{next_after_terms, next_place, is_start, i
 use crate::opb::token::Token;
 
 /// How far a statement has come.
-#[derive(Clone, Copy, Debug, PartialEq, Eq)]
+#[derive(Clone, Copy, PartialEq, Eq)]
 pub(crate) enum Place {
     Start,
     Terms { objective: bool },

@@ -11,7 +11,7 @@ use crate::line::{after_blanks, is_blank};
 use pb_inst::{Magnitude, Relation};
 
 /// A token, in which a number over `GREATEST_READ` is `GREATEST_READ`, and an index over `GREATEST_COUNT` is that.
-#[derive(Clone, Copy, Debug, PartialEq, Eq)]
+#[derive(Clone, Copy, PartialEq, Eq)]
 pub(crate) enum Token {
     End,
     Min,
