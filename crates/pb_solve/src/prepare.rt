@@ -7,8 +7,8 @@ ghost use Rattle.pb_solve.specs.Run.{IsPrepared, HaltsInput, stops_at_input, sto
 mod division;
 pub(crate) mod reading;
 
-use crate::device::Device;
-use crate::options::Refusal;
+use pb_report::Device;
+use pb_report::Refusal;
 use division::divide;
 use pb_cubes::Pieces;
 use pb_inst::{Cube, Instance};

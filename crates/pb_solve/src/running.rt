@@ -3,15 +3,16 @@ ghost use Rattle.std.specs.Prelude.{◌≡◌, ◌≢◌, ◌↔◌, ℕ, List, 
 ghost use Rattle.std.specs.Io.KnownBytes.{Appends};
 ghost use Rattle.pb_read.specs.declared.fault.ReadFault.{ReadFault};
 ghost use Rattle.pb_solve.specs.Solving.{HoldsLeast};
-ghost use Rattle.pb_solve.specs.Report.{memory_report};
+ghost use Rattle.pb_report.specs.Written.{memory_report};
 ghost use Rattle.pb_read.specs.Format.{text_refusal};
 ghost use Rattle.pb_solve.specs.Run.{Reports, ReportsFound, Answers, AnswersFound, IsPrepared, IsUnfailed, IsUnread, failed_after, stops_at_cubes, stops_at_input, text_left};
 
-use crate::device::Device;
-use crate::options::{Options, Ran, RunFault, Status};
+use pb_report::Device;
+use crate::options::{Options, Ran};
+use pb_report::{RunFault, Status};
 use crate::prepare::reading::NoCubeFile;
 use crate::prepare::{Halt, Prepared, prepare};
-use crate::report::{
+use pb_report::{
     report_attained, report_infeasible, report_memory, report_optimum, report_refusal,
     report_satisfiable, report_unknown,
 };

@@ -8,7 +8,7 @@ ghost use Rattle.pb_solve.specs.Outcome.{FileSpells, IsFileRefused, split_count}
 ghost use Rattle.pb_solve.specs.Division.{AreOfSplit, IsDivided};
 ghost use Rattle.pb_solve.specs.Run.{HaltsDivision, CubesTold, stops_at_input, stops_at_cubes};
 
-use crate::options::Refusal;
+use pb_report::Refusal;
 use crate::prepare::Halt;
 use crate::prepare::reading::{CubeFile, ReadStop};
 use pb_cubes::{CubeFault, MAX_CUBES, MAX_SPLIT, Pieces};
