@@ -16,10 +16,7 @@ use std::io::Write;
 use writer::Report;
 
 /// Reports that something was refused.
-pub fn report_refusal<W: Write>(
-    out: &mut Device<W>,
-    refusal: Refusal,
-) -> Result<Status, RunFault>
+pub fn report_refusal<W: Write>(out: &mut Device<W>, refusal: Refusal) -> Result<Status, RunFault>
     ensures status { IfOk result (λ status. status ≡ Status.Unsupported) }
     ensures written { OnOk result (Appends (W.contents out.old.held) (W.contents out.new.held) (refusal_report refusal)) }
     ensures fault { IfErr result (λ fault. fault ≡ RunFault.Write) }
