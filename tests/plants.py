@@ -10,7 +10,8 @@ the form of a must-fail edit. Nothing is proved: a plant is a bug that no contra
     test CRATE NAME  the tests of that crate whose names contain NAME fail (`rt try --test`)
     work NAME ..     on one of these instances, or of all, a run takes more steps or requests than tests/work.py allows
     requests NAME    on this instance a run makes more requests for memory than tests/work.py allows
-    program SCRIPT   the program, built without proof, fails in tests/SCRIPT.py: examples, budgets, faults, threads or memory
+    program SCRIPT   the program, built without proof, fails in tests/SCRIPT.py: examples, commands, budgets, faults, threads or
+                     memory; a plant in another program than pbcube is tried in that one
 
 With no names all are planted: an hour or more, so this is no part of the gate. The programs want a C compiler. With --check
 nothing is planted: it looks only whether each plant still can be, and whether its guard is there, which the gate asks.
@@ -26,6 +27,7 @@ from pathlib import Path
 
 sys.dont_write_bytecode = True
 import work
+from commands import ROWS as PROGRAMS
 from examples import TOP
 
 PLANTS = TOP / "tests/plants"
@@ -97,7 +99,7 @@ class Copy:
     def __init__(self, folder):
         self.top = folder / TOP.name
         self.kit = folder / "kit"
-        self.kept = folder / "program"
+        self.kept = folder / "built/program"
         shutil.copytree(TOP, self.top, symlinks=True, ignore=shutil.ignore_patterns(".git", "out"))
 
     def run(self, words, folder="."):
@@ -111,6 +113,8 @@ class Copy:
         try:
             write(after)
             guard, *words = plant.guard.split()
+            if guard == "program":
+                return self.by_program(*words, plant.crate if plant.crate in PROGRAMS else "pbcube")
             return getattr(self, f"by_{guard}")(*words)
         finally:
             write(before)
@@ -131,25 +135,26 @@ class Copy:
         today = work.TODAY[name].requests
         return f"{name}: {requests} requests, where {today} were enough" if requests > today + work.SPARE else None
 
-    def by_program(self, script):
-        status, said = self.run([f"tests/{script}.py", self.unproved_program()])
+    def by_program(self, script, name):
+        status, said = self.run([f"tests/{script}.py", self.unproved_program(name)])
         return said.splitlines()[0] if status else None
 
-    def unproved_program(self):
-        """The program as `rt try` compiles it, without proof, but optimized and with nothing watched."""
+    def unproved_program(self, name):
+        """The program of this name as `rt try` compiles it, without proof, but optimized and with nothing watched."""
         if not self.kit.exists():
             self.make_kit()
         self.kept.unlink(missing_ok=True)
         words = ["try", "--steps", "1", "--data", "tie.opb=../../examples/tie.opb", "--", "tie.opb"]
-        _, said = self.run([self.kit / "bin/rt", *words], "crates/pbcube")
+        _, said = self.run([self.kit / "bin/rt", *words], f"crates/{name}")
         if not self.kept.exists():
-            sys.exit(f"plants: the program was not compiled:\n{said}")
-        return self.kept
+            sys.exit(f"plants: {name} was not compiled:\n{said}")
+        return self.kept.rename(self.kept.with_name(name))
 
     def make_kit(self):
         """Makes a folder that stands for the kit, but for its C compiler and for AddressSanitizer's library."""
         kit = Path(shutil.which("rt")).resolve().parent.parent
         own = ("bin", "c", "toolchain", "toolchain/bin")
+        self.kept.parent.mkdir()
         for part in own:
             (self.kit / part).mkdir(parents=True)
         for it in (it for part in (".", *own) for it in (kit / part).iterdir()):

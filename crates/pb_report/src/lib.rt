@@ -14,6 +14,3 @@ mod words;
 pub use claims::{Claim, Witness};
 pub use faults::{ReportFault, ReportKind};
 pub use reading::read_report;
-
-#[cfg(test)]
-mod tests;

@@ -1,5 +1,6 @@
 //! Hints on the texts that people give.
-use crate::hint_on;
+
+use pb_hint::hint_on;
 use pb_read::{Format, read};
 use std::alloc::Global;
 use std::test::Fail;
@@ -121,7 +122,7 @@ fn said(alloc: Global, case: &Case) -> Result<String, Fail> {
 fn cases(rt: HostRuntime) -> Result<(), Fail> {
     for case in CASES {
         let text = said(rt.alloc(), case)?;
-        assert_eq!(rt; text.as_str(), case.says);
+        assert!(rt; text.as_str() == case.says, "{text}");
     }
     Ok(())
 }

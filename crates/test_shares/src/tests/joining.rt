@@ -1,9 +1,8 @@
 //! Worked reports of pieces: what they make together, and which are rejected.
 
-use crate::{JoinFault, Joined, PieceReport, PieceState, Rejection, join};
-use pb_inst::Instance;
-use pb_read::{Format, ReadFault, read};
-use pb_report::{ReportFault, ReportKind, read_report};
+use pb_join::{JoinFault, Joined, PieceReport, PieceState, Rejection, join};
+use pb_read::{Format, read};
+use pb_report::read_report;
 use pb_solve::{Device, Status};
 use std::alloc::Global;
 use std::test::Fail;
@@ -101,116 +100,121 @@ const CASES: &[Case] = &[
     },
 ];
 
-const REJECTED: &[(&[(u32, &[u8])], usize, Rejection)] = &[
+/// An instance, reports of three pieces, and the place of the one that is rejected.
+type Rejected = (
+    &'static [u8],
+    &'static [(u32, &'static [u8])],
+    usize,
+    Rejection,
+);
+
+const REJECTED: &[Rejected] = &[
     (
+        TIE,
         &[(0, FIRST), (1, SECOND), (0, FIRST)],
         2,
         Rejection::Doubled,
     ),
-    (&[(3, FIRST)], 0, Rejection::NoSuchPiece),
+    (TIE, &[(3, FIRST)], 0, Rejection::NoSuchPiece),
     (
+        TIE,
         &[(0, b"s OPTIMUM FOUND\nv -x1 -x2 x3\n")],
         0,
         Rejection::Infeasible,
     ),
     (
+        TIE,
         &[(2, THIRD), (0, b"o 2\ns OPTIMUM FOUND\nv x1 -x2 x3\n")],
         1,
         Rejection::WrongCost,
     ),
+    // the report is of another instance
+    (
+        b"1 x1 1 x2 >= 1 ;\n",
+        &[(0, SECOND)],
+        0,
+        Rejection::OtherVariables,
+    ),
 ];
 
-fn reports_of(
-    alloc: Global,
-    vars: u32,
-    texts: &[(u32, &[u8])],
-) -> Result<Vec<PieceReport>, ReportFault> {
+/// What a join answers, and the bytes that it writes.
+#[derive(Drop)]
+struct Outcome {
+    answer: Result<Joined, JoinFault>,
+    written: Vec<u8>,
+}
+
+/// Joins reports of three pieces of an instance.
+fn join_texts(alloc: Global, text: &[u8], texts: &[(u32, &[u8])]) -> Result<Outcome, Fail> {
     let mut reports = Vec::new(alloc);
+    add_reports(alloc, texts, &mut reports)?;
+    join_reports(alloc, text, &reports)
+}
+
+fn add_reports(
+    alloc: Global,
+    texts: &[(u32, &[u8])],
+    reports: &mut Vec<PieceReport>,
+) -> Result<(), Fail> {
     for (number, text) in texts {
-        let claim = read_report(alloc, Format::Opb, vars, *text)?;
-        let report = PieceReport {
+        let claim = read_report(alloc, Format::Opb, 3, *text)?;
+        reports.push(PieceReport {
             number: *number,
             claim,
-        };
-        if reports.push(report).is_err() {
-            return Err(ReportFault {
-                kind: ReportKind::Memory,
-                line: 0,
-            });
-        }
+        })?;
     }
-    Ok(reports)
+    Ok(())
 }
 
-fn instance_of(alloc: Global, text: &[u8]) -> Result<Instance, ReadFault> {
-    let (instance, cubes) = read(alloc, Format::Opb, text)?;
-    drop(cubes);
-    Ok(instance)
+fn join_reports(alloc: Global, text: &[u8], reports: &[PieceReport]) -> Result<Outcome, Fail> {
+    let (instance, _) = read(alloc, Format::Opb, text)?;
+    let mut written = Vec::new(alloc);
+    let answer = join(
+        alloc,
+        Format::Opb,
+        &instance,
+        3,
+        reports,
+        &mut Device::new(&mut written),
+    );
+    Ok(Outcome { answer, written })
 }
 
-/// Joins reports of three pieces, and keeps the bytes that are written.
-fn join_into(
-    alloc: Global,
-    instance: &Instance,
-    reports: &[PieceReport],
-    bytes: &mut Vec<u8>,
-) -> Result<Joined, JoinFault> {
-    let mut out = Device::new(bytes);
-    join(alloc, Format::Opb, instance, 3, reports, &mut out)
+fn is_of_case(outcome: &Outcome, case: &Case) -> bool {
+    let Ok(joined) = &outcome.answer else {
+        return false;
+    };
+    joined.status == case.status
+        && joined.whole == case.whole
+        && joined.states.as_slice() == case.states.as_slice()
+        && outcome.written.as_slice() == case.out
 }
 
 #[test]
 fn joined(rt: HostRuntime) -> Result<(), Fail> {
-    let alloc = rt.alloc();
     for case in CASES {
-        let instance = instance_of(alloc, case.instance)?;
-        let reports = reports_of(alloc, 3, case.reports)?;
-        let mut bytes = Vec::new(alloc);
-        let joined = join_into(alloc, &instance, &reports, &mut bytes)?;
-        assert_eq!(rt; joined.status, case.status);
-        assert_eq!(rt; joined.whole, case.whole);
-        assert!(rt; joined.states.as_slice() == case.states.as_slice());
-        assert!(rt; bytes.as_slice() == case.out);
+        let outcome = join_texts(rt.alloc(), case.instance, case.reports)?;
+        assert!(rt; is_of_case(&outcome, case), "{:?}", case.out);
     }
     Ok(())
+}
+
+fn is_rejected(outcome: &Outcome, fault: JoinFault) -> bool {
+    match &outcome.answer {
+        Ok(_) => false,
+        Err(found) => *found == fault && outcome.written.is_empty(),
+    }
 }
 
 #[test]
 fn rejected(rt: HostRuntime) -> Result<(), Fail> {
-    let alloc = rt.alloc();
-    let instance = instance_of(alloc, TIE)?;
-    for (texts, place, why) in REJECTED {
-        let reports = reports_of(alloc, 3, *texts)?;
-        let mut bytes = Vec::new(alloc);
-        match join_into(alloc, &instance, &reports, &mut bytes) {
-            Ok(_) => panic!(rt; "a report was accepted"),
-            Err(fault) => {
-                assert_eq!(rt;
-                    fault,
-                    JoinFault::Report {
-                        place: *place,
-                        why: *why
-                    }
-                );
-            }
-        }
-        assert!(rt; bytes.is_empty());
-    }
-    Ok(())
-}
-
-#[test]
-fn of_another_instance(rt: HostRuntime) -> Result<(), Fail> {
-    let alloc = rt.alloc();
-    let instance = instance_of(alloc, b"1 x1 1 x2 >= 1 ;\n")?;
-    let reports = reports_of(alloc, 3, &[(0, SECOND)])?;
-    let mut bytes = Vec::new(alloc);
-    match join_into(alloc, &instance, &reports, &mut bytes) {
-        Ok(_) => panic!(rt; "a report was accepted"),
-        Err(fault) => {
-            let why = Rejection::OtherVariables;
-            assert_eq!(rt; fault, JoinFault::Report { place: 0, why });
-        }
+    for (text, reports, place, why) in REJECTED {
+        let outcome = join_texts(rt.alloc(), *text, *reports)?;
+        let fault = JoinFault::Report {
+            place: *place,
+            why: *why,
+        };
+        assert!(rt; is_rejected(&outcome, fault), "{why:?}");
     }
     Ok(())
 }

@@ -1,8 +1,8 @@
 //! Worked reports: what is read of them, and which fault others have.
 
-use crate::{Claim, ReportFault, ReportKind, Witness, read_report};
 use pb_inst::{Assignment, Number};
 use pb_read::Format;
+use pb_report::{Claim, ReportFault, ReportKind, Witness, read_report};
 use std::alloc::Global;
 use std::test::Fail;
 
@@ -176,21 +176,30 @@ fn has_values(values: &Assignment, expected: &[bool; 3]) -> bool {
     values.len() == 3
 }
 
+fn is_as_told(claim: &Claim, told: &Told) -> bool {
+    let Some(Witness { cost, values }) = claim.witness() else {
+        return false;
+    };
+    *cost == told.cost
+        && has_values(values, &told.values)
+        && matches!(claim, Claim::Optimum(_)) == told.is_optimum
+        && claim.is_final(true) == told.is_optimum
+        && claim.is_final(false)
+}
+
 #[test]
 fn claims(rt: HostRuntime) -> Result<(), Fail> {
     for told in TOLD {
         let claim = read_again(rt.alloc(), told.format, told.text)?;
-        let is_optimum = matches!(&claim, Claim::Optimum(_));
-        assert_eq!(rt; is_optimum, told.is_optimum);
-        assert_eq!(rt; claim.is_final(true), told.is_optimum);
-        assert!(rt; claim.is_final(false));
-        let Some(Witness { cost, values }) = claim.witness() else {
-            panic!(rt; "a report has no assignment");
-        };
-        assert_eq!(rt; *cost, told.cost);
-        assert!(rt; has_values(values, &told.values));
+        assert!(rt; is_as_told(&claim, told), "{:?}", told.text);
     }
     Ok(())
+}
+
+fn is_without_assignment(claim: &Claim, is_final: bool) -> bool {
+    claim.witness().is_none()
+        && claim.is_final(true) == is_final
+        && claim.is_final(false) == is_final
 }
 
 #[test]
@@ -201,25 +210,26 @@ fn without_an_assignment(rt: HostRuntime) -> Result<(), Fail> {
         (b"c refused: Memory\ns UNSUPPORTED\n".as_slice(), false),
     ] {
         let claim = read_again(rt.alloc(), Format::Opb, text)?;
-        assert!(rt; claim.witness().is_none());
-        assert_eq!(rt; claim.is_final(true), is_final);
-        assert_eq!(rt; claim.is_final(false), is_final);
+        assert!(rt; is_without_assignment(&claim, is_final), "{text:?}");
     }
     Ok(())
+}
+
+/// The fault of a report, and none where it is accepted.
+fn fault_of(alloc: Global, format: Format, text: &[u8]) -> Option<ReportFault> {
+    read_again(alloc, format, text).err()
 }
 
 #[test]
 fn refusals(rt: HostRuntime) {
     for (format, text, kind, line) in REFUSED {
-        match read_again(rt.alloc(), *format, *text) {
-            Ok(_) => panic!(rt; "a faulty report was accepted"),
-            Err(fault) => assert_eq!(rt;
-                fault,
-                ReportFault {
-                    kind: *kind,
-                    line: *line
-                }
-            ),
-        }
+        let expected = ReportFault {
+            kind: *kind,
+            line: *line,
+        };
+        assert!(rt;
+            fault_of(rt.alloc(), *format, *text) == Some(expected),
+            "{text:?}"
+        );
     }
 }

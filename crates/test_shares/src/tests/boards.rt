@@ -2,7 +2,7 @@
 
 ghost use Rattle.std.specs.Prelude.{◌≡◌, ◌+◌, ◌<◌, ◌≤◌, [], length, vec_len, IfOk};
 
-use super::*;
+use pb_board::{Board, Seat, Totals};
 use pb_inst::{Assignment, Workers};
 use std::alloc::{AllocError, Global};
 use std::test::*;
@@ -24,15 +24,8 @@ fn two_seats_claim_and_offer(rt: HostRuntime) -> Result<(), Fail> {
     let least = board.least(&mut a);
     let whole = board.join(a, b);
     let totals = board.close(whole);
-    assert_eq!(rt; claims, [0, 1, 2]);
-    assert_eq!(rt; least, 7);
-    assert_eq!(rt;
-        totals,
-        Totals {
-            claims: 3,
-            least: 7
-        }
-    );
+    assert!(rt; claims == [0, 1, 2] && least == 7);
+    assert!(rt; totals.claims == 3 && totals.least == 7);
     Ok(())
 }
 
@@ -41,6 +34,7 @@ fn two_seats_claim_and_offer(rt: HostRuntime) -> Result<(), Fail> {
 fn each_seat_sees_the_least_offer(rt: HostRuntime) -> Result<(), Fail> {
     let (board, whole) = Board::new(rt.alloc(), Workers::new(2)?, 3)?;
     let (mut a, mut b) = board.split(whole, 1);
+    let none = board.least(&mut a);
     board.offer(&mut a, 9);
     let first = board.least(&mut a);
     board.offer(&mut b, 7);
@@ -49,55 +43,33 @@ fn each_seat_sees_the_least_offer(rt: HostRuntime) -> Result<(), Fail> {
     let third = board.least(&mut a);
     let whole = board.join(a, b);
     let totals = board.close(whole);
-    assert_eq!(rt; [first, second, third], [9, 7, 7]);
-    assert_eq!(rt;
-        totals,
-        Totals {
-            claims: 0,
-            least: 7
-        }
-    );
+    assert!(rt; [none, first, second, third] == [u64::MAX, 9, 7, 7]);
+    assert!(rt; totals.claims == 0 && totals.least == 7);
     Ok(())
 }
 
 #[test]
 fn a_new_board_has_no_offer(rt: HostRuntime) -> Result<(), Fail> {
-    let (board, mut seat) = Board::new(rt.alloc(), Workers::new(2)?, 3)?;
-    let least = board.least(&mut seat);
-    let totals = board.close(seat);
-    assert_eq!(rt; least, u64::MAX);
-    assert_eq!(rt;
-        totals,
-        Totals {
-            claims: 0,
-            least: u64::MAX
-        }
-    );
+    let (board, whole) = Board::new(rt.alloc(), Workers::new(2)?, 3)?;
+    let totals = board.close(whole);
+    assert!(rt; totals.claims == 0 && totals.least == u64::MAX);
     Ok(())
 }
 
 // Without another thread a row reads back as it was written, and the other rows stay as they were.
 #[test]
 fn row_reads_back(rt: HostRuntime) -> Result<(), Fail> {
-    let (board, mut seat) = Board::new(rt.alloc(), Workers::new(2)?, 70)?;
     let mut bits = Assignment::new(rt.alloc(), 70)?;
     bits.set_word(0, 5);
     bits.set_word(1, 33);
-    board.write_row(&mut seat, 1, &bits);
     let mut back = Assignment::new(rt.alloc(), 70)?;
     let mut other = Assignment::new(rt.alloc(), 70)?;
+    let (board, mut seat) = Board::new(rt.alloc(), Workers::new(2)?, 70)?;
+    board.write_row(&mut seat, 1, &bits);
     board.read_row(&mut seat, 1, &mut back);
     board.read_row(&mut seat, 0, &mut other);
-    let totals = board.close(seat);
-    assert_eq!(rt; [back.word(0), back.word(1)], [5, 33]);
-    assert_eq!(rt; [other.word(0), other.word(1)], [0, 0]);
-    assert_eq!(rt;
-        totals,
-        Totals {
-            claims: 0,
-            least: u64::MAX
-        }
-    );
+    assert!(rt; [back.word(0), back.word(1)] == [5, 33]);
+    assert!(rt; [other.word(0), other.word(1)] == [0, 0]);
     Ok(())
 }
 
@@ -153,13 +125,7 @@ fn claim_apart<R: Threads + Sync>(
 fn claims_each_once(rt: HostRuntime) -> Result<(), Fail> {
     let (totals, mut numbers) = claim_apart(&rt, rt.alloc(), 1000)?;
     numbers.sort()?;
-    assert_eq!(rt;
-        totals,
-        Totals {
-            claims: 2000,
-            least: u64::MAX
-        }
-    );
+    assert!(rt; totals.claims == 2000 && totals.least == u64::MAX);
     assert!(rt; numbers.iter().copied().eq(0..2000));
     Ok(())
 }
