@@ -24,6 +24,3 @@ pub use writing::{
     report_attained, report_infeasible, report_memory, report_optimum, report_refusal,
     report_satisfiable, report_unknown,
 };
-
-#[cfg(test)]
-mod tests;
