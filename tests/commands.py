@@ -187,6 +187,9 @@ PBCUBE = [
 ]
 
 
+TIE_WITH_CUBE = FILES["tie.opb"].replace("#constraint= 2", "#constraint= 3") + "1 x2 >= 1 ;\n"
+
+
 def index_of_own_cubes():
     digest = hashlib.sha256(OWN_CUBES.encode()).hexdigest()
     names = "".join(f"{number:02}.cnf\n" for number in range(11))
@@ -194,11 +197,11 @@ def index_of_own_cubes():
 
 
 PIECES = [
-    Row("--out one/new tie.opb", files={"one/new/0.opb": FILES["tie.opb"] + ">= 0 ;\n"}),
+    Row("--out one/new tie.opb", files={"one/new/0.opb": FILES["tie.opb"]}),
     Row("--split 3 --cubes good.cubes --out nine tie.opb"),
     Row("--format icnf --out two own_cube.icnf"),
     Row("--format icnf --cubes nine.cubes --out eleven own_cubes.icnf", files={"eleven/index": index_of_own_cubes()}),
-    Row("--cubes hundred.cubes --out some/hundred tie.opb"),
+    Row("--cubes hundred.cubes --out hundred tie.opb", files={"hundred/007.opb": TIE_WITH_CUBE}),
     Row("--out pieces none.opb", err="pbcube_pieces: cannot read none.opb\n", status=1),
     Row("--out pieces product.opb", err="pbcube_pieces: product.opb: NonLinear at line 1\n", status=1),
     Row(

@@ -21,6 +21,8 @@ fn goes_from_member_to_member(rt: HostRuntime) -> Result<(), Fail> {
         from = row.wrapping_add(1);
     }
     assert!(rt; set.next(from).is_none());
+    set.put(270_000, false);
+    assert!(rt; set.next(5_001) == Some(270_001));
     Ok(())
 }
 
