@@ -1,6 +1,6 @@
 //! When all rows are stepped: at the first node, and once the search has gone on for some nodes.
 
-ghost use Rattle.std.specs.Prelude.{◌≡◌, ◌⊎◌, [], length};
+ghost use Rattle.std.specs.Prelude.{◌≡◌, ◌⊎◌, []};
 ghost use Rattle.pb_lagrange.specs.Relaxation.{IsSameButShifted};
 
 use super::steps::Steps;

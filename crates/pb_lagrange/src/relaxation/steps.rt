@@ -1,6 +1,6 @@
 //! How far the multiplier of one row is shifted: to where the bound is greatest beside the other multipliers as they are.
 
-ghost use Rattle.std.specs.Prelude.{◌<◌, ◌≤◌, length};
+ghost use Rattle.std.specs.Prelude.{◌<◌, length};
 ghost use Rattle.pb_lagrange.specs.Relaxation.{IsSameButShifted};
 
 use pb_count::{Count, Tally};

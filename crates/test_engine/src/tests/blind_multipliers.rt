@@ -1,7 +1,5 @@
 //! Bounds by multipliers that are drawn blindly, against a listing of all assignments.
 
-ghost use Rattle.std.specs.Prelude.{◌≡◌};
-
 use pb_count::Count;
 use pb_dual::{Multipliers, Signed};
 use pb_inst::{Instance, InstanceBuilder, Lit, Magnitude, Number, Relation, Term};
@@ -63,7 +61,7 @@ impl Draws {
 }
 
 /// How great the numbers of a drawn instance are: multiples of a unit, up to so many of them.
-#[derive(Clone, Copy, Debug)]
+#[derive(Clone, Copy)]
 struct Size {
     limit: u64,
     unit: Number,
