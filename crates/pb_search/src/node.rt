@@ -148,5 +148,3 @@ pub fn search_subtree<C: Count, S: Share>(
     Outcome::Whole
 }
 
-#[cfg(test)]
-mod tests;
