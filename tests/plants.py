@@ -30,18 +30,6 @@ import work
 from examples import TOP
 
 PLANTS = TOP / "tests/plants"
-# In place of the kit's C compiler for programs that are tried: nothing is watched, and the code is as fast as a built program's.
-COMPILER = """#!/usr/bin/env bash
-words=()
-for word in "$@"; do
-    case $word in
-        -fsanitize=address) ;;
-        -O0 | -O1) words+=(-O2) ;;
-        *) words+=("$word") ;;
-    esac
-done
-exec -a "$0" '{clang}' "${{words[@]}}"
-"""
 
 
 @dataclass(frozen=True)
@@ -80,7 +68,6 @@ class Copy:
 
     def __init__(self, folder):
         self.top = folder / TOP.name
-        self.kit = folder / "kit"
         self.kept = folder / "program"
         shutil.copytree(TOP, self.top, symlinks=True, ignore=shutil.ignore_patterns(".git"))
 
@@ -132,36 +119,12 @@ class Copy:
         return said.splitlines()[0] if status else None
 
     def unproved_program(self):
-        """The program as `rt try` compiles it, without proof, but optimized and with nothing watched."""
-        if not self.kit.exists():
-            self.make_kit()
+        """The program, compiled without proof."""
         self.kept.unlink(missing_ok=True)
-        words = ["try", "--steps", "1", "--data", "tie.opb=../../examples/tie.opb", "--", "tie.opb"]
-        _, said = self.run([self.kit / "bin/rt", *words], "crates/pbcube")
-        if not self.kept.exists():
+        status, said = self.run(["build/unproved", "pbcube", self.kept])
+        if status:
             sys.exit(f"plants: the program was not compiled:\n{said}")
         return self.kept
-
-    def make_kit(self):
-        """Makes a folder that stands for the kit, but for its C compiler and for AddressSanitizer's library."""
-        kit = Path(shutil.which("rt")).resolve().parent.parent
-        own = ("bin", "c", "toolchain", "toolchain/bin")
-        for part in own:
-            (self.kit / part).mkdir(parents=True)
-        for it in (it for part in (".", *own) for it in (kit / part).iterdir()):
-            to = self.kit / it.relative_to(kit)
-            if it.name in ("rt", "rtlib.py"):  # the kit is where their own files are
-                shutil.copy(it, to)
-            elif not to.exists():
-                to.symlink_to(it)
-        clang, library = self.kit / "toolchain/bin/clang", self.kit / "c/asan.a"
-        clang.unlink()
-        clang.write_text(COMPILER.format(clang=kit / "toolchain/bin/clang"))
-        clang.chmod(0o755)
-        library.unlink()
-        words = [os.environ.get("CC", "cc"), "-O1", "-fPIC", f'-DKEPT="{self.kept}"', "-c", TOP / "tests/kept.c"]
-        subprocess.run([*words, "-o", self.kit / "kept.o"], check=True)
-        subprocess.run(["ar", "rcs", library, self.kit / "kept.o"], check=True)
 
     def refusals(self, crate, plants):
         """What the prover says against plants of one crate, by name; nothing of those that it lets pass."""
