@@ -31,18 +31,6 @@ from commands import ROWS as PROGRAMS
 from examples import TOP
 
 PLANTS = TOP / "tests/plants"
-# In place of the kit's C compiler for programs that are tried: nothing is watched, and the code is as fast as a built program's.
-COMPILER = """#!/usr/bin/env bash
-words=()
-for word in "$@"; do
-    case $word in
-        -fsanitize=address) ;;
-        -O0 | -O1) words+=(-O2) ;;
-        *) words+=("$word") ;;
-    esac
-done
-exec -a "$0" '{clang}' "${{words[@]}}"
-"""
 
 
 @dataclass(frozen=True)
@@ -98,9 +86,14 @@ class Copy:
 
     def __init__(self, folder):
         self.top = folder / TOP.name
+<<<<<<< HEAD
         self.kit = folder / "kit"
         self.kept = folder / "built/program"
         shutil.copytree(TOP, self.top, symlinks=True, ignore=shutil.ignore_patterns(".git", "out"))
+=======
+        self.kept = folder / "program"
+        shutil.copytree(TOP, self.top, symlinks=True, ignore=shutil.ignore_patterns(".git"))
+>>>>>>> 3dd84222e98a564723a8071206a1e8e0e1961b6d
 
     def run(self, words, folder="."):
         """The exit status, and all that was said."""
@@ -139,6 +132,7 @@ class Copy:
         status, said = self.run([f"tests/{script}.py", self.unproved_program(name)])
         return said.splitlines()[0] if status else None
 
+<<<<<<< HEAD
     def unproved_program(self, name):
         """The program of this name as `rt try` compiles it, without proof, but optimized and with nothing watched."""
         if not self.kit.exists():
@@ -187,6 +181,29 @@ def why_not_planted(plant):
     if guard in ("work", "requests"):
         return None if set(words) <= set(work.TODAY) else "there is no such instance"
     return None if guard == "program" and (TOP / f"tests/{words[0]}.py").exists() else f"there is no guard {plant.guard}"
+=======
+    def unproved_program(self):
+        """The program, compiled without proof."""
+        self.kept.unlink(missing_ok=True)
+        status, said = self.run(["build/unproved", "pbcube", self.kept])
+        if status:
+            sys.exit(f"plants: the program was not compiled:\n{said}")
+        return self.kept
+
+    def refusals(self, crate, plants):
+        """What the prover says against plants of one crate, by name; nothing of those that it lets pass."""
+        edits = self.top / "crates" / crate / "must-fail"
+        shutil.rmtree(edits, ignore_errors=True)
+        edits.mkdir()
+        for plant in plants:
+            shutil.copy(plant.path, edits / f"{plant.name}.edit")
+        _, said = self.run(["rt", "must-fail", crate])
+        lines = re.findall(r"(\w+)\.edit: (refused, as it must be.*)$", said, re.M)
+        for line in said.splitlines():
+            if "BAD EDIT" in line or "NOT TRIED" in line:
+                print(f"plants: {line}")
+        return dict(lines)
+>>>>>>> 3dd84222e98a564723a8071206a1e8e0e1961b6d
 
 
 def check(plants):
