@@ -86,14 +86,9 @@ class Copy:
 
     def __init__(self, folder):
         self.top = folder / TOP.name
-<<<<<<< HEAD
-        self.kit = folder / "kit"
-        self.kept = folder / "built/program"
+        self.built = folder / "built"
+        self.built.mkdir()
         shutil.copytree(TOP, self.top, symlinks=True, ignore=shutil.ignore_patterns(".git", "out"))
-=======
-        self.kept = folder / "program"
-        shutil.copytree(TOP, self.top, symlinks=True, ignore=shutil.ignore_patterns(".git"))
->>>>>>> 3dd84222e98a564723a8071206a1e8e0e1961b6d
 
     def run(self, words, folder="."):
         """The exit status, and all that was said."""
@@ -132,39 +127,14 @@ class Copy:
         status, said = self.run([f"tests/{script}.py", self.unproved_program(name)])
         return said.splitlines()[0] if status else None
 
-<<<<<<< HEAD
     def unproved_program(self, name):
-        """The program of this name as `rt try` compiles it, without proof, but optimized and with nothing watched."""
-        if not self.kit.exists():
-            self.make_kit()
-        self.kept.unlink(missing_ok=True)
-        words = ["try", "--steps", "1", "--data", "tie.opb=../../examples/tie.opb", "--", "tie.opb"]
-        _, said = self.run([self.kit / "bin/rt", *words], f"crates/{name}")
-        if not self.kept.exists():
+        """The program of this name, compiled without proof."""
+        program = self.built / name
+        program.unlink(missing_ok=True)
+        status, said = self.run(["build/unproved", name, program])
+        if status:
             sys.exit(f"plants: {name} was not compiled:\n{said}")
-        return self.kept.rename(self.kept.with_name(name))
-
-    def make_kit(self):
-        """Makes a folder that stands for the kit, but for its C compiler and for AddressSanitizer's library."""
-        kit = Path(shutil.which("rt")).resolve().parent.parent
-        own = ("bin", "c", "toolchain", "toolchain/bin")
-        self.kept.parent.mkdir()
-        for part in own:
-            (self.kit / part).mkdir(parents=True)
-        for it in (it for part in (".", *own) for it in (kit / part).iterdir()):
-            to = self.kit / it.relative_to(kit)
-            if it.name in ("rt", "rtlib.py"):  # the kit is where their own files are
-                shutil.copy(it, to)
-            elif not to.exists():
-                to.symlink_to(it)
-        clang, library = self.kit / "toolchain/bin/clang", self.kit / "c/asan.a"
-        clang.unlink()
-        clang.write_text(COMPILER.format(clang=kit / "toolchain/bin/clang"))
-        clang.chmod(0o755)
-        library.unlink()
-        words = [os.environ.get("CC", "cc"), "-O1", "-fPIC", f'-DKEPT="{self.kept}"', "-c", TOP / "tests/kept.c"]
-        subprocess.run([*words, "-o", self.kit / "kept.o"], check=True)
-        subprocess.run(["ar", "rcs", library, self.kit / "kept.o"], check=True)
+        return program
 
 
 def why_not_planted(plant):
@@ -181,29 +151,6 @@ def why_not_planted(plant):
     if guard in ("work", "requests"):
         return None if set(words) <= set(work.TODAY) else "there is no such instance"
     return None if guard == "program" and (TOP / f"tests/{words[0]}.py").exists() else f"there is no guard {plant.guard}"
-=======
-    def unproved_program(self):
-        """The program, compiled without proof."""
-        self.kept.unlink(missing_ok=True)
-        status, said = self.run(["build/unproved", "pbcube", self.kept])
-        if status:
-            sys.exit(f"plants: the program was not compiled:\n{said}")
-        return self.kept
-
-    def refusals(self, crate, plants):
-        """What the prover says against plants of one crate, by name; nothing of those that it lets pass."""
-        edits = self.top / "crates" / crate / "must-fail"
-        shutil.rmtree(edits, ignore_errors=True)
-        edits.mkdir()
-        for plant in plants:
-            shutil.copy(plant.path, edits / f"{plant.name}.edit")
-        _, said = self.run(["rt", "must-fail", crate])
-        lines = re.findall(r"(\w+)\.edit: (refused, as it must be.*)$", said, re.M)
-        for line in said.splitlines():
-            if "BAD EDIT" in line or "NOT TRIED" in line:
-                print(f"plants: {line}")
-        return dict(lines)
->>>>>>> 3dd84222e98a564723a8071206a1e8e0e1961b6d
 
 
 def check(plants):

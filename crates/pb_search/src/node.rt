@@ -147,7 +147,3 @@ pub fn search_subtree<C: Count, S: Share>(
     }
     Outcome::Whole
 }
-<<<<<<< HEAD
-
-=======
->>>>>>> 10c03275b8ae161e5d086c840092ae760c104103
