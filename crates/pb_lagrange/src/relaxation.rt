@@ -7,7 +7,7 @@ mod passes;
 mod schedule;
 mod steps;
 
-ghost use Rattle.std.specs.Prelude.{◌≡◌, ◌⊎◌, ◌+◌, ◌<◌, ◌≤◌, ◌≤ℤ◌, [], true, IfOk, IfSome, length, take};
+ghost use Rattle.std.specs.Prelude.{◌≡◌, ◌⊎◌, ◌+◌, ◌^◌, ◌<◌, ◌≤◌, ◌≤ℤ◌, [], true, IfOk, IfSome, length, take};
 ghost use Rattle.pb_dual.specs.Multipliers.{IsBelowCosts, IsFixed};
 ghost use Rattle.pb_lagrange.specs.Relaxation.{IsBeside, IsSameButShifted};
 
@@ -254,14 +254,25 @@ impl<'a, C: Count> Relaxation<'a, C> {
         ensures { IsSameButShifted self.old self.new }
     {
         let mut from = self.schedule.take_start();
-        while let Some(row) = self.schedule.take(from) {
-            let amount = self.steps.step(&mut self.multipliers, row);
-            self.schedule.spread(&self.multipliers, tables, row, amount);
+        while let Some(row) = self.step_next(tables, from) {
             from = row + 1;
             if self.schedule.ends_before(from) {
                 return;
             }
         }
+    }
+
+    /// Steps the next touched row from this one on, and touches the rows that may be improved after it. Gives the row, or none
+    /// where no row is touched.
+    fn step_next(&mut self, tables: &Tables<'_, '_, C>, from: usize) -> Option<usize>
+        requires { tables.now.form ≡ self.old.form }
+        ensures row { IfSome result (λ row. (from ≤ row) × (row < length self.old.form.rows) × (row + 1 < 2 ^ 64)) }
+        ensures same { IsSameButShifted self.old self.new }
+    {
+        let row = self.schedule.take(from)?;
+        let amount = self.steps.step(&mut self.multipliers, row);
+        self.schedule.spread(&self.multipliers, tables, row, amount);
+        Some(row)
     }
 
     /// An assumption is made: what is shifted from now on goes with it.
