@@ -9,16 +9,14 @@ refused; each open, read and write fails; each read and write moves one byte. A 
 exactly the report of want of memory, or with status 1 and its line on standard error. Without a C compiler nothing is run.
 """
 import os
-import shutil
 import subprocess
 import sys
 import tempfile
-from concurrent.futures import ThreadPoolExecutor
 from dataclasses import dataclass
 from pathlib import Path
 
 sys.dont_write_bytecode = True
-from examples import TOP, built
+from lib import built, preloaded, side_by_side
 
 SECONDS = 60  # after which a run is taken to hang
 QUIET_RUNS = 3  # how many runs without a fault end the count, since the order of events is another in each run
@@ -204,40 +202,27 @@ def count_on(bench, case, fault):
     return came, changed, [*bad, f"{name}: the calls do not end"]
 
 
-def build_library(folder, name):
-    """The library of tests/NAME.c, or nothing where there is no C compiler with the headers of the C library."""
-    compiler = shutil.which(os.environ.get("CC", "cc"))
-    if not compiler:
-        return None
-    probe = subprocess.run([compiler, "-E", "-"], input=b"#include <dlfcn.h>\n", capture_output=True)
-    if probe.returncode:
-        return None
-    library = str(folder / f"{name}.so")
-    subprocess.run([compiler, "-O1", "-shared", "-fPIC", "-o", library, str(TOP / f"tests/{name}.c"), "-ldl"], check=True)
-    return library
-
-
 def judge(bench):
     """Tells of each fault how the runs with it ended. How many of them ended well, and how many badly."""
     cases = list(bench.cases())
+    counts = side_by_side(lambda run: count_on(bench, *run), [(case, fault) for fault in FAULTS for case in cases])
     passed = failed = 0
-    with ThreadPoolExecutor() as pool:
-        for fault in FAULTS:
-            counts = list(pool.map(lambda case: count_on(bench, case, fault), cases))
-            came, changed = sum(it[0] for it in counts), sum(it[1] for it in counts)
-            bad = [line for it in counts for line in it[2]]
-            if not came:
-                bad.append(f"faults: {fault.kind} {fault.how}: no run made such a call")
-            name = f"faults: {bench.program.name}: {fault.kind} {fault.how}"
-            print(*bad, f"{name}: came in {came} runs, and changed the end of {changed}", sep="\n", flush=True)
-            passed, failed = passed + came - len(bad), failed + len(bad)
+    for number, fault in enumerate(FAULTS):
+        of_fault = counts[number * len(cases) : (number + 1) * len(cases)]
+        came, changed = sum(it[0] for it in of_fault), sum(it[1] for it in of_fault)
+        bad = [line for it in of_fault for line in it[2]]
+        if not came:
+            bad.append(f"faults: {fault.kind} {fault.how}: no run made such a call")
+        name = f"faults: {bench.program.name}: {fault.kind} {fault.how}"
+        print(*bad, f"{name}: came in {came} runs, and changed the end of {changed}", sep="\n")
+        passed, failed = passed + came - len(bad), failed + len(bad)
     return passed, failed
 
 
 def main(programs):
     with tempfile.TemporaryDirectory(prefix="pbcube-faults-") as room:
         folder = Path(room)
-        library = build_library(folder, "faults")
+        library = preloaded(folder, "faults")
         if not library:
             print("faults: left out, since there is no C compiler (cc) here")
             return 0

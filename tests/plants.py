@@ -26,7 +26,7 @@ from pathlib import Path
 
 sys.dont_write_bytecode = True
 import work
-from examples import TOP
+from lib import TOP
 
 PLANTS = TOP / "tests/plants"
 # In place of the kit's C compiler for programs that are tried: nothing is watched, and the code is as fast as a built program's.
