@@ -12,12 +12,11 @@ import stat
 import subprocess
 import sys
 import tempfile
-from concurrent.futures import ThreadPoolExecutor
 from dataclasses import dataclass, field
 from pathlib import Path
 
 sys.dont_write_bytecode = True
-TOP = Path(__file__).resolve().parent.parent
+from lib import built, side_by_side
 SECONDS = 60
 FULL = "/dev/full"  # takes no byte
 
@@ -279,13 +278,6 @@ JOIN = [
 ROWS = {"pbcube": PBCUBE, "pbcube_pieces": PIECES, "pbcube_join": JOIN}
 
 
-def built():
-    """The programs that the merge gate built: by LLVM, and by Rattle's own compiler where that compiles them."""
-    for name in ROWS:
-        folder = TOP / "crates" / name / "out"
-        yield from [folder / name, *folder.glob(f"{name}.by-rattle")]
-
-
 def name_of(program):
     """Which program it is, by what its file's name ends with before a dot; pbcube where that says nothing."""
     return next((name for name in ROWS if program.name.split(".")[0].endswith(name)), "pbcube")
@@ -337,9 +329,9 @@ def complaints(program, row, room):
 def judge(program):
     """How many rows of the program went well, and how many did not."""
     rows = ROWS[name_of(program)]
-    with tempfile.TemporaryDirectory(prefix="pbcube-commands-") as room, ThreadPoolExecutor() as pool:
+    with tempfile.TemporaryDirectory(prefix="pbcube-commands-") as room:
         make_files(Path(room))
-        answers = list(pool.map(lambda row: complaints(program, row, Path(room)), rows))
+        answers = side_by_side(lambda row: complaints(program, row, Path(room)), rows)
     for row, found in zip(rows, answers):
         if found:
             print(f"commands: {program.name} {row.words}", *found, sep="\n  ")
@@ -348,7 +340,7 @@ def judge(program):
 
 
 def main(programs):
-    counts = [judge(Path(it).resolve()) for it in programs or built()]
+    counts = [judge(Path(it).resolve()) for it in programs or built(ROWS)]
     passed, failed = sum(it[0] for it in counts), sum(it[1] for it in counts)
     print(f"commands: {passed} passed, {failed} failed")
     return 1 if failed else 0

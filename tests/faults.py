@@ -10,17 +10,15 @@ exactly the report of want of memory, or with status 1 and its line on standard 
 end with status 1 and a line where memory is refused, only the requests for memory are tried. Without a C compiler nothing is run.
 """
 import os
-import shutil
 import subprocess
 import sys
 import tempfile
-from concurrent.futures import ThreadPoolExecutor
 from dataclasses import dataclass
 from pathlib import Path
 
 sys.dont_write_bytecode = True
-from commands import built, name_of
-from examples import TOP
+from commands import ROWS, name_of
+from lib import built, preloaded, side_by_side
 
 SECONDS = 60  # after which a run is taken to hang
 QUIET_RUNS = 3  # how many runs without a fault end the count, since the order of events is another in each run
@@ -226,33 +224,21 @@ def count_on(bench, case, fault):
     return came, changed, [*bad, f"{name}: the calls do not end"]
 
 
-def build_library(folder, name):
-    """The library of tests/NAME.c, or nothing where there is no C compiler with the headers of the C library."""
-    compiler = shutil.which(os.environ.get("CC", "cc"))
-    if not compiler:
-        return None
-    probe = subprocess.run([compiler, "-E", "-"], input=b"#include <dlfcn.h>\n", capture_output=True)
-    if probe.returncode:
-        return None
-    library = str(folder / f"{name}.so")
-    subprocess.run([compiler, "-O1", "-shared", "-fPIC", "-o", library, str(TOP / f"tests/{name}.c"), "-ldl"], check=True)
-    return library
-
-
 def judge(bench):
     """Tells of each fault how the runs with it ended. How many of them ended well, and how many badly."""
     cases = list(bench.cases())
+    faults = bench.faults()
+    counts = side_by_side(lambda run: count_on(bench, *run), [(case, fault) for fault in faults for case in cases])
     passed, failed = unreported(bench) if bench.name == "pbcube" else (0, 0)
-    with ThreadPoolExecutor() as pool:
-        for fault in bench.faults():
-            counts = list(pool.map(lambda case: count_on(bench, case, fault), cases))
-            came, changed = sum(it[0] for it in counts), sum(it[1] for it in counts)
-            bad = [line for it in counts for line in it[2]]
-            if not came:
-                bad.append(f"faults: {fault.kind} {fault.how}: no run made such a call")
-            name = f"faults: {bench.program.name}: {fault.kind} {fault.how}"
-            print(*bad, f"{name}: came in {came} runs, and changed the end of {changed}", sep="\n", flush=True)
-            passed, failed = passed + came - len(bad), failed + len(bad)
+    for number, fault in enumerate(faults):
+        of_fault = counts[number * len(cases) : (number + 1) * len(cases)]
+        came, changed = sum(it[0] for it in of_fault), sum(it[1] for it in of_fault)
+        bad = [line for it in of_fault for line in it[2]]
+        if not came:
+            bad.append(f"faults: {fault.kind} {fault.how}: no run made such a call")
+        name = f"faults: {bench.program.name}: {fault.kind} {fault.how}"
+        print(*bad, f"{name}: came in {came} runs, and changed the end of {changed}", sep="\n")
+        passed, failed = passed + came - len(bad), failed + len(bad)
     return passed, failed
 
 
@@ -269,13 +255,13 @@ def unreported(bench):
 def main(programs):
     with tempfile.TemporaryDirectory(prefix="pbcube-faults-") as room:
         folder = Path(room)
-        library = build_library(folder, "faults")
+        library = preloaded(folder, "faults")
         if not library:
             print("faults: left out, since there is no C compiler (cc) here")
             return 0
         for name, text in FILES.items():
             (folder / name).write_text(text)
-        counts = [judge(Bench(Path(it).resolve(), library, folder)) for it in programs or built()]
+        counts = [judge(Bench(Path(it).resolve(), library, folder)) for it in programs or built(ROWS)]
     passed, failed = sum(it[0] for it in counts), sum(it[1] for it in counts)
     print(f"faults: {passed} passed, {failed} failed")
     return 1 if failed else 0

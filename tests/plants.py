@@ -28,7 +28,7 @@ from pathlib import Path
 sys.dont_write_bytecode = True
 import work
 from commands import ROWS as PROGRAMS
-from examples import TOP
+from lib import TOP
 
 PLANTS = TOP / "tests/plants"
 
