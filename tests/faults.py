@@ -16,9 +16,8 @@ from dataclasses import dataclass
 from pathlib import Path
 
 sys.dont_write_bytecode = True
-from lib import built, preloaded, side_by_side
+from lib import SECONDS, Ended, built, preloaded, ran, side_by_side
 
-SECONDS = 60  # after which a run is taken to hang
 QUIET_RUNS = 3  # how many runs without a fault end the count, since the order of events is another in each run
 MOST_CALLS = 10_000
 
@@ -39,15 +38,6 @@ FILES = {
     "long.cubes": "c a note\na " + "1 " * 16 + "-2 0\na 0\n",
     "over.cubes": "a 4 0\n",
 }
-
-
-@dataclass(frozen=True)
-class Ended:
-    """How a run ended: standard output, standard error, and the exit status or the negative number of a signal."""
-
-    out: str
-    err: str
-    status: int
 
 
 NO_MEMORY = Ended("c refused: Memory\ns UNKNOWN\n", "", 0)
@@ -146,16 +136,7 @@ class Bench:
 
     def run(self, words, environment, *files):
         """How the program ends on these words, with these file descriptors left open."""
-        ran = subprocess.run(
-            [self.program, *words.split()],
-            cwd=self.folder,
-            env=environment,
-            pass_fds=files,
-            stdin=subprocess.DEVNULL,
-            capture_output=True,
-            timeout=SECONDS,
-        )
-        return Ended(ran.stdout.decode(), ran.stderr.decode(), ran.returncode)
+        return ran([self.program, *words.split()], cwd=self.folder, env=environment, pass_fds=files)
 
     def run_with(self, fault, at, words):
         """The same with the fault at the call of this number, and whether that call came."""

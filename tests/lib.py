@@ -3,12 +3,30 @@ import os
 import shutil
 import subprocess
 from concurrent.futures import ThreadPoolExecutor
+from dataclasses import dataclass
 from pathlib import Path
 
 TOP = Path(__file__).resolve().parent.parent
 FORMATS = ("opb", "cnf", "icnf")
 STATUSES = {"s SATISFIABLE": 10, "s UNSATISFIABLE": 20, "s OPTIMUM FOUND": 30}
 PROCESSORS = len(os.sched_getaffinity(0))
+SECONDS = 60  # after which a run is taken to hang
+
+
+@dataclass(frozen=True)
+class Ended:
+    """How a run ended: standard output, standard error, and the exit status or the negative number of a signal."""
+
+    out: str
+    err: str
+    status: int
+
+
+def ran(command, **more):
+    """How the command ends, with nothing on standard input but what is handed in."""
+    given = {} if "input" in more else {"stdin": subprocess.DEVNULL}
+    ended = subprocess.run(command, capture_output=True, **{"timeout": SECONDS, **given, **more})
+    return Ended(ended.stdout.decode(), ended.stderr.decode(), ended.returncode)
 
 
 def program(name):
