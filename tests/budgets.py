@@ -11,7 +11,6 @@ budget never does worse, and once it is enough it stays so.
 """
 import itertools
 import random
-import subprocess
 import sys
 import tempfile
 from concurrent.futures import ThreadPoolExecutor
@@ -19,7 +18,7 @@ from dataclasses import dataclass
 from pathlib import Path
 
 sys.dont_write_bytecode = True
-from lib import PROCESSORS, STATUSES, built
+from lib import PROCESSORS, STATUSES, built, ran
 
 INSTANCES = 300
 SCALE = 1 << 70  # the numbers of every third instance are multiplied by it, so that 64 bits do not hold its sums
@@ -163,22 +162,20 @@ def judged(program, folder, number, instance):
     file.write_text(instance.text())
 
     def run(*words):
-        words = [program, "--format", instance.format, *map(str, words), file]
-        ended = subprocess.run(words, stdin=subprocess.DEVNULL, capture_output=True, timeout=60)
-        return ended.stdout.decode(), ended.returncode
+        return ran([program, "--format", instance.format, *words, file])
 
     whole = instance.report()
-    wrong = [] if run()[0] == whole else [("without a budget", "it is not the whole answer")]
+    wrong = [] if run().out == whole else [("without a budget", "it is not the whole answer")]
     ranks = []
     divisions = [(budget, 1, 0) for budget in [*BUDGETS, AMPLE]] + [(budget, workers, 1) for budget in (0, 2, 5, AMPLE) for workers in (1, 2)]
     for budget, workers, split in divisions:
         words = f"--nodes {budget} --workers {workers} --split {split}"
-        report, status = run(*words.split())
-        said = complaint(instance, whole, report, status)
-        if said or (budget == AMPLE and report != whole):
+        ended = run(*words.split())
+        said = complaint(instance, whole, ended.out, ended.status)
+        if said or (budget == AMPLE and ended.out != whole):
             wrong.append((words, said or "the budget is enough"))
         elif split == 0:
-            ranks.append(rank(instance, whole, report))
+            ranks.append(rank(instance, whole, ended.out))
     if ranks != sorted(ranks, reverse=True):
         wrong.append(("budgets in turn", "a greater one does worse"))
     return len(divisions) + 1, [f"{what}: {why}\n{instance.text()}" for what, why in wrong]

@@ -11,11 +11,10 @@ and without a split, and with the cubes of NAME.cubes where there is such a file
 import difflib
 import itertools
 import re
-import subprocess
 import sys
 
 sys.dont_write_bytecode = True
-from lib import STATUSES, TOP, built, examples, side_by_side
+from lib import STATUSES, TOP, built, examples, ran, side_by_side
 
 WORKERS = (1, 2, 3, 64)
 
@@ -68,13 +67,13 @@ def piped_rows():
 
 def differences(program, words, out, complaint, status, text=b""):
     """The lines that tell how the run is not as expected."""
-    ran = subprocess.run([program, *words], cwd=TOP, input=text, capture_output=True, timeout=60)
-    written, said = ran.stdout.decode(), ran.stderr.decode().split("\n")[0]
-    found = list(difflib.unified_diff(out.split("\n"), written.split("\n"), "expected", "written", lineterm=""))
+    ended = ran([program, *words], cwd=TOP, input=text)
+    said = ended.err.split("\n")[0]
+    found = list(difflib.unified_diff(out.split("\n"), ended.out.split("\n"), "expected", "written", lineterm=""))
     if said != complaint:
         found.append(f"standard error: {said!r} and not {complaint!r}")
-    if ran.returncode != status:
-        found.append(f"status {ran.returncode} and not {status}")
+    if ended.status != status:
+        found.append(f"status {ended.status} and not {status}")
     return found
 
 

@@ -18,9 +18,8 @@ from pathlib import Path
 
 sys.dont_write_bytecode = True
 from commands import ROWS, name_of
-from lib import built, preloaded, side_by_side
+from lib import SECONDS, Ended, built, preloaded, ran, side_by_side
 
-SECONDS = 60  # after which a run is taken to hang
 QUIET_RUNS = 3  # how many runs without a fault end the count, since the order of events is another in each run
 MOST_CALLS = 10_000
 
@@ -42,15 +41,6 @@ FILES = {
     "over.cubes": "a 4 0\n",
     "tie-0.out": "o 3\ns OPTIMUM FOUND\nv -x1 x2 -x3\n",
 }
-
-
-@dataclass(frozen=True)
-class Ended:
-    """How a run ended: standard output, standard error, and the exit status or the negative number of a signal."""
-
-    out: str
-    err: str
-    status: int
 
 
 # how each program ends where memory is refused
@@ -166,17 +156,7 @@ class Bench:
 
     def run(self, words, environment, *files, out=subprocess.PIPE):
         """How the program ends on these words, with these file descriptors left open. What goes to another output is not told."""
-        ran = subprocess.run(
-            [self.program, *words.split()],
-            cwd=self.folder,
-            env=environment,
-            pass_fds=files,
-            stdin=subprocess.DEVNULL,
-            stdout=out,
-            stderr=subprocess.PIPE,
-            timeout=SECONDS,
-        )
-        return Ended((ran.stdout or b"").decode(), ran.stderr.decode(), ran.returncode)
+        return ran([self.program, *words.split()], cwd=self.folder, env=environment, pass_fds=files, stdout=out)
 
     def run_with(self, fault, at, words, out=subprocess.PIPE):
         """The same with the fault at the call of this number, and whether that call came."""

@@ -20,16 +20,15 @@ from pathlib import Path
 
 sys.dont_write_bytecode = True
 from budgets import instances
-from lib import FORMATS, PROCESSORS, TOP, examples, program
+from lib import FORMATS, PROCESSORS, TOP, Ended, examples, program, ran
 
 RANDOM = 50
 PROGRAMS = {name: program(name) for name in ("pbcube", "pbcube_pieces", "pbcube_join")}
 
 
-def ran(program, *words):
-    """Standard output, standard error, and the status."""
-    ended = subprocess.run([PROGRAMS[program], *map(str, words)], stdin=subprocess.DEVNULL, capture_output=True, timeout=60)
-    return ended.stdout.decode(), ended.stderr.decode(), ended.returncode
+def run(name, *words):
+    """How the program of that name ends on these words."""
+    return ran([PROGRAMS[name], *map(str, words)])
 
 
 def texts(folder):
@@ -67,7 +66,7 @@ def solved(pieces, folder):
     """Reports, one for each file of a piece, in order."""
     folder.mkdir()
     for piece in pieces:
-        (folder / f"{piece.stem}.report").write_text(ran("pbcube", "--format", piece.suffix[1:], piece)[0])
+        (folder / f"{piece.stem}.report").write_text(run("pbcube", "--format", piece.suffix[1:], piece).out)
     return sorted(folder.iterdir())
 
 
@@ -78,19 +77,19 @@ def pieces_of(folder):
 def complaints(file, kind, variables, room):
     """What is wrong with the cuts and joins of one instance, one line for each."""
     room.mkdir()
-    whole, _, status = ran("pbcube", "--format", kind, file)
-    for number, words in enumerate(divisions(room, variables or values_in(whole))):
+    whole = run("pbcube", "--format", kind, file)
+    for number, words in enumerate(divisions(room, variables or values_in(whole.out))):
         folder = room / f"{number}"
         name = f"{file.name} {' '.join(map(str, words))}"
-        said = ran("pbcube_pieces", file, "--format", kind, *words, "--out", folder)
-        if said != ("", "", 0):
+        said = run("pbcube_pieces", file, "--format", kind, *words, "--out", folder)
+        if said != Ended("", "", 0):
             yield f"{name}: pieces: {said}"
             continue
         reports = solved(pieces_of(folder), room / f"{number}.reports")
         joined = ("pbcube_join", file, "--format", kind, "--pieces", len(reports))
         for operands in (reports, reports[::-1], [reports[0].parent]):
-            said = ran(*joined, *operands)
-            if said != (whole, "", status):
+            said = run(*joined, *operands)
+            if said != Ended(whole.out, "", whole.status):
                 yield f"{name}: join: {said}"
         yield from spoiled(name, joined, reports)
 
@@ -99,15 +98,15 @@ def spoiled(name, joined, reports):
     """What is wrong with joins of reports that were lost, doubled or changed."""
     chosen = random.Random(name).choice(reports)
     text = chosen.read_text()
-    said = ran(*joined, *(it for it in reports if it != chosen))
+    said = run(*joined, *(it for it in reports if it != chosen))
     chosen.write_text("s UNKNOWN\n")
-    for said in (said, ran(*joined, *reports)):
-        if "OPTIMUM" in said[0] or "UNSATISFIABLE" in said[0] or said[1].count("\n") != 1 or said[2] not in (0, 10):
+    for said in (said, run(*joined, *reports)):
+        if "OPTIMUM" in said.out or "UNSATISFIABLE" in said.out or said.err.count("\n") != 1 or said.status not in (0, 10):
             yield f"{name}: without {chosen.name}: {said}"
     chosen.write_text(text)
     twice = chosen.with_name(f"again-{chosen.name}")
     shutil.copy(chosen, twice)
-    refuses(said := ran(*joined, *reports, twice)) or (yield f"{name}: {chosen.name} twice: {said}")
+    refuses(said := run(*joined, *reports, twice)) or (yield f"{name}: {chosen.name} twice: {said}")
     twice.unlink()
     changes = [text.replace("s ", "r ", 1), text + "s UNKNOWN\n"]
     if "\nv" in text:
@@ -117,13 +116,13 @@ def spoiled(name, joined, reports):
         changes.append(f"o 1{text[2:].lstrip('-')}")
     for changed in changes:
         chosen.write_text(changed)
-        refuses(said := ran(*joined, *reports)) or (yield f"{name}: {chosen.name} is {changed!r}: {said}")
+        refuses(said := run(*joined, *reports)) or (yield f"{name}: {chosen.name} is {changed!r}: {said}")
     chosen.write_text(text)
 
 
 def refuses(said):
     """Whether a join wrote nothing, told why, and ended with status 1."""
-    return said[0] == "" and said[1] != "" and said[2] == 1
+    return said.out == "" and said.err != "" and said.status == 1
 
 
 def has_parallel():
@@ -140,7 +139,7 @@ def recipes(room, has_parallel):
     path = os.pathsep.join([*(str(it.parent) for it in PROGRAMS.values()), os.environ["PATH"]])
     quiet = {"env": {**os.environ, "PATH": path}, "stdin": subprocess.DEVNULL, "capture_output": True, "timeout": 300}
     file = TOP / "examples/repairs.opb"
-    whole, _, status = ran("pbcube", file)
+    whole = run("pbcube", file)
     if has_parallel:
         folder = room / "recipe"
         words = [cluster / "parallel.sh", file, "opb", "3", folder]
@@ -149,7 +148,7 @@ def recipes(room, has_parallel):
                 (folder / lost).unlink()
             old = {it.name: it.stat().st_mtime_ns for it in folder.glob("*.report")}
             ended = subprocess.run(words, **quiet)
-            if (ended.stdout.decode(), ended.returncode) != (whole, status):
+            if (ended.stdout.decode(), ended.returncode) != (whole.out, whole.status):
                 yield f"parallel.sh, without {lost}: {ended}"
             if any((folder / name).stat().st_mtime_ns != time for name, time in old.items()):
                 yield f"parallel.sh, without {lost}: other pieces were solved again"
@@ -159,12 +158,12 @@ def recipes(room, has_parallel):
     if (checked := subprocess.run(["bash", "-n", script], **quiet)).returncode:
         yield f"slurm.sh: {checked}"
     folder = room / "tasks"
-    ran("pbcube_pieces", "--split", 2, "--out", folder, file)
+    run("pbcube_pieces", "--split", 2, "--out", folder, file)
     for number in range(len(pieces_of(folder))):
         task = {**quiet, "env": {**quiet["env"], "SLURM_ARRAY_TASK_ID": str(number)}}
         if (ended := subprocess.run([script, folder], **task)).returncode:
             yield f"slurm.sh, task {number}: {ended}"
-    if (said := ran("pbcube_join", "--pieces", len(pieces_of(folder)), file, folder)) != (whole, "", status):
+    if (said := run("pbcube_join", "--pieces", len(pieces_of(folder)), file, folder)) != Ended(whole.out, "", whole.status):
         yield f"slurm.sh: join: {said}"
 
 

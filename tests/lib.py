@@ -3,12 +3,32 @@ import os
 import shutil
 import subprocess
 from concurrent.futures import ThreadPoolExecutor
+from dataclasses import dataclass
 from pathlib import Path
 
 TOP = Path(__file__).resolve().parent.parent
 FORMATS = ("opb", "cnf", "icnf")
 STATUSES = {"s SATISFIABLE": 10, "s UNSATISFIABLE": 20, "s OPTIMUM FOUND": 30}
 PROCESSORS = len(os.sched_getaffinity(0))
+SECONDS = 60  # after which a run is taken to hang
+
+
+@dataclass(frozen=True)
+class Ended:
+    """How a run ended: standard output, standard error, and the exit status or the negative number of a signal."""
+
+    out: str
+    err: str
+    status: int
+
+
+def ran(command, **more):
+    """How the command ends, with nothing on standard input but what is handed in. What goes to another output is not told."""
+    given = {"stdout": subprocess.PIPE, "stderr": subprocess.PIPE, "timeout": SECONDS}
+    if "input" not in more:
+        given["stdin"] = subprocess.DEVNULL
+    ended = subprocess.run(command, **{**given, **more})
+    return Ended((ended.stdout or b"").decode(), (ended.stderr or b"").decode(), ended.returncode)
 
 
 def program(name):

@@ -7,17 +7,12 @@ of the whole instance, or where the index does not tell what lies in the folder.
 Without words it takes the programs that the merge gate built by LLVM.
 """
 import hashlib
-import subprocess
 import sys
 import tempfile
 from pathlib import Path
 
 sys.dont_write_bytecode = True
-from lib import examples, program, side_by_side
-
-
-def ran(words):
-    return subprocess.run(words, capture_output=True, text=True, timeout=120)
+from lib import Ended, examples, program, ran, side_by_side
 
 
 def rank(out):
@@ -33,7 +28,7 @@ def divisions(pbcube, instance):
     """Words that divide the instance. A split of more variables than it has is refused."""
     for split in ("0", "1", "2"):
         whole = ran([pbcube, "--format", instance.suffix[1:], "--split", split, str(instance)])
-        if "BadSplit" not in whole.stdout:
+        if "BadSplit" not in whole.out:
             yield ["--split", split]
     cubes = instance.with_suffix(".cubes")
     if cubes.exists():
@@ -44,8 +39,8 @@ def divisions(pbcube, instance):
 def faults_of(pbcube, splitter, instance, words, folder):
     """What is wrong with the pieces of one instance."""
     split = ran([splitter, "--format", instance.suffix[1:], *words, "--out", str(folder), str(instance)])
-    if split.returncode or split.stdout or split.stderr:
-        yield f"status {split.returncode}: {split.stderr.strip()}"
+    if split != Ended("", "", 0):
+        yield f"{split}"
         return
     index = (folder / "index").read_text().splitlines()
     told = dict(line.split(" ", 1) for line in index[:4])
@@ -54,13 +49,13 @@ def faults_of(pbcube, splitter, instance, words, folder):
         yield "the index has another digest"
     if names != sorted(names) or int(told["pieces"]) != len(names) or {*names, "index"} != {it.name for it in folder.iterdir()}:
         yield "the index has other pieces than the folder"
-    outs = [ran([pbcube, "--format", told["format"], str(folder / name)]).stdout for name in names]
+    outs = [ran([pbcube, "--format", told["format"], str(folder / name)]).out for name in names]
     first = min((out for out in outs if rank(out)), key=rank, default="s UNSATISFIABLE\n")
     if first != instance.with_suffix(".expected").read_text():
         yield f"the first answer of the pieces is {first!r}"
     again = ran([splitter, "--format", instance.suffix[1:], "--out", str(folder), str(instance)])
-    if again.returncode != 1 or again.stderr != f"pbcube_pieces: {folder} holds an index already\n":
-        yield f"a folder with an index is taken: status {again.returncode}, {again.stderr.strip()}"
+    if again.status != 1 or again.err != f"pbcube_pieces: {folder} holds an index already\n":
+        yield f"a folder with an index is taken: {again}"
 
 
 def complaints(pbcube, splitter, instance):

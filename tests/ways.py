@@ -28,7 +28,7 @@ os.environ.pop("PBCUBE_LIBRARY", None)
 os.environ.pop("PBCUBE_LIB_DIR", None)
 import pbcube
 from budgets import Instance, instances
-from lib import FORMATS, PROCESSORS, TOP, built
+from lib import FORMATS, PROCESSORS, TOP, built, ran
 
 INSTANCES = 500
 NO_LIMIT = -1
@@ -101,8 +101,8 @@ def by_program(program, folder, number, task):
     file = folder / f"{number}.{text.format}"
     file.write_text(text.text)
     budget = [] if text.decisions == NO_LIMIT else ["--nodes", str(text.decisions)]
-    ended = subprocess.run([program, "--format", text.format, *budget, file], capture_output=True, text=True, timeout=60)
-    return ended.stdout, ended.returncode
+    ended = ran([program, "--format", text.format, *budget, file])
+    return ended.out, ended.status
 
 
 def literals(values, is_clausal):
