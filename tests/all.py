@@ -39,6 +39,7 @@ STEPS = [
     Step("pieces", "tests/pieces.py"),
     Step("examples", "tests/examples.py"),
     Step("commands", "tests/commands.py"),
+    Step("builds", "tests/builds.py"),
     Step("plants", "tests/plants.py --check"),
     Step("threads", "tests/threads.py", is_alone=True),
 ]
