@@ -15,6 +15,3 @@ pub const MAX_CUBES: usize = 1_048_575;
 
 /// The most variables of a split.
 pub const MAX_SPLIT: u32 = 12;
-
-#[cfg(test)]
-mod tests;

@@ -46,6 +46,3 @@ pub const SUM_BOUND: Magnitude = 85_070_591_730_234_615_865_843_651_857_942_052_
 
 /// The most workers that may share an instance.
 pub const MAX_WORKERS: u32 = 64;
-
-#[cfg(test)]
-mod tests;

@@ -18,6 +18,3 @@ pub use widths::{EitherWidth, Normal, normalise};
 
 /// The most terms that all rows may have together: an equality gives two rows.
 pub const MAX_ROW_TERMS: usize = 2 * MAX_TERMS;
-
-#[cfg(test)]
-mod tests;

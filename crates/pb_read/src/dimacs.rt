@@ -7,8 +7,6 @@ mod cube_files;
 mod cube_lines;
 mod icnf;
 mod scan;
-#[cfg(test)]
-mod tests;
 mod word;
 
 pub use cnf::read_cnf;

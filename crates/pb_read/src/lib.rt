@@ -14,6 +14,3 @@ pub use fault::{ReadFault, ReadKind};
 pub use format::{Format, read};
 pub use laws::{one_reading_of_cnf, one_reading_of_cubes, one_reading_of_icnf, one_reading_of_opb};
 pub use opb::read_opb;
-
-#[cfg(test)]
-mod tests;

@@ -9,8 +9,6 @@ mod draft;
 mod form;
 mod header;
 mod sink;
-#[cfg(test)]
-mod tests;
 mod token;
 
 use crate::fault::{ReadFault, ReadKind};

@@ -1,22 +1,16 @@
-//! Worked texts of OPB, each with the instance that it spells or with its refusal. A reading whose memory was refused is made once
-//! more, so every test also passes with any one allocation refused, and then shows that the refusal was answered as such.
+//! Worked texts of OPB, each with the instance that it spells or with its refusal.
 
-use crate::tests::repeated;
-use crate::{ReadFault, ReadKind, read_opb};
-use pb_inst::{Instance, Number, Relation, Term};
-use std::alloc::Global;
-use std::process::Abort;
-use std::test::Fail;
-
-/// Terms as a coefficient and a variable, which is negative where the literal is negated.
-type Terms = &'static [(Number, i64)];
+use super::texts::{Source, fault_of, spells};
+use super::written::{Inequality, MOST, MOST_OF_64_BITS, Sum, Written};
+use pb_inst::Relation;
+use pb_read::{ReadFault, ReadKind};
 
 /// A text that is accepted, and its instance: the variables, the objective and the constraints.
 struct Accepted {
     text: &'static [u8],
     vars: u32,
-    objective: Option<Terms>,
-    constraints: &'static [(Terms, Relation, Number)],
+    objective: Option<Sum>,
+    constraints: &'static [Inequality],
 }
 
 /// A text that is refused, and the kind and the line of its fault.
@@ -25,11 +19,6 @@ struct Refused {
     kind: ReadKind,
     line: u64,
 }
-
-/// The greatest number of 64 bits with a sign.
-const MOST_OF_64_BITS: Number = 9_223_372_036_854_775_807;
-
-const MOST: Number = 85_070_591_730_234_615_865_843_651_857_942_052_863;
 
 const ACCEPTED: &[Accepted] = &[
     Accepted {
@@ -312,82 +301,34 @@ const REFUSED: &[Refused] = &[
     },
 ];
 
-/// Reads the text, and once more where memory was refused.
-fn read(rt: &impl Abort, alloc: Global, text: &[u8]) -> Result<Instance, ReadFault> {
-    match read_opb(alloc, text) {
-        Err(fault) if fault.kind == ReadKind::Memory => {
-            assert_eq!(rt; fault.line, 0);
-            read_opb(alloc, text)
-        }
-        answer => answer,
-    }
-}
-
-fn assert_terms(rt: &impl Abort, terms: &pb_inst::Terms<'_>, expected: Terms, text: &[u8]) {
-    assert_eq!(rt; terms.len(), expected.len(), "{text:?}");
-    for (i, (coef, var)) in expected.iter().enumerate() {
-        let term = terms.get(i);
-        assert_eq!(rt; term.coef, *coef, "{text:?}");
-        assert_eq!(rt; term.lit.positive(), *var > 0, "{text:?}");
-        assert_eq!(rt; u64::from(term.lit.var()), var.unsigned_abs(), "{text:?}");
-    }
-}
-
-fn assert_spelled(rt: &impl Abort, instance: &Instance, expected: &Accepted) {
-    let text = expected.text;
-    assert_eq!(rt; instance.vars(), expected.vars, "{text:?}");
-    match (instance.objective(), expected.objective) {
-        (Some(terms), Some(expected)) => assert_terms(rt, &terms, expected, text),
-        (terms, expected) => {
-            assert!(rt; terms.is_none() && expected.is_none(), "{text:?}");
-        }
-    }
-    assert_eq!(rt; instance.len(), expected.constraints.len(), "{text:?}");
-    for (i, (terms, relation, bound)) in expected.constraints.iter().enumerate() {
-        let constraint = instance.constraint(i);
-        assert_terms(rt, &constraint.terms, terms, text);
-        assert_eq!(rt; constraint.relation, *relation, "{text:?}");
-        assert_eq!(rt; constraint.bound, *bound, "{text:?}");
-    }
-}
-
 #[test]
-fn accepted_texts(rt: HostRuntime) -> Result<(), Fail> {
+fn accepted_texts(rt: HostRuntime) {
     for expected in ACCEPTED {
-        let instance = read(&rt, rt.alloc(), expected.text)?;
-        assert_spelled(&rt, &instance, expected);
+        let text = expected.text;
+        let written = Written {
+            vars: expected.vars,
+            objective: expected.objective,
+            sums: expected.constraints,
+            clauses: &[],
+        };
+        assert!(rt;
+            spells(rt.alloc(), Source::Opb, text, &written, &[]),
+            "{text:?}"
+        );
     }
-    Ok(())
 }
 
 #[test]
 fn refused_texts(rt: HostRuntime) {
     for expected in REFUSED {
         let text = expected.text;
-        match read(&rt, rt.alloc(), text) {
-            Ok(_) => panic!(rt; "{text:?} was accepted"),
-            Err(fault) => {
-                assert_eq!(rt; fault.kind, expected.kind, "{text:?}");
-                assert_eq!(rt; fault.line, expected.line, "{text:?}");
-            }
-        }
+        let fault = ReadFault {
+            kind: expected.kind,
+            line: expected.line,
+        };
+        assert!(rt;
+            fault_of(rt.alloc(), Source::Opb, text) == Some(fault),
+            "{text:?}"
+        );
     }
-}
-
-#[test]
-fn long_texts(rt: HostRuntime) -> Result<(), Fail> {
-    let alloc = rt.alloc();
-    let zeros = repeated(alloc, b"", b"0", 1_000_000, b"1 x1 >= 1 ;")?;
-    assert_eq!(rt; read(&rt, alloc, &zeros)?.len(), 1);
-    let lines = repeated(alloc, b"", b"1 x1\n* note\n", 1_000_000, b">= 1 ;")?;
-    assert_eq!(rt; read(&rt, alloc, &lines)?.len(), 1);
-    let open = repeated(alloc, b"min: ;\n\n", b"1 x1\n\n", 1_000_000, b"")?;
-    match read(&rt, alloc, &open) {
-        Ok(_) => panic!(rt; "a statement without an end was accepted"),
-        Err(fault) => {
-            assert_eq!(rt; fault.kind, ReadKind::Unfinished);
-            assert_eq!(rt; fault.line, 3);
-        }
-    }
-    Ok(())
 }

@@ -1,0 +1,224 @@
+//! Instances that are built, sums at both ends of their range, and what is found with its cost.
+
+ghost use Rattle.std.specs.Prelude.{◌≡◌, length};
+
+use super::written::{
+    Inequality, MOST, MOST_OF_64_BITS, Sum, Written, builder_of, built, is_written, terms_of,
+};
+use pb_inst::{
+    Assignment, Best, InstFault, Instance, InstanceBuilder, Number, Relation, Terms, precedes,
+};
+use std::alloc::Global;
+use std::process::Abort;
+
+const WORKED: Written = Written {
+    vars: 3,
+    objective: Some(&[(2, 1), (3, 2), (1, 3)]),
+    sums: &[
+        (&[(1, 1), (1, 2)], Relation::AtLeast, 1),
+        (&[(1, 2), (1, 3)], Relation::AtLeast, 1),
+    ],
+    clauses: &[&[1, -3, 2]],
+};
+
+/// Coefficients that are the ends of 64 bits, the number after them, and small ones.
+const OF_BOTH_WIDTHS: Written = Written {
+    vars: 2,
+    objective: None,
+    sums: &[
+        (
+            &[(MOST_OF_64_BITS, 1), (-MOST_OF_64_BITS - 1, 2)],
+            Relation::AtLeast,
+            0,
+        ),
+        (&[(MOST_OF_64_BITS + 1, 1), (7, 2)], Relation::AtMost, 0),
+        (&[(2, 1), (3, 2)], Relation::Equal, 0),
+    ],
+    clauses: &[&[-2]],
+};
+
+const HALVES: Sum = &[(MOST - 1, 1), (1, 1)];
+
+const NEGATIVE: Sum = &[(-MOST, 1)];
+
+const LOWEST: Sum = &[(Number::MIN, 1)];
+
+/// Sums at both ends of their range.
+const AT_THE_ENDS: Written = Written {
+    vars: 3,
+    objective: Some(HALVES),
+    sums: &[
+        (HALVES, Relation::AtLeast, 0),
+        (&[(1 - MOST, 1)], Relation::AtMost, -1),
+        (NEGATIVE, Relation::AtMost, 0),
+    ],
+    clauses: &[],
+};
+
+const BEYOND_THE_ENDS: &[Inequality] = &[
+    (HALVES, Relation::AtLeast, 1),
+    (NEGATIVE, Relation::Equal, 1),
+    (LOWEST, Relation::AtLeast, 0),
+    (&[], Relation::AtLeast, Number::MIN),
+];
+
+/// The absolute coefficients of the second one add up to 2^128, which is 0 in 128 bits.
+const OBJECTIVES_BEYOND_THE_ENDS: &[Sum] = &[LOWEST, &[(Number::MIN, 1), (Number::MIN, 1)]];
+
+/// No constraints: the cost is that of the first variable.
+const GREATEST_COST: Written = Written {
+    vars: 3,
+    objective: Some(&[(MOST, 1)]),
+    sums: &[],
+    clauses: &[],
+};
+
+const LEAST_COST: Written = Written {
+    vars: 3,
+    objective: Some(NEGATIVE),
+    sums: &[],
+    clauses: &[],
+};
+
+/// Instances, the values of their three variables, and what these cost where they are feasible.
+const CHECKED: &[(Written, [bool; 3], Option<Number>)] = &[
+    (WORKED, [true, false, true], Some(3)),
+    (WORKED, [false, true, false], Some(3)),
+    (WORKED, [false, false, false], None),
+    (AT_THE_ENDS, [false, false, false], None),
+    (AT_THE_ENDS, [true, false, false], Some(MOST)),
+    (GREATEST_COST, [false, true, true], Some(0)),
+    (GREATEST_COST, [true, false, false], Some(MOST)),
+    (LEAST_COST, [false, true, true], Some(0)),
+    (LEAST_COST, [true, false, false], Some(-MOST)),
+];
+
+/// Whether the terms are copied as they are lent, in place of what the list held.
+fn are_copied(rt: &impl Abort, alloc: Global, terms: &Terms<'_>) -> bool {
+    let mut list = terms_of(rt, alloc, HALVES);
+    if terms.copy_into(&mut list).is_err() {
+        terms.copy_into(&mut list).expect(rt, "a list");
+    }
+    for i in 0..terms.len() {
+        if list.get(i) != Some(&terms.get(i)) {
+            return false;
+        }
+    }
+    list.len() == terms.len()
+}
+
+/// Whether the terms of all constraints are copied as they are lent.
+fn all_are_copied(rt: &impl Abort, alloc: Global, instance: &Instance) -> bool {
+    for i in 0..instance.len() {
+        if !are_copied(rt, alloc, &instance.constraint(i).terms) {
+            return false;
+        }
+    }
+    true
+}
+
+#[test]
+fn what_was_added_is_built(rt: HostRuntime) {
+    for written in [WORKED, OF_BOTH_WIDTHS] {
+        let instance = built(&rt, rt.alloc(), &written);
+        assert!(rt; is_written(&instance, &written));
+        assert!(rt; all_are_copied(&rt, rt.alloc(), &instance));
+    }
+}
+
+/// Whether all that lies beyond the ends is too large for the builder.
+fn refuses_all(rt: &impl Abort, alloc: Global, builder: &mut InstanceBuilder) -> bool {
+    for (sum, relation, bound) in BEYOND_THE_ENDS {
+        let terms = terms_of(rt, alloc, sum);
+        if builder.add(&terms, *relation, *bound) != Err(InstFault::TooLarge) {
+            return false;
+        }
+    }
+    true
+}
+
+/// Whether all objectives that lie beyond the ends are too large for the builder.
+fn refuses_all_objectives(rt: &impl Abort, alloc: Global, builder: &mut InstanceBuilder) -> bool {
+    for sum in OBJECTIVES_BEYOND_THE_ENDS {
+        let terms = terms_of(rt, alloc, sum);
+        if builder.set_objective(&terms) != Err(InstFault::TooLarge) {
+            return false;
+        }
+    }
+    true
+}
+
+#[test]
+fn refusals_change_nothing(rt: HostRuntime) {
+    let alloc = rt.alloc();
+    let mut builder = builder_of(&rt, alloc, &AT_THE_ENDS);
+    assert!(rt; refuses_all(&rt, alloc, &mut builder));
+    assert!(rt; refuses_all_objectives(&rt, alloc, &mut builder));
+    let small = builder.finish(0).err().expect(&rt, "a variable over 0");
+    assert!(rt; small.fault == InstFault::BadVariable);
+    let instance = small.builder.finish(3).ok().expect(&rt, "an instance");
+    assert!(rt; is_written(&instance, &AT_THE_ENDS));
+}
+
+fn assignment(rt: &impl Abort, alloc: Global, values: [bool; 3]) -> Assignment
+    ensures { length result ≡ 3 }
+{
+    let mut assignment = zeros(rt, alloc, 3);
+    assignment.set(1, values[0]);
+    assignment.set(2, values[1]);
+    assignment.set(3, values[2]);
+    assignment
+}
+
+/// The assignment that makes no variable true.
+pub fn zeros(rt: &impl Abort, alloc: Global, n: u32) -> Assignment
+    ensures { length result ≡ n }
+{
+    match Assignment::new(alloc, n) {
+        Ok(assignment) => assignment,
+        Err(_) => Assignment::new(alloc, n).expect(rt, "an assignment"),
+    }
+}
+
+/// What the values cost in the instance, where they are feasible.
+fn cost(rt: &impl Abort, alloc: Global, written: &Written, values: [bool; 3]) -> Option<Number> {
+    let instance = built(rt, alloc, written);
+    assert!(rt; instance.vars() == 3);
+    instance.check(&assignment(rt, alloc, values))
+}
+
+#[test]
+fn checks_and_their_costs(rt: HostRuntime) {
+    for (i, (written, values, expected)) in CHECKED.iter().enumerate() {
+        assert!(rt;
+            cost(&rt, rt.alloc(), written, *values) == *expected,
+            "row {i}"
+        );
+    }
+}
+
+fn nothing_yet<'i>(rt: &impl Abort, alloc: Global, instance: &'i Instance) -> Best<'i>
+    ensures { result.problem ≡ instance.now }
+{
+    if let Ok(best) = Best::none(alloc, instance) {
+        return best;
+    }
+    Best::none(alloc, instance).expect(rt, "a place for the best")
+}
+
+#[test]
+fn what_comes_before_is_taken(rt: HostRuntime) {
+    let alloc = rt.alloc();
+    let instance = built(&rt, alloc, &WORKED);
+    assert!(rt; instance.vars() == 3);
+    let later = assignment(&rt, alloc, [true, false, true]);
+    let first = assignment(&rt, alloc, [false, true, false]);
+    let none = assignment(&rt, alloc, [false, false, false]);
+    assert!(rt; precedes(3, &first, 3, &later));
+    let mut best = nothing_yet(&rt, alloc, &instance);
+    assert!(rt; best.assignment().is_none());
+    assert!(rt; best.take(&later) && best.leading_zeros() == 0);
+    assert!(rt; best.take(&first) && best.leading_zeros() == 1);
+    assert!(rt; !best.take(&later) && !best.take(&none));
+    assert!(rt; best.cost() == Some(3));
+}
