@@ -60,6 +60,7 @@ Options:
       --split <K>        the split variables [default: 0]
       --cubes <FILE>     the cubes
   -h, --help             Print help (see more with '--help')
+  -V, --version          Print version
 ";
 
 // The help that the word asks for.
