@@ -1,6 +1,6 @@
 #!/usr/bin/env python3
-"""Runs the built program on the examples, on the commands that README.md shows and on words that are no text, and prints what
-differs.
+"""Runs the built program on the examples, on the commands that README.md shows, on words that are no text and on those that ask
+for its version, and prints what differs, and which manifest or page has another version.
 
     tests/examples.py [PROGRAM ..]
 
@@ -59,6 +59,28 @@ def word_rows():
     yield ["examples/tie.opb", b"\xff"], "", "", 2
 
 
+def version():
+    """The version of the programs, as their sources have it."""
+    return re.search(r'VERSION: &str = "(.+)";', (TOP / "crates/pb_line/src/version.rt").read_text())[1]
+
+
+def version_rows():
+    """The same for the words that ask for the version."""
+    for word in ("--version", "-V"):
+        yield [word], f"pbcube {version()}\n", "", 0
+
+
+def other_versions():
+    """The files in which another version stands, with what they should have."""
+    for file, line in (
+        ("bindings/rust/Cargo.toml", f'version = "{version()}"'),
+        ("bindings/python/pyproject.toml", f'version = "{version()}"'),
+        ("docs/pbcube.1", f".Ql pbcube {version()}"),
+    ):
+        if line not in (TOP / file).read_text().splitlines():
+            yield f"{file}: no line {line}"
+
+
 def piped_rows():
     """The same for texts from a pipe, which cannot be read again for a hint, and the text."""
     yield ["--format", "cnf", "/dev/stdin"], "s SATISFIABLE\nv 1 0\n", "", 10, b"p cnf 1 1\n1 0\n"
@@ -78,15 +100,16 @@ def differences(program, words, out, complaint, status, text=b""):
 
 
 def main(programs):
-    rows = [*example_rows(), *readme_rows(), *word_rows(), *piped_rows()]
+    rows = [*example_rows(), *readme_rows(), *word_rows(), *version_rows(), *piped_rows()]
+    stale = list(other_versions())
     runs = list(itertools.product(programs or built(), rows))
     found = side_by_side(lambda run: differences(run[0], *run[1]), runs)
     for (program, row), lines in zip(runs, found):
         if lines:
             print(f"examples: {program} {' '.join(map(str, row[0]))}", *lines, sep="\n  ")
     failed = sum(map(bool, found))
-    print(f"examples and commands: {len(runs) - failed} passed, {failed} failed")
-    return 1 if failed else 0
+    print(*[f"examples: {it}" for it in stale], f"examples and commands: {len(runs) - failed} passed, {failed} failed", sep="\n")
+    return 1 if failed or stale else 0
 
 
 if __name__ == "__main__":

@@ -1,10 +1,15 @@
 -- The options and the operand that the programs have in common.
 use Rattle.std.specs.Prelude.{[], ◌∷◌, Some, codes, true}
-use Rattle.clap.specs.Words.{Rule, Text, new_rule}
+use Rattle.clap.specs.Simple.{on_top}
+use Rattle.clap.specs.Words.{App, Rule, Text, new_app, new_rule}
 use Rattle.clap.specs.declared.builder.ValueParser.TheVariants as parser
 use Rattle.pb_cubes.specs.declared.TheConstants.{MAX_SPLIT}
 use Rattle.pb_read.specs.declared.format.Format.{Format}
 use Rattle.pb_read.specs.declared.format.Format.TheVariants.{Opb, Cnf, Icnf}
+
+-- the command of this name whose one option is `--version`, or `-V`
+abbrev pub with_version : Text → App
+with_version name = on_top (λ shape. record shape { has_version = true }) (new_app name)
 
 -- Help has a name for the value of each, which `value_names` counts; no word is read by it.
 

@@ -3,8 +3,10 @@
 
 mod formats;
 mod options;
+mod version;
 mod words;
 
 pub use formats::format_of;
 pub use options::{cubes_option, file_operand, format_option, named, split_option};
+pub use version::VERSION;
 pub use words::{texts_of, words_of};

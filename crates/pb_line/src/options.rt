@@ -1,15 +1,16 @@
 //! The options and the operand that the programs have in common. What help says of each is the program's own.
 ghost use Rattle.std.specs.Prelude.{◌≡◌, false};
-ghost use Rattle.clap.specs.Words.{app_of, new_app, rule_of};
-ghost use Rattle.pb_line.specs.Options.{format, split, cubes, file};
+ghost use Rattle.clap.specs.Words.{app_of, rule_of};
+ghost use Rattle.pb_line.specs.Options.{format, split, cubes, file, with_version};
 
+use crate::version::VERSION;
 use clap::builder::ValueParser;
 use clap::{Arg, Command};
 use pb_cubes::MAX_SPLIT;
 use std::alloc::Global;
 
-/// A command of this name without options, and what help says around them: of what it does, in short and at length, and
-/// at the end.
+/// A command of this name that tells the version and has no other options, and what help says around them: of what it
+/// does, in short and at length, and at the end.
 pub fn named<'a>(
     alloc: Global,
     name: &'a str,
@@ -17,12 +18,13 @@ pub fn named<'a>(
     long_about: &'a str,
     end: &'a str,
 ) -> Command<'a>
-    ensures { app_of result ≡ new_app name.now }
+    ensures { app_of result ≡ with_version name.now }
 {
     Command::new(alloc, name)
         .about(about)
         .long_about(long_about)
         .after_long_help(end)
+        .version(VERSION)
 }
 
 /// `--format FORMAT`, by default `opb`.

@@ -1,9 +1,9 @@
 -- The one command, and what a line takes from its matches.
 use Rattle.std.specs.Prelude.{◌≡◌, ◌≤◌, List, [], ◌∷◌, Some, option_map, codes, IsSomeAnd}
-use Rattle.clap.specs.Words.{App, Row, Rule, first_of, one_of, new_app, new_rule, with_rule}
+use Rattle.clap.specs.Words.{App, Row, Rule, first_of, one_of, new_rule, with_rule}
 use Rattle.clap.specs.declared.builder.ValueParser.TheVariants as parser
 use Rattle.pb_inst.specs.declared.TheConstants.{MAX_WORKERS}
-use Rattle.pb_line.specs.Options.{cubes, file, format, format_name, split}
+use Rattle.pb_line.specs.Options.{cubes, file, format, format_name, split, with_version}
 use Rattle.pb_line.specs.Values.{Spells, SpellsIfGiven}
 use Rattle.pbcube.specs.declared.asked.Line.{Line}
 use Rattle.pbcube.specs.declared.asked.TheConstants.{MAX_NODES}
@@ -20,7 +20,7 @@ nodes = record (new_rule (codes "nodes")) { long = Some (codes "nodes"); value_n
 
 -- `pbcube [--format FORMAT] [--workers W] [--split K] [--cubes FILE] [--nodes B] FILE`
 abbrev pub pbcube : App
-pbcube = with_rule (with_rule (with_rule (with_rule (with_rule (with_rule (new_app (codes "pbcube")) format) workers) split) cubes) nodes) file
+pbcube = with_rule (with_rule (with_rule (with_rule (with_rule (with_rule (with_version (codes "pbcube")) format) workers) split) cubes) nodes) file
 
 -- the line has the values of the matches
 pub record IsLineOf (matches : List Row) (line : Line) : Type 0 where

@@ -62,6 +62,6 @@ Exit status:
       or a piece was cut; the best assignment that was found
    0  s UNSUPPORTED: the input, the cubes or the split are refused;
       s UNKNOWN: memory ran out, or a piece was cut and nothing was found;
-      also after help
+      also after help and the version
    1  a file cannot be opened or read, or the output cannot be written
    2  the command line is refused";

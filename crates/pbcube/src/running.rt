@@ -151,7 +151,7 @@ fn end_of_run<I: Read + Seek, E: Write>(
     ran.status.exit_status()
 }
 
-/// The end where the words ask for no run: help, a refusal, or no memory.
+/// The end where the words ask for no run: help, the version, a refusal, or no memory.
 fn end_at_line<W: Write, E: Write>(fault: &Error, out: &mut Device<W>, err: &mut E) -> u8
     requires { out.old.failed ≡ false }
     ensures { EndsBy (EndsWithoutMemory (W.contents out.old.held) (W.contents out.new.held)) (kind_of fault.now) result }

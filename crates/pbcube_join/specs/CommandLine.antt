@@ -1,10 +1,10 @@
 -- The one command, and what a line takes from its matches.
 use Rattle.std.specs.Prelude.{◌≡◌, ◌≤◌, List, [], Some, codes, map, true, unwrap_or, IsSomeAnd}
 use Rattle.clap.specs.Lexer.{usize_max}
-use Rattle.clap.specs.Words.{App, Row, Rule, all_of, first_of, new_app, new_rule, one_of, with_rule}
+use Rattle.clap.specs.Words.{App, Row, Rule, all_of, first_of, new_rule, one_of, with_rule}
 use Rattle.clap.specs.declared.builder.ValueParser.TheVariants as parser
 use Rattle.clap.specs.declared.builder.action.ArgAction.TheVariants.{Append}
-use Rattle.pb_line.specs.Options.{file, format, format_name}
+use Rattle.pb_line.specs.Options.{file, format, format_name, with_version}
 use Rattle.pb_line.specs.Values.{Spells}
 use Rattle.pbcube_join.specs.declared.asked.Line.{Line}
 use Rattle.pbcube_join.specs.declared.asked.TheConstants.{MAX_PIECES}
@@ -19,7 +19,7 @@ reports = record (new_rule (codes "reports")) { value_names = 1; action = Some A
 
 -- `pbcube_join [--format FORMAT] --pieces N FILE [REPORT]...`
 abbrev pub pbcube_join : App
-pbcube_join = with_rule (with_rule (with_rule (with_rule (new_app (codes "pbcube_join")) format) pieces) file) reports
+pbcube_join = with_rule (with_rule (with_rule (with_rule (with_version (codes "pbcube_join")) format) pieces) file) reports
 
 -- the line has the values of the matches
 pub record IsLineOf (matches : List Row) (line : Line) : Type 0 where

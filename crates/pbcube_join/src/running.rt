@@ -132,7 +132,7 @@ fn name_piece<E: Write>(number: usize, state: PieceState, err: &mut E) -> io::Re
     }
 }
 
-/// The end where the words ask for no run: help, a refusal, or no memory.
+/// The end where the words ask for no run: help, the version, a refusal, or no memory.
 fn end_at_line<W: Write, E: Write>(fault: &Error, out: &mut Device<W>, err: &mut E) -> u8
     requires { out.old.failed ≡ false }
     ensures { EndsBy (λ status. status ≡ 1) (kind_of fault.now) result }

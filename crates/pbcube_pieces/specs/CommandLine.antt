@@ -1,7 +1,7 @@
 -- The one command, and what a line takes from its matches.
 use Rattle.std.specs.Prelude.{◌≡◌, List, Some, option_map, codes, true, IsSomeAnd}
-use Rattle.clap.specs.Words.{App, Row, Rule, first_of, new_app, new_rule, one_of, with_rule}
-use Rattle.pb_line.specs.Options.{cubes, file, format, format_name, split}
+use Rattle.clap.specs.Words.{App, Row, Rule, first_of, new_rule, one_of, with_rule}
+use Rattle.pb_line.specs.Options.{cubes, file, format, format_name, split, with_version}
 use Rattle.pb_line.specs.Values.{Spells}
 use Rattle.pbcube_pieces.specs.declared.asked.Line.{Line}
 
@@ -11,7 +11,7 @@ out = record (new_rule (codes "out")) { long = Some (codes "out"); required = tr
 
 -- `pbcube_pieces [--format FORMAT] [--split K] [--cubes FILE] --out DIR FILE`
 abbrev pub pbcube_pieces : App
-pbcube_pieces = with_rule (with_rule (with_rule (with_rule (with_rule (new_app (codes "pbcube_pieces")) format) split) cubes) out) file
+pbcube_pieces = with_rule (with_rule (with_rule (with_rule (with_rule (with_version (codes "pbcube_pieces")) format) split) cubes) out) file
 
 -- the line has the values of the matches
 pub record IsLineOf (matches : List Row) (line : Line) : Type 0 where

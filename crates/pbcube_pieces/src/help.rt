@@ -36,7 +36,7 @@ Examples:
   pbcube_pieces --format icnf --out pieces formula.icnf  its own cubes
 
 Exit status:
-   0  all is written; also after help
+   0  all is written; also after help and the version
    1  a file cannot be opened, read or written, an input is refused, or memory
       ran out
    2  the command line is refused";

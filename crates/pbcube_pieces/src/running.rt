@@ -52,7 +52,7 @@ fn write_all<'a, F: Folders>(
     write_pieces(alloc, folders, line, &prepared)
 }
 
-/// The end where the words ask for no run: help, a refusal, or no memory.
+/// The end where the words ask for no run: help, the version, a refusal, or no memory.
 fn end_at_line<W: Write, E: Write>(fault: &Error, out: &mut W, err: &mut E) -> u8
     ensures { EndsBy (λ status. status ≡ 1) (kind_of fault.now) result }
 {

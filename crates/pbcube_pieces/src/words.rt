@@ -11,8 +11,8 @@ use clap::{ArgMatches, Error};
 use pb_line::format_of;
 use std::alloc::Global;
 
-/// Reads the words, the program's name first. Fails where clap refuses them, where they ask for help, where the format has
-/// another name, and for want of memory, with the kind that says which.
+/// Reads the words, the program's name first. Fails where clap refuses them, where they ask for help or the version, where the
+/// format has another name, and for want of memory, with the kind that says which.
 pub fn line<'a>(alloc: Global, words: &'a [&'a str]) -> Result<Line<'a>, Error>
     ensures line { IfOk result (IsLineOf (matches_of pbcube_pieces (map (λ word. word.now) words.now))) }
     ensures accepted { IfOk result (λ line. fault_of pbcube_pieces (map (λ word. word.now) words.now) ≡ []) }

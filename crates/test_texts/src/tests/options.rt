@@ -73,6 +73,7 @@ Options:
       --split <K>        the split variables [default: 0]
       --cubes <FILE>     the cubes
   -h, --help             Print help (see more with '--help')
+  -V, --version          Print version
 ";
 
 // What help says of each option and of the program itself is what was given, the longer texts at `--help` alone.

@@ -1,6 +1,5 @@
-//! Reads a text from standard input and says on standard error how long that took. The argument is its format: `cnf`, `icnf`,
+//! Reads a text from standard input and says on standard error how long that took. The word is its format: `cnf`, `icnf`,
 //! `cubes`, and else OPB.
-#![tactic(auto)]
 
 use pb_inst::MAX_VARS;
 use pb_read::{Format, ReadFault, read, read_cubes};
@@ -41,15 +40,14 @@ fn read_sizes(alloc: Global, name: &str, text: &[u8]) -> Result<Sizes, ReadFault
     })
 }
 
-fn main(rt: HostRuntime) -> io::Result<()> {
-    let mut args = env::args(&rt)?;
-    args.next();
-    let name = args.next().unwrap_or(String::new(rt.alloc()));
+/// Reads standard input in the format that the next word names.
+pub fn run(rt: &HostRuntime, words: &mut env::Args) -> io::Result<()> {
+    let name = words.next().unwrap_or(String::new(rt.alloc()));
     let mut text = Vec::new(rt.alloc());
     rt.stdin().read_to_end(&mut text)?;
-    let start = Instant::now(&rt)?;
+    let start = Instant::now(rt)?;
     let answer = read_sizes(rt.alloc(), &name, &text);
-    let seconds = start.elapsed(&rt)?.as_secs_f64();
+    let seconds = start.elapsed(rt)?.as_secs_f64();
     let bytes = text.len();
     match answer {
         Ok(

@@ -1,12 +1,9 @@
 //! Builds an engine over an instance and runs rounds of assumptions, propagation, bound and undo on it. Counts go to standard
 //! output, seconds to standard error. The words are a case (`random`, `chain` or `wide`, or `opb` for a text from standard
 //! input), the number of variables of a case that is made here, and the number of rounds (none: building the normal form alone).
-#![tactic(auto)]
 
-mod instances;
-mod rounds;
-
-use crate::rounds::{Counts, Course, run};
+use crate::instances;
+use crate::rounds::{self, Counts, Course};
 use anyhow::Context;
 use pb_engine::{Count, Engine};
 use pb_inst::{Instance, Memory};
@@ -59,7 +56,7 @@ fn run_rounds<C: Count>(
 ) -> Result<Measured, Memory> {
     let mut engine = Engine::new(rt.alloc(), form, &[])?;
     let built = start.elapsed(rt);
-    Ok((built, run(&mut engine, course, rounds)))
+    Ok((built, rounds::run(&mut engine, course, rounds)))
 }
 
 /// Runs the rounds on an engine over the normal form, and says what they did and how long that took.
@@ -103,13 +100,12 @@ fn measure_case(
     }
 }
 
-fn main(rt: HostRuntime) -> anyhow::Result<()> {
-    let mut words = env::args(&rt)?;
-    words.next();
+/// Measures an engine on the case that the next words name.
+pub fn run(rt: &HostRuntime, words: &mut env::Args) -> anyhow::Result<()> {
     let case = words.next().context("a case")?;
-    let vars = number(&mut words)?;
-    let rounds = number(&mut words)?;
+    let vars = number(words)?;
+    let rounds = number(words)?;
     let mut text = Vec::new(rt.alloc());
     rt.stdin().read_to_end(&mut text)?;
-    measure_case(&rt, &case, vars, rounds, &text)
+    measure_case(rt, &case, vars, rounds, &text)
 }

@@ -1,8 +1,7 @@
 //! Searches an instance as one piece and says on standard error what it found, how many decisions that took, and how
-//! long. The first argument is a file of clauses, where its name ends in `.cnf`, and else of linear constraints. A second
+//! long. The first word is a file of clauses, where its name ends in `.cnf`, and else of linear constraints. A second
 //! one is a number k: the instance is then searched in the pieces of its split over k variables. With `anew` as the third
 //! one each piece has a search of its own, which knows nothing of the conflicts and multipliers of the pieces before.
-#![tactic(auto)]
 
 ghost use Rattle.std.specs.Prelude.{◌≡◌, ◌+◌, ◌≤◌, false, length, IfSome};
 
@@ -150,7 +149,7 @@ fn print(rt: &HostRuntime, measured: &Measured) -> io::Result<()> {
 }
 
 /// Reads and searches the file.
-fn run(rt: &HostRuntime, name: &str, k: u32, anew: bool) -> io::Result<()> {
+fn search_file(rt: &HostRuntime, name: &str, k: u32, anew: bool) -> io::Result<()> {
     let Some(instance) = read(rt, name) else {
         return eprintln!(rt; "{name} cannot be read");
     };
@@ -168,12 +167,11 @@ fn number(word: Option<String>) -> u32 {
     }
 }
 
-fn main(rt: HostRuntime) -> io::Result<()> {
-    let mut args = env::args(&rt)?;
-    args.next();
-    let Some(name) = args.next() else {
-        return eprintln!(rt; "bench_search FILE [K [anew]]");
+/// Searches the file that the next word names, as those after it say.
+pub fn run(rt: &HostRuntime, words: &mut env::Args) -> io::Result<()> {
+    let Some(name) = words.next() else {
+        return eprintln!(rt; "bench search FILE [K [anew]]");
     };
-    let k = number(args.next());
-    run(&rt, &name, k, args.next().is_some())
+    let k = number(words.next());
+    search_file(rt, &name, k, words.next().is_some())
 }
