@@ -10,7 +10,7 @@ the form of a must-fail edit. The guards are
     test CRATE NAME  the tests of that crate whose names contain NAME fail (`rt try --test`, no proof)
     work NAME ..     on one of these instances, or of all, a run takes more steps or requests than tests/work.py allows (no proof)
     requests NAME    on this instance a run makes more requests for memory than tests/work.py allows (no proof)
-    program SCRIPT   the program, built without proof, fails in tests/SCRIPT.py: examples, budgets, faults, threads or memory
+    program SCRIPT   the program, built without proof, fails in tests/SCRIPT.py: examples, texts, budgets, faults, threads or memory
     none             nothing refuses it, and the plant says why that is right
 
 With no names all are planted: hours, so this is no part of the gate. `rt check` of each crate beforehand saves most of that. The

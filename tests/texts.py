@@ -36,6 +36,7 @@ FEWEST_OF_A_STATUS = 100  # so many of each width are feasible at least, and so 
 CHANGES = {small: [(1, 0), (1 << 70, 0), (1, 1 << 70), (1, -(1 << 70))], large: [(1 << 63, 0)]}
 SECONDS = 60  # after which a run is taken to hang
 SHOWN = 20  # complaints at most
+QUIET = {"stdin": subprocess.DEVNULL, "stdout": subprocess.PIPE, "stderr": subprocess.DEVNULL}
 MOST_BYTES = 200  # of a text that are shown
 
 
@@ -125,7 +126,8 @@ def optima(width):
         feasible += report.startswith("o ")
         yield Case("opb", instance.text().encode(), report, divisions([split], [1, 3]), cubes)
         for scale, shift in CHANGES[width] if number < CHANGED else []:
-            yield Case("opb", changed(instance, scale, shift), changed_report(report, scale, shift), divisions([split], [1, 2]), cubes)
+            text, changed_report = changed(instance, scale, shift), with_cost(report, scale, shift)
+            yield Case("opb", text, changed_report, divisions([split], [1, 2]), cubes)
     if not FEWEST_OF_A_STATUS <= feasible <= INSTANCES - FEWEST_OF_A_STATUS:
         sys.exit(f"texts: {feasible} of {INSTANCES} instances are feasible")
 
@@ -137,7 +139,8 @@ def changed(instance, scale, shift):
     return replace(scaled, objective=(*beside, *scaled.objective)).text().encode()
 
 
-def changed_report(report, scale, shift):
+def with_cost(report, scale, shift):
+    """The report with its cost changed alike."""
     return re.sub(r"^o (.+)$", lambda line: f"o {scale * int(line[1]) + shift}", report, flags=re.MULTILINE)
 
 
@@ -152,7 +155,7 @@ def judged(program, folder, number, case):
     wrong = []
     for words in case.divisions:
         command = [program, "--format", case.format, *words, *files]
-        ended = subprocess.run(command, stdin=subprocess.DEVNULL, stdout=subprocess.PIPE, stderr=subprocess.DEVNULL, timeout=SECONDS)
+        ended = subprocess.run(command, **QUIET, timeout=SECONDS)
         if (ended.stdout, ended.returncode) != (case.report.encode(), status):
             said = f"{' '.join(words)}: {ended.stdout[:MOST_BYTES]} with {ended.returncode}"
             wrong.append(f"{case.text[:MOST_BYTES]} {(case.cubes or b'')[:MOST_BYTES]} {said}")
