@@ -20,8 +20,9 @@ from pathlib import Path
 
 sys.dont_write_bytecode = True
 from draws import drawn, large, small
-from examples import STATUSES, WORKERS, built
+from examples import WORKERS
 from formats import Refused, read, read_cubes
+from lib import PROCESSORS, STATUSES, built
 from worked_texts import BAD_SPLIT, BEGINNINGS, CONTRADICTION, COVER, COVERED, CUBE_FILES, DIVIDED, LONG, MANY_CUBES, SPOILED
 from worked_texts import SPOILED_CUBES, UNCHANGED, WORKED
 
@@ -165,7 +166,7 @@ def judged(program, folder, number, case):
 def main(words):
     program = os.path.abspath((words or built())[0])
     families = (longest(), worked(), beginnings(), unchanged(), spoiled(), optima(small), optima(large))  # the slowest runs first
-    with tempfile.TemporaryDirectory() as folder, ThreadPoolExecutor() as pool:
+    with tempfile.TemporaryDirectory() as folder, ThreadPoolExecutor(PROCESSORS) as pool:
         cases = enumerate(itertools.chain(*families))
         jobs = [pool.submit(judged, program, Path(folder), number, case) for number, case in cases]
         results = [job.result() for job in jobs]
