@@ -34,6 +34,7 @@ STEPS = [
     Step("joins", "tests/joins.py"),
     Step("ways", "tests/ways.py", after="library"),
     Step("budgets", "tests/budgets.py"),
+    Step("texts", "tests/texts.py"),
     Step("faults", "tests/faults.py"),
     Step("memory", "tests/memory.py"),
     Step("pieces", "tests/pieces.py"),

@@ -9,7 +9,7 @@ to 20, and with some of them in pieces and with two workers. The numbers of some
 with `s SATISFIABLE` the values must be feasible and the `o` line their cost; `s UNKNOWN` stands alone. With one worker a greater
 budget never does worse, and once it is enough it stays so.
 """
-import itertools
+import operator
 import random
 import sys
 import tempfile
@@ -24,7 +24,7 @@ INSTANCES = 300
 SCALE = 1 << 70  # the numbers of every third instance are multiplied by it, so that 64 bits do not hold its sums
 BUDGETS = range(21)
 AMPLE = 1000  # more than any of these instances needs
-HOLDS = {">=": lambda sum, bound: sum >= bound, "<=": lambda sum, bound: sum <= bound, "=": lambda sum, bound: sum == bound}
+HOLDS = {">=": operator.ge, "<=": operator.le, "=": operator.eq}
 UNKNOWN = "s UNKNOWN\n"
 
 
@@ -67,19 +67,27 @@ class Instance:
     def is_feasible(self, values):
         return all(HOLDS[relation](value(terms, values), bound) for terms, relation, bound in self.constraints)
 
+    def least(self):
+        """The cost and the values of the first of all assignments that are feasible, by a listing; none where none is."""
+        places = range(1 << self.variables)
+        for terms, relation, bound in self.constraints:
+            row, holds = sums(terms, self.variables), HOLDS[relation]
+            places = [place for place in places if holds(row[place], bound)]
+        costs = sums(self.objective or (), self.variables)
+        first = min(places, key=costs.__getitem__, default=None)
+        return None if first is None else (costs[first], [first >> behind & 1 for behind in reversed(range(self.variables))])
+
     def report(self):
         """The whole answer, by a listing of all assignments."""
-        every = itertools.product((False, True), repeat=self.variables)
-        least = min((it for it in every if self.is_feasible(it)), key=lambda it: (self.cost(it), it), default=None)
+        least = self.least()
         if least is None:
             return "s UNSATISFIABLE\n"
-        signs = ["" if true else "-" for true in least]
+        cost, values = least
+        signs = ["" if true else "-" for true in values]
         if self.is_cnf:
             return "s SATISFIABLE\nv" + "".join(f" {sign}{i}" for i, sign in enumerate(signs, 1)) + " 0\n"
-        values = "v" + "".join(f" {sign}x{i}" for i, sign in enumerate(signs, 1)) + "\n"
-        if self.objective is None:
-            return "s SATISFIABLE\n" + values
-        return f"o {self.cost(least)}\ns OPTIMUM FOUND\n{values}"
+        line = "v" + "".join(f" {sign}x{i}" for i, sign in enumerate(signs, 1)) + "\n"
+        return "s SATISFIABLE\n" + line if self.objective is None else f"o {cost}\ns OPTIMUM FOUND\n{line}"
 
 
 def written(terms):
@@ -88,6 +96,15 @@ def written(terms):
 
 def value(terms, values):
     return sum(coefficient for coefficient, literal in terms if values[abs(literal) - 1] == (literal > 0))
+
+
+def sums(terms, variables):
+    """The value of the terms under each assignment, in lexicographic order."""
+    sums = [0]
+    for variable in range(1, variables + 1):
+        steps = [sum(coefficient for coefficient, it in terms if it == literal) for literal in (-variable, variable)]
+        sums = [it + step for it in sums for step in steps]
+    return sums
 
 
 def instances(count=INSTANCES):

@@ -10,8 +10,8 @@ the form of a must-fail edit. Nothing is proved: a plant is a bug that no contra
     test CRATE NAME  the tests of that crate whose names contain NAME fail (`rt try --test`)
     work NAME ..     on one of these instances, or of all, a run takes more steps or requests than tests/work.py allows
     requests NAME    on this instance a run makes more requests for memory than tests/work.py allows
-    program SCRIPT   the program, built without proof, fails in tests/SCRIPT.py: examples, commands, budgets, faults, threads or
-                     memory; a plant in another program than pbcube is tried in that one
+    program SCRIPT   the program, built without proof, fails in tests/SCRIPT.py: examples, commands, texts, budgets, faults, threads
+                     or memory; a plant in another program than pbcube is tried in that one
 
 With no names all are planted: an hour or more, so this is no part of the gate. The programs want a C compiler. With --check
 nothing is planted: it looks only whether each plant still can be, and whether its guard is there, which the gate asks.

@@ -1,23 +1,15 @@
 //! One run over readers and a writer, and what the tests expect of it.
 
 mod alone;
-mod beginnings;
 mod budgets;
 mod cases;
 mod devices;
-mod division;
-mod draws;
 mod failing_inputs;
 mod failing_outputs;
 mod fixing;
-mod largest_inputs;
+mod gates;
 mod limits;
-mod optima;
-mod oracle;
 mod refused_memory;
-mod reports;
-mod scales;
-mod spoiled_texts;
 mod turns;
 mod workers;
 
@@ -28,11 +20,8 @@ use std::io::{Empty, Read, Write};
 use std::process::Abort;
 use std::thread::Threads;
 
-/// The numbers of workers for which no report changes.
-const WORKERS: [u32; 4] = [1, 2, 3, 64];
-
 /// How a run ended, and which devices have failed in it.
-#[derive(Clone, Copy, Debug, PartialEq, Eq)]
+#[derive(Clone, Copy, PartialEq, Eq)]
 struct Ended {
     answer: Result<Ran, RunFault>,
     input_failed: bool,
@@ -67,17 +56,6 @@ impl Ended {
     }
 }
 
-/// What a run is asked for.
-#[derive(Clone, Copy, Debug)]
-struct Asked<'a> {
-    format: Format,
-    text: &'a [u8],
-    cubes: Option<&'a [u8]>,
-    workers: u32,
-    split: u32,
-    nodes: Option<u64>,
-}
-
 fn options(rt: &impl Abort, format: Format, workers: u32, split: u32) -> Options {
     Options {
         format,
@@ -87,32 +65,20 @@ fn options(rt: &impl Abort, format: Format, workers: u32, split: u32) -> Options
     }
 }
 
-/// Runs as asked, and compares the report and the status with these, where no piece is to be cut.
-fn assert_report<R: Abort + Threads + Sync>(
+/// Runs over these readers, and compares how the run ended and what it wrote. The number tells which run differs.
+fn assert_run<R: Abort + Threads + Sync, I: Read + Drop, C: Read + Drop>(
     rt: &R,
     alloc: Global,
-    asked: Asked<'_>,
-    report: &[u8],
-    status: Status,
-) {
-    assert_ended(rt, alloc, asked, report, Ended::reported(status));
-}
-
-/// Runs as asked, and compares the report and the end with these. Where they differ it tells how the text begins.
-fn assert_ended<R: Abort + Threads + Sync>(
-    rt: &R,
-    alloc: Global,
-    asked: Asked<'_>,
-    report: &[u8],
-    want: Ended,
+    input: I,
+    cubes: Option<C>,
+    options: Options,
+    (ended, report): (Ended, &[u8]),
+    number: usize,
 ) {
     let mut written = Vec::new(alloc);
-    let mut options = options(rt, asked.format, asked.workers, asked.split);
-    options.nodes = asked.nodes;
-    let ended = run_on(rt, alloc, asked.text, asked.cubes, options, &mut written);
-    let beginning = asked.text.get(..200).unwrap_or(asked.text);
-    assert_eq!(rt; ended, want, "{beginning:?}, {options:?}");
-    assert_eq!(rt; written.as_slice(), report, "{beginning:?}, {options:?}");
+    let answered = run_on(rt, alloc, input, cubes, options, &mut written);
+    assert!(rt; answered == ended, "the end of run {number}");
+    assert!(rt; written.as_slice() == report, "the report of run {number}");
 }
 
 /// One run over these readers and this writer. All tests call `run` here.

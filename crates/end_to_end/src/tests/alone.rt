@@ -3,7 +3,25 @@
 use pb_solve::{Device, Format, Ran, RunFault, Status, run_alone};
 use std::alloc::Global;
 
-/// What a run alone with this budget answers on one constraint that asks for a decision.
+/// A budget, and what a run alone answers with it on one constraint that asks for a decision. Without a decision nothing is
+/// found, and the run says so; without a budget it ends with the least cost.
+const ANSWERS: [(Option<u64>, Ran); 2] = [
+    (
+        Some(0),
+        Ran {
+            status: Status::Unknown,
+            cut: true,
+        },
+    ),
+    (
+        None,
+        Ran {
+            status: Status::Optimum,
+            cut: false,
+        },
+    ),
+];
+
 fn alone(alloc: Global, nodes: Option<u64>) -> Result<Ran, RunFault> {
     let text: &[u8] = b"min: 1 x1 1 x2 ;\n1 x1 1 x2 >= 1 ;\n";
     let mut input = Device::new(text);
@@ -11,17 +29,9 @@ fn alone(alloc: Global, nodes: Option<u64>) -> Result<Ran, RunFault> {
     run_alone(alloc, &mut input, Format::Opb, nodes, &mut out)
 }
 
-// Without a decision nothing is found, and the run says so; without a budget it ends with the least cost.
 #[test]
 fn a_run_alone_goes_as_far_as_its_budget(rt: HostRuntime) {
-    let cut = Ran {
-        status: Status::Unknown,
-        cut: true,
-    };
-    let whole = Ran {
-        status: Status::Optimum,
-        cut: false,
-    };
-    assert_eq!(rt; alone(rt.alloc(), Some(0)), Ok(cut));
-    assert_eq!(rt; alone(rt.alloc(), None), Ok(whole));
+    for (nodes, ran) in &ANSWERS {
+        assert!(rt; alone(rt.alloc(), *nodes) == Ok(*ran));
+    }
 }

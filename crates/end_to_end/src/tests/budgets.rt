@@ -1,7 +1,7 @@
 //! Runs with a budget of decisions: what they still show, and what they say where a piece was cut.
 
-use super::cases::{CONTRADICTION, COVER, COVER_TEXT, Case, NO_HEADER, PRODUCT};
-use super::{Asked, Ended, assert_ended};
+use super::cases::{CLAUSE_AND_CUBE, CONTRADICTION, COVER, COVER_TEXT, Case, NO_HEADER, PRODUCT};
+use super::{Ended, assert_run, options};
 use pb_solve::{Format, Status};
 
 /// A case whose report and status are those of a run with this budget in each piece, and whether a piece is cut in it.
@@ -18,7 +18,7 @@ const FREE_PAIR: &[u8] = b"min: 1 x1 1 x2 ;\n1 x1 1 x2 >= 0 ;\n";
 /// Clauses of which one variable stands in both.
 const TWO_CLAUSES: &[u8] = b"p cnf 3 2\n1 2 0\n2 3 0\n";
 
-const CASES: [BudgetCase; 14] = [
+const CASES: [BudgetCase; 15] = [
     // Each of two pieces has the budget for itself: a decision in either ends it, and nothing remains.
     BudgetCase {
         case: Case {
@@ -114,6 +114,12 @@ const CASES: [BudgetCase; 14] = [
         nodes: 1000,
         cut: false,
     },
+    BudgetCase {
+        case: CLAUSE_AND_CUBE,
+        cubes: None,
+        nodes: 1000,
+        cut: false,
+    },
     // The piece of the cube is one assignment, which is found, and the remainder is cut. So the order of decisions does not
     // matter.
     BudgetCase {
@@ -166,21 +172,19 @@ const CASES: [BudgetCase; 14] = [
 
 #[test]
 fn each_piece_is_searched_as_far_as_the_budget_goes(rt: HostRuntime) {
-    for BudgetCase {
-        case,
-        cubes,
-        nodes,
-        cut,
-    } in &CASES {
-        let asked = Asked {
-            format: case.format,
-            text: case.text,
-            cubes: *cubes,
-            workers: 1,
-            split: 0,
-            nodes: Some(*nodes),
-        };
-        let want = Ended::with_budget(case.status, *cut);
-        assert_ended(&rt, rt.alloc(), asked, case.report, want);
+    for (i, budget) in CASES.iter().enumerate() {
+        let case = &budget.case;
+        let mut options = options(&rt, case.format, 1, 0);
+        options.nodes = Some(budget.nodes);
+        let expected = (Ended::with_budget(case.status, budget.cut), case.report);
+        assert_run(
+            &rt,
+            rt.alloc(),
+            case.text,
+            budget.cubes,
+            options,
+            expected,
+            i,
+        );
     }
 }

@@ -2,95 +2,66 @@
 
 use super::cases::{CASES, CLAUSE_AND_CUBE, COVER, Case, NO_HEADER, PRODUCT};
 use super::devices::{Broken, Failing, KINDS, Resumed};
-use super::{Ended, options, run_on};
+use super::{Ended, assert_run, options, run_on};
 use pb_solve::{Format, Options, RunFault, Status};
 use std::alloc::Global;
 use std::io::{Empty, ErrorKind, Read};
 use std::process::Abort;
-use std::test::Fail;
 use std::thread::Threads;
 
-/// Runs over these readers, and compares how the run ended and what it wrote. The number tells which run differs.
-fn assert_run<R: Abort + Threads + Sync, I: Read + Drop, C: Read + Drop>(
+/// Runs the case over these readers, of which one fails where there is a fault: then nothing was written, and otherwise the
+/// report of the case was. The number tells which run differs.
+fn assert_read<R: Abort + Threads + Sync, I: Read + Drop, C: Read + Drop>(
     rt: &R,
     alloc: Global,
-    input: I,
-    cubes: Option<C>,
+    case: &Case,
     options: Options,
-    expected: Expected,
+    (input, cubes): (I, Option<C>),
+    fault: Option<RunFault>,
     number: usize,
 ) {
-    let mut written = Vec::new(alloc);
-    let ended = run_on(rt, alloc, input, cubes, options, &mut written);
-    assert_eq!(rt; ended, expected.ended, "run {number}");
-    assert_eq!(rt; written.as_slice(), expected.report, "run {number}");
+    let expected = match fault {
+        None => (Ended::reported(case.status), case.report),
+        Some(fault) => (Ended::failed(fault), b"".as_slice()),
+    };
+    assert_run(rt, alloc, input, cubes, options, expected, number);
 }
 
-/// How a run is to end, and what it is to write.
-#[derive(Clone, Copy)]
-struct Expected {
-    ended: Ended,
-    report: &'static [u8],
-}
-
-impl Expected {
-    fn reported(case: &Case) -> Expected {
-        Expected {
-            ended: Ended::reported(case.status),
-            report: case.report,
-        }
-    }
-
-    /// A read fault, after which nothing was written.
-    fn failed(fault: RunFault) -> Expected {
-        Expected {
-            ended: Ended::failed(fault),
-            report: b"",
-        }
+/// A reader that gives so many bytes a read, and fails after so many reads.
+fn failing(text: &'static [u8], step: usize, calls_left: usize) -> Failing<&'static [u8]> {
+    Failing {
+        inner: text,
+        step,
+        calls_left,
     }
 }
 
-/// Runs the case with an input that gives so many bytes a read and fails after so many reads.
-fn assert_input_for_reads<R: Abort + Threads + Sync>(
+/// How many reads a text takes with so many bytes a read. The last one finds the end.
+fn reads_of(text: &[u8], step: usize) -> usize {
+    text.len().div_ceil(step.max(1)).saturating_add(1)
+}
+
+/// Runs the case with an input that gives so many bytes a read and fails after each number of reads.
+fn assert_inputs<R: Abort + Threads + Sync>(
     rt: &R,
     alloc: Global,
     case: &Case,
     (step, workers): (usize, u32),
-    calls_left: usize,
-    fails: bool,
 ) {
-    let input = Failing {
-        inner: case.text,
-        step,
-        calls_left,
-    };
-    let expected = if fails {
-        Expected::failed(RunFault::ReadInput)
-    } else {
-        Expected::reported(case)
-    };
     let options = options(rt, case.format, workers, 0);
-    assert_run(
-        rt,
-        alloc,
-        input,
-        None::<Empty>,
-        options,
-        expected,
-        calls_left,
-    );
+    let reads = reads_of(case.text, step);
+    for calls_left in 0..reads.saturating_add(2) {
+        let readers = (failing(case.text, step, calls_left), None::<Empty>);
+        let fault = (calls_left < reads).then_some(RunFault::ReadInput);
+        assert_read(rt, alloc, case, options, readers, fault, calls_left);
+    }
 }
 
 #[test]
 fn inputs_that_fail_at_any_read(rt: HostRuntime) {
     for case in &CASES {
-        for (step, workers) in [(1usize, 2), (2, 2), (7, 2), (9, 1), (32, 2)] {
-            // The last read finds the end.
-            let reads = case.text.len().div_ceil(step) + 1;
-            for calls_left in 0..reads + 2 {
-                let fails = calls_left < reads;
-                assert_input_for_reads(&rt, rt.alloc(), case, (step, workers), calls_left, fails);
-            }
+        for reading in [(1usize, 2), (2, 2), (7, 2), (9, 1), (32, 2)] {
+            assert_inputs(&rt, rt.alloc(), case, reading);
         }
     }
 }
@@ -110,18 +81,17 @@ fn fails_on<R: Abort + Threads + Sync>(
     let mut written = Vec::new(alloc);
     let options = options(rt, Format::Opb, 2, 0);
     let ended = run_on(rt, alloc, input, None::<Empty>, options, &mut written);
-    if ended == Ended::failed(RunFault::ReadInput) {
-        assert_eq!(rt; written.len(), 0);
-        return true;
-    }
-    assert_eq!(rt; ended, Ended::reported(Status::Satisfiable));
-    assert_eq!(rt; written.as_slice(), b"s SATISFIABLE\nv\n".as_slice());
-    false
+    let fails = ended == Ended::failed(RunFault::ReadInput);
+    let report: &[u8] = if fails { b"" } else { b"s SATISFIABLE\nv\n" };
+    assert!(rt; fails || ended == Ended::reported(Status::Satisfiable));
+    assert!(rt; written.as_slice() == report);
+    fails
 }
 
 #[test]
-fn a_long_input_that_fails_at_any_read(rt: HostRuntime) -> Result<(), Fail> {
-    let text = b"* a comment\n".repeat(rt.alloc(), 20_000)?;
+fn a_long_input_that_fails_at_any_read(rt: HostRuntime) {
+    let text = b"* a comment\n".repeat(rt.alloc(), 20_000);
+    let text = text.expect(&rt, "a long text");
     let mut last_failing = 0;
     for calls_left in 0..20usize {
         if fails_on(&rt, rt.alloc(), &text, calls_left) {
@@ -132,119 +102,89 @@ fn a_long_input_that_fails_at_any_read(rt: HostRuntime) -> Result<(), Fail> {
         0 < last_failing && last_failing < 19,
         "the last read that fails is {last_failing}"
     );
-    Ok(())
 }
 
 const CUBE_FILE: &[u8] = b"c a note\na 1 0\na -1 2 0\n";
 
-/// Runs the case with a cube file that gives so many bytes a read and fails after so many reads.
-fn assert_cubes_for_reads<R: Abort + Threads + Sync>(
+/// Runs the case with a cube file that gives so many bytes a read and fails after each number of reads.
+fn assert_cube_files<R: Abort + Threads + Sync>(
     rt: &R,
     alloc: Global,
     case: &Case,
     (step, workers, split): (usize, u32, u32),
-    calls_left: usize,
-    fails: bool,
 ) {
-    let cubes = Failing {
-        inner: CUBE_FILE,
-        step,
-        calls_left,
-    };
-    let expected = if fails {
-        Expected::failed(RunFault::ReadCubes)
-    } else {
-        Expected::reported(case)
-    };
     let options = options(rt, case.format, workers, split);
-    assert_run(
-        rt,
-        alloc,
-        case.text,
-        Some(cubes),
-        options,
-        expected,
-        calls_left,
-    );
+    let reads = reads_of(CUBE_FILE, step);
+    for calls_left in 0..reads.saturating_add(2) {
+        let readers = (case.text, Some(failing(CUBE_FILE, step, calls_left)));
+        let fault = (calls_left < reads).then_some(RunFault::ReadCubes);
+        assert_read(rt, alloc, case, options, readers, fault, calls_left);
+    }
 }
 
 #[test]
 fn cube_files_that_fail_at_any_read(rt: HostRuntime) {
     for case in &[COVER, CLAUSE_AND_CUBE] {
-        for (step, workers, split) in [(1usize, 2, 1), (4, 1, 0)] {
-            // The last read finds the end.
-            let reads = CUBE_FILE.len().div_ceil(step) + 1;
-            for calls_left in 0..reads + 2 {
-                let fails = calls_left < reads;
-                assert_cubes_for_reads(
-                    &rt,
-                    rt.alloc(),
-                    case,
-                    (step, workers, split),
-                    calls_left,
-                    fails,
-                );
-            }
+        for reading in [(1usize, 2, 1), (4, 1, 0)] {
+            assert_cube_files(&rt, rt.alloc(), case, reading);
         }
     }
 }
 
-/// Runs over these readers, of which one fails, and expects that fault.
-fn assert_fault<R: Abort + Threads + Sync, I: Read + Drop, C: Read + Drop>(
-    rt: &R,
-    alloc: Global,
-    input: I,
-    cubes: Option<C>,
-    fault: RunFault,
-) {
+/// Runs with a fault of this kind in the input alone, in both, of which the input's is the first, and in the cube file alone.
+fn assert_faults<R: Abort + Threads + Sync>(rt: &R, alloc: Global, kind: ErrorKind) {
     let options = options(rt, COVER.format, 2, 0);
-    assert_run(rt, alloc, input, cubes, options, Expected::failed(fault), 0);
+    let input = Some(RunFault::ReadInput);
+    let readers = (Broken(kind), None::<Empty>);
+    assert_read(rt, alloc, &COVER, options, readers, input, 0);
+    let readers = (Broken(kind), Some(Broken(kind)));
+    assert_read(rt, alloc, &COVER, options, readers, input, 1);
+    let readers = (COVER.text, Some(Broken(kind)));
+    assert_read(
+        rt,
+        alloc,
+        &COVER,
+        options,
+        readers,
+        Some(RunFault::ReadCubes),
+        2,
+    );
 }
 
-/// With a fault of each kind in the input alone, in both, of which the input's is the first, and in the cube file alone.
 #[test]
 fn faults_of_any_kind(rt: HostRuntime) {
     for kind in &KINDS {
-        let (alloc, kind) = (rt.alloc(), *kind);
-        assert_fault(&rt, alloc, Broken(kind), None::<Empty>, RunFault::ReadInput);
-        assert_fault(
-            &rt,
-            alloc,
-            Broken(kind),
-            Some(Broken(kind)),
-            RunFault::ReadInput,
-        );
-        assert_fault(
-            &rt,
-            alloc,
-            COVER.text,
-            Some(Broken(kind)),
-            RunFault::ReadCubes,
-        );
+        assert_faults(&rt, rt.alloc(), *kind);
     }
 }
 
-/// Nothing fails, though the cube file would: it is not read.
+/// Nothing fails, though the cube file would, and the split is refused: neither is looked at.
 #[test]
 fn a_refused_input_leaves_the_cube_file(rt: HostRuntime) {
-    for (i, case) in [PRODUCT, NO_HEADER].iter().enumerate() {
-        let cubes = Some(Broken(ErrorKind::Other));
-        let options = options(&rt, case.format, 2, 1);
-        let expected = Expected::reported(case);
-        assert_run(&rt, rt.alloc(), case.text, cubes, options, expected, i);
+    for case in &[PRODUCT, NO_HEADER] {
+        let options = options(&rt, case.format, 2, 13);
+        let readers = (case.text, Some(Broken(ErrorKind::Other)));
+        assert_read(&rt, rt.alloc(), case, options, readers, None, 0);
     }
 }
 
 #[test]
 fn a_text_ends_at_its_first_end(rt: HostRuntime) {
-    for (i, case) in CASES.iter().enumerate() {
+    for case in &CASES {
         let input = Resumed {
             text: case.text,
             more: b"1 x1 x2",
             has_ended: false,
         };
         let options = options(&rt, case.format, 2, 0);
-        let expected = Expected::reported(case);
-        assert_run(&rt, rt.alloc(), input, None::<Empty>, options, expected, i);
+        assert_read(
+            &rt,
+            rt.alloc(),
+            case,
+            options,
+            (input, None::<Empty>),
+            None,
+            0,
+        );
     }
 }

@@ -5,19 +5,48 @@ use super::devices::{Broken, Failing, KINDS, KeepsBack};
 use super::{Ended, options, run_on};
 use pb_solve::RunFault;
 use std::alloc::Global;
-use std::io::Empty;
+use std::io::{Empty, Write};
 use std::process::Abort;
-use std::test::Fail;
 use std::thread::Threads;
 
-/// Runs the case with an output that takes so many bytes a call and fails after so many calls. A run whose output fails says
-/// so, and any other has written the report.
-fn run_for_calls<R: Abort + Threads + Sync>(
+/// Runs the case by so many workers with this output.
+fn run_into<R: Abort + Threads + Sync, W: Write + Drop>(
     rt: &R,
     alloc: Global,
     case: &Case,
-    step: usize,
     workers: u32,
+    out: W,
+) -> Ended {
+    let options = options(rt, case.format, workers, 0);
+    run_on(rt, alloc, case.text, None::<Empty>, options, out)
+}
+
+/// A run whose output fails says so, and any other has written the report. The number tells which run differs.
+fn assert_written(
+    rt: &impl Abort,
+    case: &Case,
+    fails: bool,
+    (ended, written): (Ended, &[u8]),
+    number: usize,
+) {
+    let want = if fails {
+        Ended::failed(RunFault::Write)
+    } else {
+        Ended::reported(case.status)
+    };
+    assert!(rt; ended == want, "the end of run {number}");
+    assert!(rt;
+        fails || written == case.report,
+        "the report of run {number}"
+    );
+}
+
+/// Runs the case with an output that takes so many bytes a call and fails after so many calls.
+fn assert_calls<R: Abort + Threads + Sync>(
+    rt: &R,
+    alloc: Global,
+    case: &Case,
+    (step, workers): (usize, u32),
     calls_left: usize,
     fails: bool,
 ) {
@@ -27,82 +56,76 @@ fn run_for_calls<R: Abort + Threads + Sync>(
         step,
         calls_left,
     };
-    let options = options(rt, case.format, workers, 0);
-    let ended = run_on(rt, alloc, case.text, None::<Empty>, options, out);
-    if fails {
-        assert_eq!(rt;
-            ended,
-            Ended::failed(RunFault::Write),
-            "at call {calls_left}"
+    let ended = run_into(rt, alloc, case, workers, out);
+    assert_written(rt, case, fails, (ended, &written), calls_left);
+}
+
+/// The same with each number of calls after which it may fail. The last call is the flush.
+fn assert_each_call<R: Abort + Threads + Sync>(
+    rt: &R,
+    alloc: Global,
+    case: &Case,
+    (step, workers): (usize, u32),
+) {
+    let writes = case.report.len().div_ceil(step.max(1));
+    for calls_left in 0..writes.saturating_add(3) {
+        assert_calls(
+            rt,
+            alloc,
+            case,
+            (step, workers),
+            calls_left,
+            calls_left <= writes,
         );
-    } else {
-        assert_eq!(rt; ended, Ended::reported(case.status), "at call {calls_left}");
-        assert_eq!(rt; written.as_slice(), case.report, "at call {calls_left}");
     }
 }
 
 #[test]
 fn outputs_that_fail_at_any_call(rt: HostRuntime) {
     for case in &CASES {
-        for (step, workers) in [(1usize, 2), (3, 1)] {
-            // The last call is the flush.
-            let writes = case.report.len().div_ceil(step);
-            for calls_left in 0..writes + 3 {
-                run_for_calls(
-                    &rt,
-                    rt.alloc(),
-                    case,
-                    step,
-                    workers,
-                    calls_left,
-                    calls_left <= writes,
-                );
-            }
-        }
+        assert_each_call(&rt, rt.alloc(), case, (1, 2));
+        assert_each_call(&rt, rt.alloc(), case, (3, 1));
     }
 }
 
+/// Runs the case with an output that has room for so many bytes.
+fn assert_room<R: Abort + Threads + Sync>(rt: &R, alloc: Global, case: &Case, length: usize) {
+    let mut room = vec![in alloc; 0u8; length].expect(rt, "room");
+    let ended = run_into(rt, alloc, case, 2, room.as_mut_slice());
+    let fails = length < case.report.len();
+    assert_written(rt, case, fails, (ended, &room), length);
+}
+
 #[test]
-fn outputs_that_take_no_more_bytes(rt: HostRuntime) -> Result<(), Fail> {
+fn outputs_that_take_no_more_bytes(rt: HostRuntime) {
     for case in &CASES {
         for length in 0..=case.report.len() {
-            let mut room = vec![in rt.alloc(); 0u8; length]?;
-            let out = room.as_mut_slice();
-            let options = options(&rt, case.format, 2, 0);
-            let ended = run_on(&rt, rt.alloc(), case.text, None::<Empty>, options, out);
-            if length < case.report.len() {
-                assert_eq!(rt; ended, Ended::failed(RunFault::Write), "{length} bytes");
-            } else {
-                assert_eq!(rt; ended, Ended::reported(case.status));
-                assert_eq!(rt; room.as_slice(), case.report);
-            }
+            assert_room(&rt, rt.alloc(), case, length);
         }
     }
-    Ok(())
 }
 
 #[test]
-fn outputs_with_a_fault_of_any_kind(rt: HostRuntime) -> Result<(), Fail> {
+fn outputs_with_a_fault_of_any_kind(rt: HostRuntime) {
     for kind in &KINDS {
-        let out = Broken(*kind);
-        let options = options(&rt, COVER.format, 2, 0);
-        let ended = run_on(&rt, rt.alloc(), COVER.text, None::<Empty>, options, out);
-        assert_eq!(rt; ended, Ended::failed(RunFault::Write));
+        let ended = run_into(&rt, rt.alloc(), &COVER, 2, Broken(*kind));
+        assert_written(&rt, &COVER, true, (ended, b""), 0);
     }
-    Ok(())
 }
 
-// Nothing of a report is left in an output that keeps back what is not flushed.
+/// Runs the case with an output that keeps back what is not flushed: nothing of a report is left in it.
+fn assert_flushed<R: Abort + Threads + Sync>(rt: &R, alloc: Global, case: &Case) {
+    let mut out = KeepsBack {
+        kept: Vec::new(alloc),
+        flushed: Vec::new(alloc),
+    };
+    let ended = run_into(rt, alloc, case, 2, &mut out);
+    assert_written(rt, case, false, (ended, &out.flushed), 0);
+}
+
 #[test]
 fn outputs_that_keep_back_what_is_not_flushed(rt: HostRuntime) {
     for case in &CASES {
-        let mut out = KeepsBack {
-            kept: Vec::new(rt.alloc()),
-            flushed: Vec::new(rt.alloc()),
-        };
-        let options = options(&rt, case.format, 2, 0);
-        let ended = run_on(&rt, rt.alloc(), case.text, None::<Empty>, options, &mut out);
-        assert_eq!(rt; ended, Ended::reported(case.status));
-        assert_eq!(rt; out.flushed.as_slice(), case.report);
+        assert_flushed(&rt, rt.alloc(), case);
     }
 }

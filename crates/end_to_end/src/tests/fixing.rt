@@ -5,7 +5,6 @@ use pb_inst::{Lit, Memory, Number};
 use pb_normal::{EitherWidth, Form, normalise};
 use pb_read::read_opb;
 use std::alloc::Global;
-use std::test::Fail;
 
 /// The last of many variables alone costs more than the limit leaves room for.
 const DEAR_LAST_VARIABLE: &[u8] = b"min: +1 x1 +1 x2 +10 x600 ;\n+1 x1 +1 x2 >= 1 ;\n";
@@ -29,14 +28,13 @@ fn first_fixed<C: Count>(
 
 // One call looks among the first 512 variables alone, and the next one goes on behind them.
 #[test]
-fn literals_of_late_variables_are_fixed(rt: HostRuntime) -> Result<(), Fail> {
+fn literals_of_late_variables_are_fixed(rt: HostRuntime) {
     let alloc = rt.alloc();
-    let instance = read_opb(alloc, DEAR_LAST_VARIABLE)?;
-    let normal = normalise(alloc, &instance)?;
+    let instance = read_opb(alloc, DEAR_LAST_VARIABLE).expect(&rt, "an instance");
+    let normal = normalise(alloc, &instance).expect(&rt, "a normal form");
     let fixed = match normal.form() {
-        EitherWidth::Narrow(form) => first_fixed(alloc, form)?,
-        EitherWidth::Wide(form) => first_fixed(alloc, form)?,
+        EitherWidth::Narrow(form) => first_fixed(alloc, form),
+        EitherWidth::Wide(form) => first_fixed(alloc, form),
     };
-    assert_eq!(rt; fixed, [None, Some((600, false))]);
-    Ok(())
+    assert!(rt; fixed.expect(&rt, "an engine") == [None, Some((600, false))]);
 }

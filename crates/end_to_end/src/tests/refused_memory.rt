@@ -3,9 +3,8 @@
 
 use super::cases::{CLAUSE_AND_CUBE, COVER, Case, NEGATIVE_COST};
 use super::{Ended, options, run_on};
-use pb_solve::Status;
+use pb_solve::{Device, Status, report_memory};
 use std::alloc::Global;
-use std::io::Empty;
 use std::process::Abort;
 use std::thread::Threads;
 
@@ -23,14 +22,20 @@ fn assert_answered_or_refused<R: Abort + Threads + Sync>(
     let mut room = [0u8; ROOM];
     let options = options(rt, case.format, 2, 1);
     let ended = run_on(rt, alloc, case.text, cubes, options, room.as_mut_slice());
-    let written = room.iter().take_while(|byte| **byte != 0).count();
-    let written = room.get(..written).unwrap_or(&[]);
-    if ended == Ended::reported(Status::Unknown) {
-        assert_eq!(rt; written, MEMORY_REPORT);
+    let is_refused = ended == Ended::reported(Status::Unknown);
+    let report = if is_refused {
+        MEMORY_REPORT
     } else {
-        assert_eq!(rt; ended, Ended::reported(case.status));
-        assert_eq!(rt; written, case.report);
-    }
+        case.report
+    };
+    assert!(rt; is_refused || ended == Ended::reported(case.status));
+    assert_begins(rt, &room, report);
+}
+
+/// Compares what was written into the room, up to its first 0, with this.
+fn assert_begins(rt: &impl Abort, room: &[u8], report: &[u8]) {
+    assert!(rt; room.starts_with(report));
+    assert!(rt; room.get(report.len()).copied() == Some(0));
 }
 
 #[test]
@@ -53,4 +58,12 @@ fn a_cube_file_with_a_long_cube(rt: HostRuntime) {
     // Seventeen literals, so the cube takes memory of its own.
     let file = b"a 1 1 1 1 1 1 1 1 1 1 1 1 1 1 1 1 -2 0\na 0\n".as_slice();
     assert_answered_or_refused(&rt, rt.alloc(), &COVER, Some(file));
+}
+
+#[test]
+fn a_report_of_want_of_memory(rt: HostRuntime) {
+    let mut room = [0u8; ROOM];
+    let mut out = Device::new(room.as_mut_slice());
+    assert!(rt; report_memory(&mut out) == Ok(Status::Unknown));
+    assert_begins(&rt, &room, MEMORY_REPORT);
 }

@@ -6,15 +6,16 @@ use pb_inst::{Assignment, Workers};
 use pb_search::Share;
 use pb_share::BoardShare;
 use std::alloc::Global;
-use std::test::Fail;
+use std::process::Abort;
 
 /// Whether the first of three workers, which claims a piece before each of its two borrows, is lent what this one offered.
-fn is_lent_between_claims(alloc: Global, offerer: u32) -> Result<bool, Fail>
+fn is_lent_between_claims(rt: &impl Abort, alloc: Global, offerer: u32) -> bool
     requires { offerer < 3 }
 {
-    let mut offer = Assignment::new(alloc, 1)?;
-    let mut row = Assignment::new(alloc, 1)?;
-    let (board, seat) = Board::new(alloc, Workers::new(3)?, 1)?;
+    let workers = Workers::new(3).expect(rt, "a number of workers");
+    let mut offer = Assignment::new(alloc, 1).expect(rt, "an assignment");
+    let mut row = Assignment::new(alloc, 1).expect(rt, "a row");
+    let (board, seat) = Board::new(alloc, workers, 1).expect(rt, "a board");
     let (seat, others) = board.split(seat, 1);
     offer.set(1, true);
     BoardShare::new(&board, others, offerer).offer(0, &offer);
@@ -23,15 +24,14 @@ fn is_lent_between_claims(alloc: Global, offerer: u32) -> Result<bool, Fail>
     let in_first_piece = share.borrow(1, &mut row) && row.get(1);
     share.claim();
     let in_second_piece = share.borrow(1, &mut row) && row.get(1);
-    Ok(in_first_piece || in_second_piece)
+    in_first_piece || in_second_piece
 }
 
 // A claim doesn't begin the turn anew: with short pieces, in each of which little is borrowed, every other row is read.
 #[test]
-fn a_claim_leaves_the_turn_of_the_rows(rt: HostRuntime) -> Result<(), Fail> {
+fn a_claim_leaves_the_turn_of_the_rows(rt: HostRuntime) {
     for offerer in 1..3 {
-        let is_lent = is_lent_between_claims(rt.alloc(), offerer)?;
+        let is_lent = is_lent_between_claims(&rt, rt.alloc(), offerer);
         assert!(rt; is_lent, "worker {offerer}");
     }
-    Ok(())
 }
