@@ -19,7 +19,7 @@ from dataclasses import dataclass
 from pathlib import Path
 
 sys.dont_write_bytecode = True
-from examples import STATUSES, TOP, built
+from lib import PROCESSORS, STATUSES, built
 
 INSTANCES = 300
 SCALE = 1 << 70  # the numbers of every third instance are multiplied by it, so that 64 bits do not hold its sums
@@ -186,7 +186,7 @@ def judged(program, folder, number, instance):
 
 def main(programs):
     runs, failed = 0, 0
-    with tempfile.TemporaryDirectory() as folder, ThreadPoolExecutor() as pool:
+    with tempfile.TemporaryDirectory() as folder, ThreadPoolExecutor(PROCESSORS) as pool:
         jobs = [pool.submit(judged, it, Path(folder), i, instance) for it in programs or built() for i, instance in enumerate(instances())]
         for job in jobs:
             count, wrong = job.result()

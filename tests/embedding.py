@@ -1,13 +1,14 @@
 #!/usr/bin/env python3
 """Builds the library for C, and calls it from C, C++, Rust and Python.
 
-    tests/embedding.py
+    tests/embedding.py [--as-built]
 
-The header must compile without a warning as C11 and as C++17. The calls of tests/calls.c and the planner of examples/c must run
-clean under AddressSanitizer and under valgrind, where there is one, with no memory left. With each request for memory refused
-(tests/refusing.c) so must both under AddressSanitizer, also with all that follow, and the planner under valgrind. The examples must print what stands beside them, the blocks of
-README.md one answer, and the documentation of the bindings what it shows. What ./install puts in place must serve a caller, and
-be taken away again. What has no compiler here is left out, with a word.
+With --as-built it takes the library that stands in c/out/. The header must compile without a warning as C11 and as C++17. The
+calls of tests/calls.c and the planner of examples/c must run clean under AddressSanitizer and under valgrind, where there is one,
+with no memory left. With each request for memory refused (tests/refusing.c) so must both under AddressSanitizer, also with all
+that follow, and the planner under valgrind. The examples must print what stands beside them, the blocks of README.md one answer,
+and the documentation of the bindings what it shows. What ./install puts in place must serve a caller, and be taken away again.
+What has no compiler here is left out, with a word.
 """
 import os
 import re
@@ -15,11 +16,12 @@ import shutil
 import subprocess
 import sys
 import tempfile
-from concurrent.futures import ThreadPoolExecutor
 from pathlib import Path
 
-TOP = Path(__file__).resolve().parent.parent
-PROGRAM = TOP / "crates" / "pbcube" / "out" / "pbcube"
+sys.dont_write_bytecode = True
+from lib import TOP, program, side_by_side
+
+PROGRAM = program("pbcube")
 LIBRARY = TOP / "c" / "out" / "libpbcube.a"
 PYTHON = TOP / "bindings" / "python"
 MANIFEST = TOP / "bindings" / "rust" / "Cargo.toml"
@@ -33,11 +35,16 @@ RUST_AROUND = "use pbcube::Solver;\nfn main() -> Result<(), pbcube::Error> {\n%s
 CARGO = '[package]\nname = "shown"\nversion = "0.1.0"\nedition = "2021"\n\n[dependencies]\npbcube = { path = "%s" }\n'
 
 
+def say(text):
+    """In one piece, since parts run side by side."""
+    sys.stdout.write(f"embedding: {text}\n")
+
+
 def compile_header(folder):
     """The header alone, in both languages."""
     for suffix, command in ((".c", ["cc", "-std=c11"]), (".cpp", ["c++", "-std=c++17"])):
         if not shutil.which(command[0]):
-            print(f"embedding: no {command[0]} here")
+            say(f"no {command[0]} here")
             continue
         source = folder / f"header{suffix}"
         source.write_text('#include "pbcube.h"\n#include "pbcube.h"\nint main(void) { return pbcube_name(0) == 0; }\n')
@@ -66,8 +73,7 @@ def refuse_each(command, ways, may_end):
         sys.exit(f"embedding: {command}: {ordinary.stdout}{ordinary.stderr}")
     requests = int(told[1])
     cases = [{"REFUSE_AT": str(at), **more} for more in ways for at in range(1, requests + 1)]
-    with ThreadPoolExecutor() as pool:
-        ends = list(pool.map(lambda case: run(command, **case), cases))
+    ends = side_by_side(lambda case: run(command, **case), cases)
     is_bad = lambda end: end.stderr or (end.returncode, end.stdout) not in may_end
     return requests, [f"{command}: {case}: {end.stdout}{end.stderr[-500:]}" for case, end in zip(cases, ends) if is_bad(end)]
 
@@ -84,55 +90,60 @@ def expected_of(name):
     return (TOP / "examples" / name).with_suffix(".expected").read_text()
 
 
+CALLS, PLANNER = TOP / "tests" / "calls.c", TOP / "examples" / "c" / "planner.c"
+SOURCES = {CALLS: [(0, "")], PLANNER: [(0, expected_of("c/planner")), (1, "no plan: Memory\n")]}  # and how they may end
+
+
 def sanitizers(folder):
     """The words that ask for AddressSanitizer, none where there is none."""
     probe = folder / "probe.c"
     probe.write_text("int main(void) { return 0; }\n")
     ended = run(["cc", *SANITIZERS, probe, "-o", folder / "probe"])
     if ended.returncode != 0:
-        print("embedding: no AddressSanitizer here")
+        say("no AddressSanitizer here")
         return []
     return SANITIZERS
 
 
-def from_c(folder):
-    calls, planner = TOP / "tests" / "calls.c", TOP / "examples" / "c" / "planner.c"
-    sources = {calls: [(0, "")], planner: [(0, expected_of("c/planner")), (1, "no plan: Memory\n")]}
+def under_sanitizer(folder):
     words, bad = sanitizers(folder), []
-    for source, may_end in sources.items():
-        program = link(folder / f"{source.stem}_asan", source, words)
-        requests, worse = refuse_each([program], [ALONE, AND_ALL_THAT_FOLLOW], may_end)
+    for source, may_end in SOURCES.items():
+        called = link(folder / f"{source.stem}_asan", source, words)
+        requests, worse = refuse_each([called], [ALONE, AND_ALL_THAT_FOLLOW], may_end)
         under = " under AddressSanitizer" if words else ""
-        print(f"embedding: {source.name}{under}, and with each of {requests} requests for memory refused")
+        say(f"{source.name}{under}, and with each of {requests} requests for memory refused")
         bad += worse
-    bad += differs([folder / "calls_asan", "limits"], "")
+    return bad + differs([folder / "calls_asan", "limits"], "")
+
+
+def under_valgrind(folder):
     if not shutil.which("valgrind"):
-        print("embedding: no valgrind here")
-        return bad
-    bad += differs([*WATCH, link(folder / "calls", calls, ["-g"])], "")
-    bad += refuse_each([*WATCH, link(folder / "planner", planner, ["-g"])], [ALONE], sources[planner])[1]
-    print("embedding: the calls, and the planner with each request refused, under valgrind")
+        say("no valgrind here")
+        return []
+    bad = differs([*WATCH, link(folder / "calls", CALLS, ["-g"])], "")
+    bad += refuse_each([*WATCH, link(folder / "planner", PLANNER, ["-g"])], [ALONE], SOURCES[PLANNER])[1]
+    say("the calls, and the planner with each request refused, under valgrind")
     return bad
 
 
-def from_python():
+def from_python(_):
     configurator = TOP / "examples" / "python" / "configurator.py"
     bad = differs([sys.executable, configurator], expected_of("python/configurator"))
     bad += differs([sys.executable, "-m", "doctest", PYTHON / "pbcube.py"], "")
-    print("embedding: the configurator and the documentation of the module, from Python")
+    say("the configurator and the documentation of the module, from Python")
     return bad
 
 
 def from_rust(folder):
     if not shutil.which("cargo"):
-        print("embedding: no cargo here, so nothing is called from Rust")
+        say("no cargo here, so nothing is called from Rust")
         return []
     cargo = {"CARGO_TARGET_DIR": str(folder / "cargo")}
     words = ["--offline", "--quiet", "--manifest-path", MANIFEST]
     bad = differs(["cargo", "run", *words, "--example", "adder"], expected_of("rust/adder"), **cargo)
     tested = run(["cargo", "test", *words], **cargo)
     bad += [] if tested.returncode == 0 else [f"cargo test: {tested.stdout[-2000:]}{tested.stderr[-1000:]}"]
-    print("embedding: the verification query, cubes on threads and the documentation of the crate, from Rust")
+    say("the verification query, cubes on threads and the documentation of the crate, from Rust")
     return bad
 
 
@@ -153,7 +164,7 @@ def shown_ways(folder):
         shutil.copy(folder / "shown.rs", crate / "src" / "main.rs")
         words = ["cargo", "run", "--offline", "--quiet", "--manifest-path", crate / "Cargo.toml"]
         bad += differs(words, "Optimum Some(3) Some([false, true, false])\n", CARGO_TARGET_DIR=str(folder / "cargo"))
-    print("embedding: the ways that README.md shows")
+    say("the ways that README.md shows")
     return bad
 
 
@@ -171,19 +182,21 @@ def installed(folder):
     bad += differs([TOP / "install", "--take-away", prefix], "", status=2)
     run([TOP / "install", "--remove", prefix])
     left = [str(it) for it in prefix.rglob("*") if it.is_file()]
-    print("embedding: ./install, a caller of what it put in place, and ./install --remove")
+    say("./install, a caller of what it put in place, and ./install --remove")
     return bad + [f"install --remove leaves {name}" for name in left]
 
 
 def main():
     if not shutil.which("cc"):
-        print("embedding: no C compiler here, so there is no library")
+        say("no C compiler here, so there is no library")
         return
-    subprocess.run([TOP / "c" / "build", "--as-built"], check=True, stdout=subprocess.DEVNULL)
-    with tempfile.TemporaryDirectory() as name:
+    if sys.argv[1:] != ["--as-built"]:
+        subprocess.run([TOP / "c" / "build", "--as-built"], check=True, stdout=subprocess.DEVNULL)
+    with tempfile.TemporaryDirectory(prefix="pbcube-embedding-") as name:
         folder = Path(name)
         compile_header(folder)
-        bad = from_c(folder) + from_python() + from_rust(folder) + shown_ways(folder) + installed(folder)
+        parts = (under_valgrind, under_sanitizer, from_rust, shown_ways, from_python, installed)
+        bad = [text for texts in side_by_side(lambda part: part(folder), parts) for text in texts]
     if bad:
         sys.exit("\n".join(bad))
 

@@ -13,18 +13,11 @@ import itertools
 import re
 import subprocess
 import sys
-from pathlib import Path
 
-TOP = Path(__file__).resolve().parent.parent
-FORMATS = ("opb", "cnf", "icnf")
+sys.dont_write_bytecode = True
+from lib import STATUSES, TOP, built, examples, side_by_side
+
 WORKERS = (1, 2, 3, 64)
-STATUSES = {"s SATISFIABLE": 10, "s UNSATISFIABLE": 20, "s OPTIMUM FOUND": 30}
-
-
-def built():
-    """The programs that the merge gate built: by LLVM, and by Rattle's own compiler where that compiles it."""
-    folder = TOP / "crates/pbcube/out"
-    return [folder / "pbcube", *folder.glob("pbcube.by-rattle")]
 
 
 def divisions(instance, out):
@@ -39,12 +32,10 @@ def divisions(instance, out):
 
 def example_rows():
     """For each example and division: the words, standard output, the first line of standard error, and the status."""
-    folder = TOP / "examples"
-    instances = sorted(it for it in folder.iterdir() if it.suffix[1:] in FORMATS)
-    expected = {it.with_suffix(".expected") for it in instances}
-    for file in expected.symmetric_difference(folder.glob("*.expected")):
+    expected = {it.with_suffix(".expected") for it in examples()}
+    for file in expected.symmetric_difference((TOP / "examples").glob("*.expected")):
         sys.exit(f"examples: {file.name} and its instance do not stand together")
-    for instance in instances:
+    for instance in examples():
         out = instance.with_suffix(".expected").read_text()
         status = next(STATUSES[line] for line in out.splitlines() if line in STATUSES)
         for division in divisions(instance, out):
@@ -89,14 +80,13 @@ def differences(program, words, out, complaint, status, text=b""):
 
 def main(programs):
     rows = [*example_rows(), *readme_rows(), *word_rows(), *piped_rows()]
-    failed = 0
-    for program in programs or built():
-        for row in rows:
-            found = differences(program, *row)
-            if found:
-                failed += 1
-                print(f"examples: {program} {' '.join(map(str, row[0]))}", *found, sep="\n  ")
-    print(f"examples and commands: {len(rows) * len(programs or built()) - failed} passed, {failed} failed")
+    runs = list(itertools.product(programs or built(), rows))
+    found = side_by_side(lambda run: differences(run[0], *run[1]), runs)
+    for (program, row), lines in zip(runs, found):
+        if lines:
+            print(f"examples: {program} {' '.join(map(str, row[0]))}", *lines, sep="\n  ")
+    failed = sum(map(bool, found))
+    print(f"examples and commands: {len(runs) - failed} passed, {failed} failed")
     return 1 if failed else 0
 
 

@@ -1,24 +1,24 @@
 #!/usr/bin/env python3
-"""Runs the built program with each of its calls to the system failing in turn, and judges how each run ends.
+"""Runs the built programs with each of their calls to the system failing in turn, and judges how each run ends.
 
     tests/faults.py [PROGRAM ..]
 
 Without a word it takes the programs that the merge gate built. The library faults.c is compiled by cc and preloaded. In turn,
 counting on until some runs had no fault: each request for memory is refused, alone and with all that follow; each thread is
 refused; each open, read and write fails; each read and write moves one byte. A run must end as without the fault, or with
-exactly the report of want of memory, or with status 1 and its line on standard error. Without a C compiler nothing is run.
+exactly the report of want of memory, or with status 1 and its line on standard error. Of pbcube_pieces and pbcube_join, which
+end with status 1 and a line where memory is refused, only the requests for memory are tried. Without a C compiler nothing is run.
 """
 import os
-import shutil
 import subprocess
 import sys
 import tempfile
-from concurrent.futures import ThreadPoolExecutor
 from dataclasses import dataclass
 from pathlib import Path
 
 sys.dont_write_bytecode = True
-from examples import TOP, built
+from commands import ROWS, name_of
+from lib import built, preloaded, side_by_side
 
 SECONDS = 60  # after which a run is taken to hang
 QUIET_RUNS = 3  # how many runs without a fault end the count, since the order of events is another in each run
@@ -40,6 +40,7 @@ FILES = {
     # seventeen literals, which take memory of their own
     "long.cubes": "c a note\na " + "1 " * 16 + "-2 0\na 0\n",
     "over.cubes": "a 4 0\n",
+    "tie-0.out": "o 3\ns OPTIMUM FOUND\nv -x1 x2 -x3\n",
 }
 
 
@@ -52,7 +53,12 @@ class Ended:
     status: int
 
 
-NO_MEMORY = Ended("c refused: Memory\ns UNKNOWN\n", "", 0)
+# how each program ends where memory is refused
+NO_MEMORY = {
+    "pbcube": Ended("c refused: Memory\ns UNKNOWN\n", "", 0),
+    "pbcube_pieces": Ended("", "pbcube_pieces: out of memory\n", 1),
+    "pbcube_join": Ended("", "pbcube_join: out of memory\n", 1),
+}
 CANNOT_WRITE = "pbcube: cannot write\n"
 
 
@@ -60,6 +66,7 @@ CANNOT_WRITE = "pbcube: cannot write\n"
 class Case:
     words: str
     ordinary: Ended
+    no_memory: Ended = NO_MEMORY["pbcube"]
 
     def files(self):
         return [word for word in self.words.split() if "." in word]
@@ -94,8 +101,12 @@ CASES = [
     Case("older.opb", Ended(f"c refused: Syntax at line 2\n{UNSUPPORTED}", "pbcube: line 2, column 1: '+1*x1'\n", 0)),
     Case("none.opb", Ended("", "pbcube: cannot read none.opb\n", 1)),
 ]
-# command lines, and their statuses: clap's texts are taken from a run without a fault
-COMMAND_LINES = {"--help": 0, "--split 13 tie.opb": 2}
+# command lines of each program, and their statuses: what is written is taken from a run without a fault
+COMMAND_LINES = {
+    "pbcube": {"--help": 0, "--split 13 tie.opb": 2},
+    "pbcube_pieces": {"--help": 0, "tie.opb": 2, "--out pieces product.opb": 1},
+    "pbcube_join": {"--help": 0, "--pieces 0 tie.opb": 2, "--pieces 1 tie.opb": 0, "--pieces 1 tie.opb tie-0.out": 30},
+}
 
 
 @dataclass(frozen=True)
@@ -108,7 +119,7 @@ class Fault:
     def may_end(self, case, ended):
         """Whether a run of the case in which the fault came may end so."""
         if self.kind == "memory":
-            return ended in (case.ordinary, NO_MEMORY) or case.is_refused() and ended == case.without_hint()
+            return ended in (case.ordinary, case.no_memory) or case.is_refused() and ended == case.without_hint()
         if self.kind == "thread" or self.how == "short":
             return ended == case.ordinary
         if self.kind == "write":
@@ -146,20 +157,28 @@ class Bench:
     library: str
     folder: Path
 
-    def run(self, words, environment, *files):
-        """How the program ends on these words, with these file descriptors left open."""
+    @property
+    def name(self):
+        return name_of(self.program)
+
+    def faults(self):
+        return FAULTS if self.name == "pbcube" else [it for it in FAULTS if it.kind == "memory"]
+
+    def run(self, words, environment, *files, out=subprocess.PIPE):
+        """How the program ends on these words, with these file descriptors left open. What goes to another output is not told."""
         ran = subprocess.run(
             [self.program, *words.split()],
             cwd=self.folder,
             env=environment,
             pass_fds=files,
             stdin=subprocess.DEVNULL,
-            capture_output=True,
+            stdout=out,
+            stderr=subprocess.PIPE,
             timeout=SECONDS,
         )
-        return Ended(ran.stdout.decode(), ran.stderr.decode(), ran.returncode)
+        return Ended((ran.stdout or b"").decode(), ran.stderr.decode(), ran.returncode)
 
-    def run_with(self, fault, at, words):
+    def run_with(self, fault, at, words, out=subprocess.PIPE):
         """The same with the fault at the call of this number, and whether that call came."""
         told, tell = os.pipe()
         environment = {
@@ -171,18 +190,19 @@ class Bench:
         }
         with open(told, "rb") as came:
             try:
-                ended = self.run(words, environment, tell)
+                ended = self.run(words, environment, tell, out=out)
             finally:
                 os.close(tell)
             return ended, bool(came.read())
 
     def cases(self):
-        for words, status in COMMAND_LINES.items():
+        for words, status in COMMAND_LINES[self.name].items():
             ended = self.run(words, {})
             if ended.status != status or not ended.out + ended.err:
-                sys.exit(f"faults: {words}: {ended}")
-            yield Case(words, ended)
-        yield from CASES
+                sys.exit(f"faults: {self.name} {words}: {ended}")
+            yield Case(words, ended, NO_MEMORY[self.name])
+        if self.name == "pbcube":
+            yield from CASES
 
 
 def count_on(bench, case, fault):
@@ -204,46 +224,44 @@ def count_on(bench, case, fault):
     return came, changed, [*bad, f"{name}: the calls do not end"]
 
 
-def build_library(folder, name):
-    """The library of tests/NAME.c, or nothing where there is no C compiler with the headers of the C library."""
-    compiler = shutil.which(os.environ.get("CC", "cc"))
-    if not compiler:
-        return None
-    probe = subprocess.run([compiler, "-E", "-"], input=b"#include <dlfcn.h>\n", capture_output=True)
-    if probe.returncode:
-        return None
-    library = str(folder / f"{name}.so")
-    subprocess.run([compiler, "-O1", "-shared", "-fPIC", "-o", library, str(TOP / f"tests/{name}.c"), "-ldl"], check=True)
-    return library
-
-
 def judge(bench):
     """Tells of each fault how the runs with it ended. How many of them ended well, and how many badly."""
     cases = list(bench.cases())
-    passed = failed = 0
-    with ThreadPoolExecutor() as pool:
-        for fault in FAULTS:
-            counts = list(pool.map(lambda case: count_on(bench, case, fault), cases))
-            came, changed = sum(it[0] for it in counts), sum(it[1] for it in counts)
-            bad = [line for it in counts for line in it[2]]
-            if not came:
-                bad.append(f"faults: {fault.kind} {fault.how}: no run made such a call")
-            name = f"faults: {bench.program.name}: {fault.kind} {fault.how}"
-            print(*bad, f"{name}: came in {came} runs, and changed the end of {changed}", sep="\n", flush=True)
-            passed, failed = passed + came - len(bad), failed + len(bad)
+    faults = bench.faults()
+    counts = side_by_side(lambda run: count_on(bench, *run), [(case, fault) for fault in faults for case in cases])
+    passed, failed = unreported(bench) if bench.name == "pbcube" else (0, 0)
+    for number, fault in enumerate(faults):
+        of_fault = counts[number * len(cases) : (number + 1) * len(cases)]
+        came, changed = sum(it[0] for it in of_fault), sum(it[1] for it in of_fault)
+        bad = [line for it in of_fault for line in it[2]]
+        if not came:
+            bad.append(f"faults: {fault.kind} {fault.how}: no run made such a call")
+        name = f"faults: {bench.program.name}: {fault.kind} {fault.how}"
+        print(*bad, f"{name}: came in {came} runs, and changed the end of {changed}", sep="\n")
+        passed, failed = passed + came - len(bad), failed + len(bad)
     return passed, failed
+
+
+def unreported(bench):
+    """Whether words that find no memory end with a line where the report of that is not taken, as how many runs well and badly."""
+    with open("/dev/full", "w") as full:
+        ended, is_come = bench.run_with(Fault("memory", "on"), 1, "tie.opb", out=full)
+    if is_come and ended == Ended("", CANNOT_WRITE, 1):
+        return 1, 0
+    print(f"faults: {bench.program.name}: no memory, and an output that fails: {ended}")
+    return 0, 1
 
 
 def main(programs):
     with tempfile.TemporaryDirectory(prefix="pbcube-faults-") as room:
         folder = Path(room)
-        library = build_library(folder, "faults")
+        library = preloaded(folder, "faults")
         if not library:
             print("faults: left out, since there is no C compiler (cc) here")
             return 0
         for name, text in FILES.items():
             (folder / name).write_text(text)
-        counts = [judge(Bench(Path(it).resolve(), library, folder)) for it in programs or built()]
+        counts = [judge(Bench(Path(it).resolve(), library, folder)) for it in programs or built(ROWS)]
     passed, failed = sum(it[0] for it in counts), sum(it[1] for it in counts)
     print(f"faults: {passed} passed, {failed} failed")
     return 1 if failed else 0

@@ -20,10 +20,10 @@ from pathlib import Path
 
 sys.dont_write_bytecode = True
 from budgets import instances
-from examples import FORMATS, TOP
+from lib import FORMATS, PROCESSORS, TOP, examples, program
 
 RANDOM = 50
-PROGRAMS = {name: TOP / f"crates/{name}/out/{name}" for name in ("pbcube", "pbcube_pieces", "pbcube_join")}
+PROGRAMS = {name: program(name) for name in ("pbcube", "pbcube_pieces", "pbcube_join")}
 
 
 def ran(program, *words):
@@ -34,9 +34,8 @@ def ran(program, *words):
 
 def texts(folder):
     """Files of instances, each with its format, and its number of variables where that is known."""
-    for file in sorted((TOP / "examples").iterdir()):
-        if file.suffix[1:] in FORMATS:
-            yield file, file.suffix[1:], None
+    for file in examples():
+        yield file, file.suffix[1:], None
     for number, instance in enumerate(itertools.islice(instances(), RANDOM)):
         file = folder / f"random{number}.{instance.format}"
         file.write_text(instance.text())
@@ -135,14 +134,14 @@ def has_parallel():
     return shutil.which("parallel") is not None
 
 
-def recipes(room):
-    """What is wrong with the recipes for GNU parallel and for Slurm, run here."""
+def recipes(room, has_parallel):
+    """What is wrong with the recipes for GNU parallel, where that is here, and for Slurm, run here."""
     cluster = TOP / "examples/cluster"
     path = os.pathsep.join([*(str(it.parent) for it in PROGRAMS.values()), os.environ["PATH"]])
     quiet = {"env": {**os.environ, "PATH": path}, "stdin": subprocess.DEVNULL, "capture_output": True, "timeout": 300}
     file = TOP / "examples/repairs.opb"
     whole, _, status = ran("pbcube", file)
-    if has_parallel():
+    if has_parallel:
         folder = room / "recipe"
         words = [cluster / "parallel.sh", file, "opb", "3", folder]
         for lost in (None, "3.report", "0.report"):
@@ -170,11 +169,11 @@ def recipes(room):
 
 
 def main():
-    with tempfile.TemporaryDirectory(prefix="pbcube-joins-") as folder, ThreadPoolExecutor() as pool:
-        room = Path(folder)
+    with tempfile.TemporaryDirectory(prefix="pbcube-joins-") as folder, ThreadPoolExecutor(PROCESSORS + 1) as pool:
+        room, fetching = Path(folder), pool.submit(has_parallel)
         files = list(texts(room))
         wrong = [it for lines in pool.map(lambda it: list(complaints(*it, room / f"{it[0].name}.cut")), files) for it in lines]
-        wrong += recipes(room)
+        wrong += recipes(room, fetching.result())
     print(*[f"joins: {line}" for line in wrong], f"joins: {len(files)} instances, {len(wrong)} complaints", sep="\n")
     return 1 if wrong else 0
 

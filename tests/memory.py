@@ -18,8 +18,7 @@ from dataclasses import dataclass
 from pathlib import Path
 
 sys.dont_write_bytecode = True
-from examples import STATUSES, TOP, built
-from faults import build_library
+from lib import STATUSES, TOP, built, preloaded, side_by_side
 
 SECONDS = 120  # after which a run is taken to hang
 SPARE = 2  # so many requests of one worker more than today are allowed
@@ -101,22 +100,28 @@ def taken(program, library, counts, words):
     return ran.returncode, requests, most
 
 
+def judged(program, library, counts, run):
+    """What is wrong with one run, one line for each."""
+    status, requests, most = taken(program, library, counts, run.words)
+    if status != run.status:
+        yield f"{run.name}: status {status}"
+    if requests > run.most_requests():
+        yield f"{run.name}: {requests} requests for memory, where {run.requests} were enough"
+    if most > 1.1 * run.mebibytes * MEBIBYTE:
+        yield f"{run.name}: {most / MEBIBYTE:.2f} mebibytes at once, where {run.mebibytes} were enough"
+
+
 def complaints(program, library, room):
     """What is wrong, one line for each."""
-    for run in runs(room):
-        status, requests, most = taken(program, library, room / "counts", run.words)
-        if status != run.status:
-            yield f"{run.name}: status {status}"
-        if requests > run.most_requests():
-            yield f"{run.name}: {requests} requests for memory, where {run.requests} were enough"
-        if most > 1.1 * run.mebibytes * MEBIBYTE:
-            yield f"{run.name}: {most / MEBIBYTE:.2f} mebibytes at once, where {run.mebibytes} were enough"
+    every = list(enumerate(runs(room)))
+    lines = side_by_side(lambda it: list(judged(program, library, room / f"counts{it[0]}", it[1])), every)
+    return [line for of_run in lines for line in of_run]
 
 
 def main(programs):
     failed = 0
     with tempfile.TemporaryDirectory(prefix="pbcube-memory-") as room:
-        library = build_library(Path(room), "memory")
+        library = preloaded(Path(room), "memory")
         if not library:
             print("memory: left out, since there is no C compiler (cc) here")
             return 0

@@ -12,8 +12,8 @@ import sys
 import tempfile
 from pathlib import Path
 
-TOP = Path(__file__).resolve().parent.parent
-FORMATS = ("opb", "cnf", "icnf")
+sys.dont_write_bytecode = True
+from lib import examples, program, side_by_side
 
 
 def ran(words):
@@ -63,18 +63,22 @@ def faults_of(pbcube, splitter, instance, words, folder):
         yield f"a folder with an index is taken: status {again.returncode}, {again.stderr.strip()}"
 
 
+def complaints(pbcube, splitter, instance):
+    """How many divisions the instance has, and what is wrong with them, one line for each."""
+    wrong, every = [], list(divisions(pbcube, instance))
+    for words in every:
+        with tempfile.TemporaryDirectory(prefix="pbcube-pieces-") as room:
+            faults = faults_of(pbcube, splitter, instance, words, Path(room) / "some" / "pieces")
+            wrong += [f"pieces: {instance.name} {' '.join(words)}: {fault}" for fault in faults]
+    return len(every), wrong
+
+
 def main():
-    pbcube, splitter = sys.argv[1:] or [str(TOP / f"crates/{name}/out/{name}") for name in ("pbcube", "pbcube_pieces")]
-    count = failed = 0
-    for instance in sorted(it for it in (TOP / "examples").iterdir() if it.suffix[1:] in FORMATS):
-        for words in divisions(pbcube, instance):
-            with tempfile.TemporaryDirectory() as room:
-                for fault in faults_of(pbcube, splitter, instance, words, Path(room) / "some" / "pieces"):
-                    print(f"pieces: {instance.name} {' '.join(words)}: {fault}")
-                    failed += 1
-            count += 1
-    print(f"pieces: {count} divisions of examples, {failed} faults")
-    sys.exit(failed > 0)
+    programs = sys.argv[1:] or [str(program(name)) for name in ("pbcube", "pbcube_pieces")]
+    counts = side_by_side(lambda instance: complaints(*programs, instance), examples())
+    wrong = [line for _, lines in counts for line in lines]
+    print(*wrong, f"pieces: {sum(count for count, _ in counts)} divisions of examples, {len(wrong)} faults", sep="\n")
+    sys.exit(len(wrong) > 0)
 
 
 if __name__ == "__main__":

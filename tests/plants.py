@@ -2,19 +2,19 @@
 """Plants each bug of tests/plants/ in a copy of the repository, and shows which guard refuses it.
 
     tests/plants.py [NAME ..]
+    tests/plants.py --check
 
 A plant is tests/plants/LIST/NAME.plant: why it tells something, its crate, the guard that is to refuse it, and the change in
-the form of a must-fail edit. The guards are
+the form of a must-fail edit. Nothing is proved: a plant is a bug that no contract refuses. The guards are
 
-    prover           the crate is no longer proved (`rt must-fail` on the copy)
-    test CRATE NAME  the tests of that crate whose names contain NAME fail (`rt try --test`, no proof)
-    work NAME ..     on one of these instances, or of all, a run takes more steps or requests than tests/work.py allows (no proof)
-    requests NAME    on this instance a run makes more requests for memory than tests/work.py allows (no proof)
-    program SCRIPT   the program, built without proof, fails in tests/SCRIPT.py: examples, budgets, faults, threads or memory
-    none             nothing refuses it, and the plant says why that is right
+    test CRATE NAME  the tests of that crate whose names contain NAME fail (`rt try --test`)
+    work NAME ..     on one of these instances, or of all, a run takes more steps or requests than tests/work.py allows
+    requests NAME    on this instance a run makes more requests for memory than tests/work.py allows
+    program SCRIPT   the program, built without proof, fails in tests/SCRIPT.py: examples, commands, budgets, faults, threads or
+                     memory; a plant in another program than pbcube is tried in that one
 
-With no names all are planted: hours, so this is no part of the gate. `rt check` of each crate beforehand saves most of that. The
-programs want a C compiler.
+With no names all are planted: an hour or more, so this is no part of the gate. The programs want a C compiler. With --check
+nothing is planted: it looks only whether each plant still can be, and whether its guard is there, which the gate asks.
 """
 import os
 import re
@@ -27,21 +27,10 @@ from pathlib import Path
 
 sys.dont_write_bytecode = True
 import work
-from examples import TOP
+from commands import ROWS as PROGRAMS
+from lib import TOP
 
 PLANTS = TOP / "tests/plants"
-# In place of the kit's C compiler for programs that are tried: nothing is watched, and the code is as fast as a built program's.
-COMPILER = """#!/usr/bin/env bash
-words=()
-for word in "$@"; do
-    case $word in
-        -fsanitize=address) ;;
-        -O0 | -O1) words+=(-O2) ;;
-        *) words+=("$word") ;;
-    esac
-done
-exec -a "$0" '{clang}' "${{words[@]}}"
-"""
 
 
 @dataclass(frozen=True)
@@ -74,42 +63,49 @@ def plant_of(path):
     return Plant(path, said["crate"], said["guard"], said["why"], tuple(changes))
 
 
+def planted(top, plant):
+    """The files that the bug changes in the repository of that folder: the text of each, and what it becomes."""
+    before, after = {}, {}
+    for file, old, new in plant.changes:
+        path = top / "crates" / plant.crate / file
+        if path not in after:
+            before[path] = after[path] = path.read_text()
+        if after[path].count(old) != 1:
+            raise ValueError(f"{plant.crate}/{file} has {after[path].count(old)} times: {old}")
+        after[path] = after[path].replace(old, new)
+    return before, after
+
+
+def write(texts):
+    for path, text in texts.items():
+        path.write_text(text)
+
+
 class Copy:
-    """A copy of the repository, with what earlier checks left of each crate: so `rt` proves there what a bug changes, and no library
-    again that stands below it."""
+    """A copy of the repository, without what checks left of its crates, since nothing is proved in it."""
 
     def __init__(self, folder):
         self.top = folder / TOP.name
-        self.kit = folder / "kit"
-        self.kept = folder / "program"
-        shutil.copytree(TOP, self.top, symlinks=True, ignore=shutil.ignore_patterns(".git"))
+        self.built = folder / "built"
+        self.built.mkdir()
+        shutil.copytree(TOP, self.top, symlinks=True, ignore=shutil.ignore_patterns(".git", "out"))
 
     def run(self, words, folder="."):
         """The exit status, and all that was said."""
         ran = subprocess.run(words, cwd=self.top / folder, stdin=subprocess.DEVNULL, stdout=subprocess.PIPE, stderr=subprocess.STDOUT, text=True)
         return ran.returncode, ran.stdout
 
-    def apply(self, plant):
-        """Plants the bug, and answers the texts that it took the place of."""
-        before = {}
-        for file, old, new in plant.changes:
-            path = self.top / "crates" / plant.crate / file
-            text = path.read_text()
-            before.setdefault(path, text)
-            if text.count(old) != 1:
-                sys.exit(f"plants: {plant.name}: {file} has {text.count(old)} times: {old}")
-            path.write_text(text.replace(old, new))
-        return before
-
     def refusal(self, plant):
         """What the plant's guard says against it, or None where it lets the plant pass."""
-        before = self.apply(plant)
+        before, after = planted(self.top, plant)
         try:
+            write(after)
             guard, *words = plant.guard.split()
+            if guard == "program":
+                return self.by_program(*words, plant.crate if plant.crate in PROGRAMS else "pbcube")
             return getattr(self, f"by_{guard}")(*words)
         finally:
-            for path, text in before.items():
-                path.write_text(text)
+            write(before)
 
     def by_test(self, crate, name):
         status, said = self.run(["rt", "try", "--test", "--", name], f"crates/{crate}")
@@ -127,80 +123,56 @@ class Copy:
         today = work.TODAY[name].requests
         return f"{name}: {requests} requests, where {today} were enough" if requests > today + work.SPARE else None
 
-    def by_program(self, script):
-        status, said = self.run([f"tests/{script}.py", self.unproved_program()])
+    def by_program(self, script, name):
+        status, said = self.run([f"tests/{script}.py", self.unproved_program(name)])
         return said.splitlines()[0] if status else None
 
-    def unproved_program(self):
-        """The program as `rt try` compiles it, without proof, but optimized and with nothing watched."""
-        if not self.kit.exists():
-            self.make_kit()
-        self.kept.unlink(missing_ok=True)
-        words = ["try", "--steps", "1", "--data", "tie.opb=../../examples/tie.opb", "--", "tie.opb"]
-        _, said = self.run([self.kit / "bin/rt", *words], "crates/pbcube")
-        if not self.kept.exists():
-            sys.exit(f"plants: the program was not compiled:\n{said}")
-        return self.kept
-
-    def make_kit(self):
-        """Makes a folder that stands for the kit, but for its C compiler and for AddressSanitizer's library."""
-        kit = Path(shutil.which("rt")).resolve().parent.parent
-        own = ("bin", "c", "toolchain", "toolchain/bin")
-        for part in own:
-            (self.kit / part).mkdir(parents=True)
-        for it in (it for part in (".", *own) for it in (kit / part).iterdir()):
-            to = self.kit / it.relative_to(kit)
-            if it.name in ("rt", "rtlib.py"):  # the kit is where their own files are
-                shutil.copy(it, to)
-            elif not to.exists():
-                to.symlink_to(it)
-        clang, library = self.kit / "toolchain/bin/clang", self.kit / "c/asan.a"
-        clang.unlink()
-        clang.write_text(COMPILER.format(clang=kit / "toolchain/bin/clang"))
-        clang.chmod(0o755)
-        library.unlink()
-        words = [os.environ.get("CC", "cc"), "-O1", "-fPIC", f'-DKEPT="{self.kept}"', "-c", TOP / "tests/kept.c"]
-        subprocess.run([*words, "-o", self.kit / "kept.o"], check=True)
-        subprocess.run(["ar", "rcs", library, self.kit / "kept.o"], check=True)
-
-    def refusals(self, crate, plants):
-        """What the prover says against plants of one crate, by name; nothing of those that it lets pass."""
-        edits = self.top / "crates" / crate / "must-fail"
-        shutil.rmtree(edits, ignore_errors=True)
-        edits.mkdir()
-        for plant in plants:
-            shutil.copy(plant.path, edits / f"{plant.name}.edit")
-        _, said = self.run(["rt", "must-fail", crate])
-        lines = re.findall(r"(\w+)\.edit: (refused, as it must be.*)$", said, re.M)
-        for line in said.splitlines():
-            if "BAD EDIT" in line or "NOT TRIED" in line:
-                print(f"plants: {line}")
-        return dict(lines)
+    def unproved_program(self, name):
+        """The program of this name, compiled without proof."""
+        program = self.built / name
+        program.unlink(missing_ok=True)
+        status, said = self.run(["build/unproved", name, program])
+        if status:
+            sys.exit(f"plants: {name} was not compiled:\n{said}")
+        return program
 
 
-def judged(copy, plants):
-    """Each plant with what was said against it."""
-    for crate in sorted({it.crate for it in plants if it.guard == "prover"}):
-        of_crate = [it for it in plants if it.guard == "prover" and it.crate == crate]
-        told = copy.refusals(crate, of_crate)
-        yield from ((it, told.get(it.name)) for it in of_crate)
-    for plant in plants:
-        if plant.guard == "none":
-            yield plant, f"right to pass: {plant.why}"
-        elif plant.guard != "prover":
-            yield plant, copy.refusal(plant)
+def why_not_planted(plant):
+    """Why the plant can no longer be planted, or its guard is not there, or None."""
+    try:
+        planted(TOP, plant)
+    except (OSError, ValueError) as fault:
+        return str(fault)
+    guard, *words = plant.guard.split()
+    if guard == "test":
+        crate, name = words
+        code = "".join(it.read_text() for it in (TOP / "crates" / crate / "src").rglob("*.rt"))
+        return None if re.search(rf"\bfn \w*{name}\w*\(", code) else f"{crate} has no test {name}"
+    if guard in ("work", "requests"):
+        return None if set(words) <= set(work.TODAY) else "there is no such instance"
+    return None if guard == "program" and (TOP / f"tests/{words[0]}.py").exists() else f"there is no guard {plant.guard}"
+
+
+def check(plants):
+    faults = {plant: why_not_planted(plant) for plant in plants}
+    wrong = [f"plants: {plant.name}: {why}" for plant, why in faults.items() if why]
+    print(*wrong, f"plants: {len(plants) - len(wrong)} can be planted, {len(wrong)} cannot", sep="\n")
+    return 1 if wrong or not plants else 0
 
 
 def main(names):
     plants = sorted((plant_of(it) for it in PLANTS.glob("*/*.plant")), key=lambda it: it.path)
+    if names == ["--check"]:
+        return check(plants)
     chosen = [it for it in plants if not names or it.name in names]
     passed = 0
     with tempfile.TemporaryDirectory(prefix="pbcube-plants-", dir=os.environ.get("TMPDIR")) as room:
         copy = Copy(Path(room))
-        for plant, said in judged(copy, chosen):
+        for plant in chosen:
+            said = copy.refusal(plant)
             passed += said is None
             print(f"{plant.path.parent.name}/{plant.name} ({plant.guard}): {said or 'NOTHING REFUSES IT'}", flush=True)
-    print(f"plants: {len(chosen) - passed} refused or right to pass, {passed} not refused")
+    print(f"plants: {len(chosen) - passed} refused, {passed} not refused")
     return 1 if passed or not chosen else 0
 
 

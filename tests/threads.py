@@ -17,8 +17,7 @@ from dataclasses import dataclass
 from pathlib import Path
 
 sys.dont_write_bytecode = True
-from examples import TOP, built
-from faults import build_library
+from lib import TOP, built, preloaded
 
 FAMILY, SIZE = "clauses", "226"
 SECONDS = 300  # after which a run is taken to hang
@@ -104,7 +103,7 @@ def until_one_hangs(lines):
 def main(programs):
     failed = 0
     with tempfile.TemporaryDirectory(prefix="pbcube-threads-") as room:
-        library = build_library(Path(room), "threads")
+        library = preloaded(Path(room), "threads")
         if not library:
             print("threads: left out, since there is no C compiler (cc) here")
             return 0

@@ -28,11 +28,10 @@ os.environ.pop("PBCUBE_LIBRARY", None)
 os.environ.pop("PBCUBE_LIB_DIR", None)
 import pbcube
 from budgets import Instance, instances
-from examples import TOP, built
+from lib import FORMATS, PROCESSORS, TOP, built
 
 INSTANCES = 500
 NO_LIMIT = -1
-FORMATS = ["opb", "cnf", "icnf"]
 RELATIONS = [">=", "<=", "="]
 STATUSES = {1: 0, 10: 10, 11: 10, 20: 20, 30: 30, 40: 0}  # the program's exit status with each answer
 SAID = {30: "OPTIMUM FOUND", 20: "UNSATISFIABLE", 1: "UNKNOWN"}
@@ -177,6 +176,11 @@ def drivers(folder):
         yield "Rust", [folder / "cargo" / "debug" / "examples" / "told"]
 
 
+def by_drivers(folder, every):
+    """What each driver answered, by language."""
+    return {way: by_driver(command, every) for way, command in drivers(folder)}
+
+
 def differences(way, every, expected, reports):
     if len(reports) != len(every):
         yield f"{way}: {len(reports)} reports on {len(every)} tasks"
@@ -187,11 +191,12 @@ def differences(way, every, expected, reports):
 
 def main():
     every = list(tasks())
-    with tempfile.TemporaryDirectory() as name, ThreadPoolExecutor() as pool:
+    with tempfile.TemporaryDirectory() as name, ThreadPoolExecutor(PROCESSORS) as pool:
         folder = Path(name)
+        driven = pool.submit(by_drivers, folder, every)
+        told_by_python = pool.submit(lambda: [by_python(task) for task in every])
         expected = list(pool.map(lambda pair: by_program(built()[0], folder, *pair), enumerate(every)))
-        ways = {way: by_driver(command, every) for way, command in drivers(folder)}
-        ways["Python"] = [by_python(task) for task in every]
+        ways = {**driven.result(), "Python": told_by_python.result()}
     wrong = [text for way, reports in ways.items() for text in differences(way, every, expected, reports)]
     print("\n".join(wrong[:20]), end="\n" if wrong else "")
     told = sum(isinstance(task, Told) for task in every)

@@ -21,16 +21,17 @@ import shutil
 import subprocess
 import sys
 import tempfile
-from concurrent.futures import ThreadPoolExecutor
 from dataclasses import dataclass
 from pathlib import Path
 
-TOP = Path(__file__).resolve().parent.parent
+sys.dont_write_bytecode = True
+from lib import PROCESSORS, TOP, side_by_side
+
 INSTANCES = TOP / "tests/work"
 STEPS = 20_000_000
 SPARE = 2  # so many requests for memory more than today are allowed
 SECONDS = 60  # for the run of the compiled code, with checks, that stands beside the interpreter's
-SIDES = 2  # so many parts of the cases are run at the same time
+SIDES = min(4, max(1, PROCESSORS // 2))  # so many parts of the cases are run at the same time, each with a build of its own
 NEAR = STEPS * 98 // 100  # what a run may take where the bytes of its comment are measured
 ROUNDS, TRIES = 3, 5  # so many builds, each with so many comments for an instance
 MOST_BYTES = 120_000  # a comment of so many takes more steps than the bound
@@ -121,8 +122,7 @@ def ends(top, cases, steps=STEPS, sides=SIDES):
     comment."""
     names = sorted(cases)
     parted = [{name: cases[name] for name in names[side::sides]} for side in range(sides)]
-    with ThreadPoolExecutor() as pool:
-        parts = list(pool.map(lambda part: run_side(top, part, steps), parted))
+    parts = side_by_side(lambda part: run_side(top, part, steps), parted)
     ended = {name: end for part, _ in parts for name, end in part.items()}
     if set(ended) != set(names):
         sys.exit(f"work: not run on each instance: {parts[0][1]}")

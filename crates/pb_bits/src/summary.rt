@@ -68,6 +68,3 @@ impl<G: Flags> Flags for Summary<G> {
         self.members.next_in_word(64 * group)
     }
 }
-
-#[cfg(test)]
-mod tests;

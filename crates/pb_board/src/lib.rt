@@ -10,6 +10,3 @@ mod view;
 pub use board::{Board, Totals};
 pub use laws::rule_laws;
 pub use seat::Seat;
-
-#[cfg(test)]
-mod tests;

@@ -17,8 +17,8 @@ use Rattle.pb_session.specs.declared.faults.SessionFault.TheVariants.{Statement,
 use Rattle.pb_session.specs.Found.{status_of}
 use Rattle.pb_session.specs.Told.{Told, with_constraint, with_objective}
 use Rattle.pb_solve.specs.declared.options.Ran.{Ran}
-use Rattle.pb_solve.specs.declared.options.Status.TheVariants.{Unknown}
-use Rattle.pb_solve.specs.Report.{memory_report}
+use Rattle.pb_report.specs.declared.statuses.Status.TheVariants.{Unknown}
+use Rattle.pb_report.specs.Written.{memory_report}
 use Rattle.pb_solve.specs.Run.{Reports, ReportsFound}
 use Rattle.pb_solve.specs.Solving.{HoldsLeast}
 use Rattle.pb_c.specs.Codes.{told_code, ran_code}

@@ -4,8 +4,8 @@ use Rattle.pb_inst.specs.declared.faults.InstFault.TheVariants as refused
 use Rattle.pb_session.specs.declared.faults.SessionFault.{SessionFault}
 use Rattle.pb_session.specs.declared.faults.SessionFault.TheVariants.{Statement, Closed, Unended}
 use Rattle.pb_solve.specs.declared.options.Ran.{Ran}
-use Rattle.pb_solve.specs.declared.options.Status.{Status}
-use Rattle.pb_solve.specs.declared.options.Status.TheVariants.{Satisfiable, Unsatisfiable, Optimum, Unsupported, Unknown}
+use Rattle.pb_report.specs.declared.statuses.Status.{Status}
+use Rattle.pb_report.specs.declared.statuses.Status.TheVariants.{Satisfiable, Unsatisfiable, Optimum, Unsupported, Unknown}
 use Rattle.pb_c.specs.declared.codes.TheConstants as number
 
 abbrev pub fault_code : SessionFault → ℤ

@@ -4,5 +4,4 @@ pub mod StartLemmas
 pub mod SetLemmas
 pub mod UndoLemmas
 pub mod TrailLemmas
-pub mod RowTermLemmas
 pub mod FixLemmas

@@ -1,4 +1,3 @@
 pub mod ReducedCosts
 pub mod Changes
 pub mod Multipliers
-pub mod Relaxation

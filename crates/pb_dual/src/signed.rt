@@ -21,6 +21,7 @@ impl<C: Count> Model for Signed<C> {
 }
 
 impl<C: Count> Signed<C> {
+    /// The number 0.
     #[inline]
     pub fn zero() -> Signed<C> {
         Signed(Tally::limit())
@@ -50,13 +51,14 @@ impl<C: Count> Signed<C> {
 
     /// By how much the first is above the second; at least the number that is 1 above the least.
     #[inline]
-    pub fn difference(first: Tally<C>, second: Tally<C>) -> Signed<C> {
+    pub(crate) fn difference(first: Tally<C>, second: Tally<C>) -> Signed<C> {
         if first.is_below(second) {
             return Signed(Tally::limit() - (second - first).min(most()));
         }
         Signed::of(first - second)
     }
 
+    /// Whether it is below 0.
     #[inline]
     pub fn is_negative(self) -> bool
         ensures { result ≡ int_lt self (pos 0) }
@@ -64,31 +66,37 @@ impl<C: Count> Signed<C> {
         self.0.is_below(Tally::limit())
     }
 
+    /// Whether it is 0.
     #[inline]
     pub fn is_zero(self) -> bool {
         self.magnitude().is_zero()
     }
 
+    /// Whether it is above 0.
     #[inline]
     pub fn is_positive(self) -> bool {
         Tally::limit().is_below(self.0)
     }
 
+    /// Whether it is the greatest of them.
     #[inline]
     pub fn is_greatest(self) -> bool {
         !self.is_below(Signed::greatest())
     }
 
+    /// Whether it is below the other.
     #[inline]
-    pub fn is_below(self, other: Signed<C>) -> bool {
+    fn is_below(self, other: Signed<C>) -> bool {
         self.0.is_below(other.0)
     }
 
+    /// The lesser of both.
     #[inline]
     pub fn min(self, other: Signed<C>) -> Signed<C> {
         Signed(self.0.min(other.0))
     }
 
+    /// The greater of both.
     #[inline]
     pub fn max(self, other: Signed<C>) -> Signed<C> {
         Signed(self.0.max(other.0))

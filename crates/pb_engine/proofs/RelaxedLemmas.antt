@@ -11,8 +11,8 @@ use Rattle.pb_trail.specs.EngineState.{EngineState}
 use Rattle.pb_trail.specs.Propagation.{AddsForced}
 use Rattle.pb_engine.specs.Fixing.{IsForcedWithin}
 use Rattle.pb_trail.proofs.EngineLemmas.{kept_front}
-use Rattle.pb_dual.specs.Multipliers.{MultipliersState, IsBelowCosts, IsFixed}
-use Rattle.pb_dual.specs.Relaxation.{IsBeside}
+use Rattle.pb_lagrange.specs.Multipliers.{MultipliersState, IsBelowCosts, IsFixed}
+use Rattle.pb_lagrange.specs.Relaxation.{IsBeside}
 
 -- they have followed no more than the trail
 pub beside-within : (form : NormalForm) (trail : List Literal) (m : MultipliersState) → IsBeside form trail m → length m.trail ≤ length trail

@@ -19,8 +19,8 @@ use crate::bound::{bound_with, payment};
 use crate::needs::Needs;
 use pb_bits::Marks;
 use pb_count::Count;
-use pb_dual::Relaxation;
 use pb_inst::{Cube, Lit, Memory, Number};
+use pb_lagrange::Relaxation;
 use pb_normal::Form;
 use pb_rows::{Clauses, RowTerms, Rows, TablesSource};
 use pb_trail::{Propagator, Step};
@@ -52,7 +52,7 @@ impl<C: Count> Drop for Engine<'_, C> {
 impl<'a, C: Count> Model for Engine<'a, C> {
     ghost use Rattle.std.specs.Prelude.{IfSome};
     ghost use Rattle.pb_trail.specs.EngineState.{EngineState};
-    ghost use Rattle.pb_dual.specs.Relaxation.{IsBeside};
+    ghost use Rattle.pb_lagrange.specs.Relaxation.{IsBeside};
     ghost use Rattle.pb_engine.specs.Needs.{HasCounters};
 
     ghost Value = { EngineState };
@@ -301,16 +301,6 @@ impl<'a, C: Count> Engine<'a, C> {
         }
     }
 
-    /// Shifts the multiplier of a row, if there is one: for whoever knows better than the steps. It leaves the trail and the
-    /// conflict as they are, and takes no memory.
-    pub fn propose(&mut self, row: usize, amount: Number)
-        ensures { self.new ≡ self.old }
-    {
-        if let Some(relaxation) = &mut self.relaxation {
-            relaxation.propose(row, amount);
-        }
-    }
-
     /// Of the literal and its negation the one that seems to cost less by the multipliers; the literal where there are none.
     pub fn cheaper(&self, lit: Lit) -> Lit
         requires { lit.var ≤ self.now.vars }
@@ -337,12 +327,3 @@ fn relaxation_over<'a, C: Count>(
     }
     Relaxation::new(alloc, form)
 }
-
-#[cfg(test)]
-mod clause_tests;
-#[cfg(test)]
-mod count_tests;
-#[cfg(test)]
-mod courses;
-#[cfg(test)]
-mod tests;

@@ -10,6 +10,3 @@ mod places;
 pub use beginnings::Beginning;
 pub use hints::{Hint, hint_on};
 pub use places::Place;
-
-#[cfg(test)]
-mod tests;

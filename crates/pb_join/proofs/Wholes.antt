@@ -15,7 +15,7 @@ use Rattle.pb_inst.specs.Incumbent.{Solution, IsSolution, solution_of}
 use Rattle.pb_cubes.specs.Pieces.{CubeList}
 use Rattle.pb_read.specs.declared.format.Format.{Format}
 use Rattle.pb_search.specs.Done.{Division, IsCandidate, IsDone}
-use Rattle.pb_solve.specs.declared.options.Status.{Status}
+use Rattle.pb_report.specs.declared.statuses.Status.{Status}
 use Rattle.pb_solve.specs.Outcome.{Outcome, Feasible, Optimal, IsAnswer}
 use Rattle.pb_solve.specs.Parts.{PartView, AreDone, AreSolutions, AreWhole, IsFirst, IsNotBefore}
 use Rattle.pb_solve.specs.Report.{report, status_of}

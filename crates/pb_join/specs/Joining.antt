@@ -6,7 +6,7 @@ use Rattle.pb_inst.specs.Problem.{Problem}
 use Rattle.pb_inst.specs.Meaning.{IsFeasible, cost}
 use Rattle.pb_inst.specs.Incumbent.{Solution, IsSolution}
 use Rattle.pb_read.specs.declared.format.Format.{Format}
-use Rattle.pb_solve.specs.declared.options.Status.{Status}
+use Rattle.pb_report.specs.declared.statuses.Status.{Status}
 use Rattle.pb_solve.specs.Budgeted as budgeted
 use Rattle.pb_solve.specs.Budgeted.{Found, found_report, found_status}
 use Rattle.pb_solve.specs.Parts.{IsFirst}

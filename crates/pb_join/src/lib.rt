@@ -12,6 +12,3 @@ pub use faults::{JoinFault, Rejection};
 pub use joining::{Joined, join};
 pub use reports::PieceReport;
 pub use states::PieceState;
-
-#[cfg(test)]
-mod tests;

@@ -8,6 +8,3 @@ mod words;
 pub use formats::format_of;
 pub use options::{cubes_option, file_operand, format_option, named, split_option};
 pub use words::{texts_of, words_of};
-
-#[cfg(test)]
-mod tests;

@@ -1,2 +1,4 @@
 pub mod Taking
 pub mod Lines
+mod SendingLaws
+mod WritingLaws

@@ -7,7 +7,7 @@ use Rattle.std.proofs.lemmas.List.Concat.{flat_map-append}
 use Rattle.std.proofs.lemmas.List.Elements.{All-nil, All-push}
 use Rattle.pb_report.specs.declared.keys.Key.{Key}
 use Rattle.pb_report.specs.declared.keys.Key.TheVariants.{Cost, Status, Values, Comment, Other}
-use Rattle.pb_report.specs.declared.statuses.ReportStatus.{ReportStatus}
+use Rattle.pb_report.specs.declared.statuses.Status.{Status as SaidStatus}
 use Rattle.pb_report.specs.declared.draft.Draft.{Draft}
 use Rattle.pb_report.specs.declared.values.Values as values
 use Rattle.pb_report.specs.Claims.{status_words}
@@ -87,7 +87,7 @@ with_cost n lines line rest d z b is h = record {
   seen = subst (λ ls. AreSeen ls d.last_values) (sym (kept is_values lines line Cost rest b refl)) h.seen;
 }
 
-pub with_status : (n number : ℕ) (lines : List (List (List ℕ))) (line rest : List (List ℕ)) (d : Draft) (s : ReportStatus) → Begins line Status rest → d.status ≡ None → rest ≡ status_words s → IsDraft n lines d
+pub with_status : (n number : ℕ) (lines : List (List (List ℕ))) (line rest : List (List ℕ)) (d : Draft) (s : SaidStatus) → Begins line Status rest → d.status ≡ None → rest ≡ status_words s → IsDraft n lines d
     → IsDraft n (lines ++ line ∷ []) (record { status = Some s; cost = d.cost; values = d.values; last_values = d.last_values; status_line = number })
 with_status n number lines line rest d s b none is h = record {
   known = known lines line Status rest b (λ e. cc) h.known;

@@ -3,8 +3,8 @@ use Rattle.std.specs.Prelude.{ℕ, Bool, true, false, not, List, [], ◌∷◌, 
 use Rattle.pb_report.specs.declared.claims.Witness.{Witness}
 use Rattle.pb_report.specs.declared.claims.Claim.{Claim}
 use Rattle.pb_report.specs.declared.claims.Claim.TheVariants.{Optimum, Satisfiable, Unsatisfiable, Unknown, Unsupported}
-use Rattle.pb_report.specs.declared.statuses.ReportStatus.{ReportStatus}
-use Rattle.pb_report.specs.declared.statuses.ReportStatus.TheVariants as status
+use Rattle.pb_report.specs.declared.statuses.Status.{Status}
+use Rattle.pb_report.specs.declared.statuses.Status.TheVariants as status
 
 -- the assignment that is claimed, and the cost that it is given
 abbrev pub witness_of : Claim → Option Witness
@@ -23,7 +23,7 @@ is_final has_objective Unknown = false
 is_final has_objective Unsupported = false
 
 -- the status of a claim
-abbrev pub status_of : Claim → ReportStatus
+abbrev pub status_of : Claim → Status
 status_of (Optimum w) = status.Optimum
 status_of (Satisfiable w) = status.Satisfiable
 status_of Unsatisfiable = status.Unsatisfiable
@@ -31,7 +31,7 @@ status_of Unknown = status.Unknown
 status_of Unsupported = status.Unsupported
 
 -- the words of a status
-abbrev pub status_words : ReportStatus → List (List ℕ)
+abbrev pub status_words : Status → List (List ℕ)
 status_words status.Optimum = codes "OPTIMUM" ∷ codes "FOUND" ∷ []
 status_words status.Satisfiable = codes "SATISFIABLE" ∷ []
 status_words status.Unsatisfiable = codes "UNSATISFIABLE" ∷ []

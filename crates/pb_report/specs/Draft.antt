@@ -1,7 +1,7 @@
 -- What a reader knows of the lines that it has seen.
 use Rattle.std.specs.Prelude.{◌≡◌, ◌≢◌, ℕ, List, [], ◌∷◌, All, Option, None, Some}
 use Rattle.std.specs.List.{flat_map}
-use Rattle.pb_report.specs.declared.statuses.ReportStatus.{ReportStatus}
+use Rattle.pb_report.specs.declared.statuses.Status.{Status}
 use Rattle.pb_report.specs.declared.draft.Draft.{Draft}
 use Rattle.pb_report.specs.Claims.{status_words}
 use Rattle.pb_report.specs.Lines.{said, is_cost, is_status, is_values, IsKnown}
@@ -9,7 +9,7 @@ use Rattle.pb_report.specs.Report.{IsLastCost}
 use Rattle.pb_report.specs.Values.{AreTaken}
 
 -- the one `s` line that was seen, if one was
-abbrev pub status_lines : Option ReportStatus → List (List (List ℕ))
+abbrev pub status_lines : Option Status → List (List (List ℕ))
 status_lines None = []
 status_lines (Some status) = status_words status ∷ []
 

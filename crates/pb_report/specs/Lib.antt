@@ -4,3 +4,7 @@ pub mod Lines
 pub mod Values
 pub mod Report
 pub mod Draft
+pub mod Device
+pub mod Sending
+pub mod Statuses
+pub mod Written

@@ -9,7 +9,7 @@ use crate::claims::{Claim, Witness};
 use crate::faults::{ReportFault, ReportKind};
 use crate::keys::{Key, key_of};
 use crate::numbers::number_of;
-use crate::statuses::{ReportStatus, status_of};
+use crate::statuses::{Status, status_of};
 use crate::values::Values;
 use bstr::{ByteSlice, Fields};
 use pb_inst::{Memory, Number};
@@ -19,7 +19,7 @@ use std::alloc::Global;
 /// What the lines of a report said so far.
 #[derive(Drop)]
 pub(crate) struct Draft {
-    pub(crate) status: Option<ReportStatus>,
+    pub(crate) status: Option<Status>,
     pub(crate) cost: Option<Number>,
     pub(crate) values: Values,
     /// The number of the last `v` line, if there was one.
@@ -80,11 +80,11 @@ impl Draft {
             return Err(fault(ReportKind::NoStatus, last));
         };
         match status {
-            ReportStatus::Optimum => Ok(Claim::Optimum(self.witness()?)),
-            ReportStatus::Satisfiable => Ok(Claim::Satisfiable(self.witness()?)),
-            ReportStatus::Unsatisfiable => self.without_values(Claim::Unsatisfiable),
-            ReportStatus::Unknown => self.without_values(Claim::Unknown),
-            ReportStatus::Unsupported => self.without_values(Claim::Unsupported),
+            Status::Optimum => Ok(Claim::Optimum(self.witness()?)),
+            Status::Satisfiable => Ok(Claim::Satisfiable(self.witness()?)),
+            Status::Unsatisfiable => self.without_values(Claim::Unsatisfiable),
+            Status::Unknown => self.without_values(Claim::Unknown),
+            Status::Unsupported => self.without_values(Claim::Unsupported),
         }
     }
 
@@ -119,7 +119,7 @@ impl Draft {
 }
 
 /// The status that the words are, where there was none before.
-fn first_status(before: Option<ReportStatus>, words: Fields<'_>) -> Result<ReportStatus, ReportKind>
+fn first_status(before: Option<Status>, words: Fields<'_>) -> Result<Status, ReportKind>
     ensures first { OnOk result (before ≡ None) }
     ensures status { IfOk result (λ status. words.entry ≡ status_words status) }
 {

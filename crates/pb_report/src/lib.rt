@@ -1,8 +1,10 @@
-//! The reports of solvers: what one claims of an instance.
+//! The reports of solvers: how one is written to a device, and what one that is read claims of an instance.
 #![tactic(auto)]
 
 mod claims;
+mod device;
 mod draft;
+mod ends;
 mod faults;
 mod keys;
 mod numbers;
@@ -10,10 +12,15 @@ mod reading;
 mod statuses;
 mod values;
 mod words;
+mod writing;
 
 pub use claims::{Claim, Witness};
+pub use device::Device;
+pub use ends::{Refusal, RunFault};
 pub use faults::{ReportFault, ReportKind};
 pub use reading::read_report;
-
-#[cfg(test)]
-mod tests;
+pub use statuses::Status;
+pub use writing::{
+    report_attained, report_infeasible, report_memory, report_optimum, report_refusal,
+    report_satisfiable, report_unknown,
+};

@@ -1,21 +1,41 @@
-//! The words of `s` lines.
+//! What a report says, and the words of `s` lines.
 ghost use Rattle.std.specs.Prelude.{◌≡◌, ◌∷◌, [], IfSome};
 ghost use Rattle.pb_report.specs.Claims.{status_words};
+ghost use Rattle.pb_report.specs.Statuses.{exit_status};
 
 use bstr::Fields;
 
-/// What an `s` line says.
+/// What the report of a run says.
 #[derive(Clone, Copy, Debug, PartialEq, Eq)]
-pub(crate) enum ReportStatus {
-    Optimum,
+pub enum Status {
+    /// Some assignment meets every constraint. There is no objective, or a piece was cut, so that none is known to be least.
     Satisfiable,
+    /// No assignment meets every constraint.
     Unsatisfiable,
-    Unknown,
+    /// A least assignment by the objective was found.
+    Optimum,
+    /// The input, the cube file or the split was refused.
     Unsupported,
+    /// Memory ran out before the answer was known, or a piece was cut and no assignment was found.
+    Unknown,
+}
+
+impl Status {
+    /// The exit status of a program whose report says so, as SAT and pseudo-Boolean solvers have it.
+    pub fn exit_status(self) -> u8
+        ensures { result ≡ exit_status self }
+    {
+        match self {
+            Status::Satisfiable => 10,
+            Status::Unsatisfiable => 20,
+            Status::Optimum => 30,
+            Status::Unsupported | Status::Unknown => 0,
+        }
+    }
 }
 
 /// The status that the words are; none where they are no status.
-pub(crate) fn status_of(words: Fields<'_>) -> Option<ReportStatus>
+pub(crate) fn status_of(words: Fields<'_>) -> Option<Status>
     ensures { IfSome result (λ status. words.entry ≡ status_words status) }
 {
     let mut words = words;
@@ -27,7 +47,7 @@ pub(crate) fn status_of(words: Fields<'_>) -> Option<ReportStatus>
                 && second == b"FOUND".as_slice()
                 && words.next().is_none()
             {
-                Some(ReportStatus::Optimum)
+                Some(Status::Optimum)
             } else {
                 None
             }
@@ -36,17 +56,17 @@ pub(crate) fn status_of(words: Fields<'_>) -> Option<ReportStatus>
 }
 
 /// The status of one word.
-fn status_of_word(word: &[u8]) -> Option<ReportStatus>
+fn status_of_word(word: &[u8]) -> Option<Status>
     ensures { IfSome result (λ status. word.now ∷ [] ≡ status_words status) }
 {
     if word == b"SATISFIABLE".as_slice() {
-        Some(ReportStatus::Satisfiable)
+        Some(Status::Satisfiable)
     } else if word == b"UNSATISFIABLE".as_slice() {
-        Some(ReportStatus::Unsatisfiable)
+        Some(Status::Unsatisfiable)
     } else if word == b"UNKNOWN".as_slice() {
-        Some(ReportStatus::Unknown)
+        Some(Status::Unknown)
     } else if word == b"UNSUPPORTED".as_slice() {
-        Some(ReportStatus::Unsupported)
+        Some(Status::Unsupported)
     } else {
         None
     }

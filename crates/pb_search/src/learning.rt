@@ -1,11 +1,18 @@
-//! What the order of decisions learns at a node: how far the last decision brought it. No answer depends on it, so nothing
-//! is promised.
+//! What the order of decisions learns at a node: the row of a conflict, and how far the last decision brought the bound. No
+//! answer depends on it, so nothing is promised.
 
-use crate::order::{Gain, Order};
 use crate::pruning::Pruning;
 use crate::search_state::SearchState;
 use pb_engine::{Count, Engine};
 use pb_inst::{Best, Lit};
+use pb_order::{Gain, Order};
+
+/// Learns from the row at which the engine found a conflict.
+pub fn learn_conflict<C: Count>(order: &mut Order, engine: &Engine<'_, C>) {
+    if let Some(row) = engine.conflict_row() {
+        order.bump_conflict(engine.row_terms(row));
+    }
+}
 
 /// A decision, and by how much the bound may rise above it before it is over the best cost.
 #[derive(Clone, Copy)]

@@ -2,19 +2,20 @@
 //! assignment that comes before the best one.
 //!
 //! `search` assumes a piece's cube at the `root` and searches the subtree below it, `node` by node. At a node the engine
-//! propagates, `pruning` asks whether the subtree may be left, and `order` names the decision (`branch`) to make next.
-//! Where there is none, `incumbent` takes the full trail, and `backtrack` goes back to a decision whose other value is
-//! still to be tried. What decisions did to the bound is told to the order (`learning`).
+//! propagates, `pruning` asks whether the subtree may be left, and `decisions` names the one (`branch`) to make next, by
+//! the order of pb_order. Where there is none, `incumbent` takes the full trail, and `backtrack` goes back to a decision
+//! whose other value is still to be tried. Conflicts, and what decisions did to the bound, are told to the order
+//! (`learning`).
 #![tactic(auto)]
 
 mod agreed_prefix;
 mod backtrack;
 mod branch;
+mod decisions;
 mod fixing;
 mod incumbent;
 mod learning;
 mod node;
-mod order;
 mod outcome;
 mod piece_search;
 mod piece_tables;
@@ -24,8 +25,6 @@ mod search;
 mod search_state;
 mod share;
 mod tables;
-#[cfg(test)]
-mod tests;
 
 pub use outcome::Outcome;
 pub use search::Search;

@@ -14,10 +14,10 @@ use crate::Share;
 use crate::agreed_prefix::AgreedPrefix;
 use crate::backtrack::backtrack;
 use crate::branch::{Branch, decide};
+use crate::decisions::next_decision;
 use crate::fixing::{judge_node, one_sided};
 use crate::incumbent::{borrow_on_the_way, take_leaf};
-use crate::learning::{gap_left, last_decided, learn};
-use crate::order::next_decision;
+use crate::learning::{gap_left, last_decided, learn, learn_conflict};
 use crate::outcome::Outcome;
 use crate::pruning::Pruning;
 use crate::search_state::SearchState;
@@ -54,7 +54,7 @@ fn expand_node<C: Count, S: Share>(
     }
     let decided = last_decided(state, best);
     if state.engine.propagate() == Step::Conflict {
-        state.order.bump_conflict(&state.engine);
+        learn_conflict(&mut state.order, &state.engine);
         learn(&mut state.order, decided, Some(0));
         return None;
     }
@@ -147,6 +147,3 @@ pub fn search_subtree<C: Count, S: Share>(
     }
     Outcome::Whole
 }
-
-#[cfg(test)]
-mod tests;

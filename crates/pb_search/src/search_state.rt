@@ -6,10 +6,10 @@ ghost use Rattle.pb_engine.specs.Tables.{AreBeside};
 ghost use Rattle.pb_search.specs.Layout.{IsMade};
 
 use crate::branch::{Branch, Hints};
-use crate::order::Order;
 use pb_engine::{Clauses, Count, Engine, Rows};
 use pb_inst::{Assignment, Cube, Memory};
 use pb_normal::Form;
+use pb_order::Order;
 use std::alloc::Global;
 
 /// An engine, the decisions on its trail, room for one assignment, and the order in which variables are decided.

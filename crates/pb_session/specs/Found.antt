@@ -3,8 +3,8 @@ use Rattle.std.specs.Prelude.{Bool, true, false, Option, is_some}
 use Rattle.pb_inst.specs.Incumbent.{Solution}
 use Rattle.pb_inst.specs.Problem.{Problem}
 use Rattle.pb_session.specs.declared.found.Found.{Found}
-use Rattle.pb_solve.specs.declared.options.Status.{Status}
-use Rattle.pb_solve.specs.declared.options.Status.TheVariants.{Satisfiable, Unsatisfiable, Optimum, Unknown}
+use Rattle.pb_report.specs.declared.statuses.Status.{Status}
+use Rattle.pb_report.specs.declared.statuses.Status.TheVariants.{Satisfiable, Unsatisfiable, Optimum, Unknown}
 
 abbrev pub solution : Found → Solution
 solution f = record { cost = f.cost; assignment = f.values }

@@ -8,6 +8,3 @@ mod session;
 pub use faults::SessionFault;
 pub use found::Found;
 pub use session::Session;
-
-#[cfg(test)]
-mod tests;

@@ -7,7 +7,7 @@ ghost use Rattle.pb_inst.specs.Incumbent.{IsSolution};
 ghost use Rattle.pb_inst.specs.Limits.{constraint_terms, total_magnitude, HasRoom, HasVariablesWithin};
 ghost use Rattle.pb_inst.specs.Problem.{statements};
 ghost use Rattle.pb_read.specs.Terms.{greatest_index};
-ghost use Rattle.pb_solve.specs.Report.{memory_report};
+ghost use Rattle.pb_report.specs.Written.{memory_report};
 ghost use Rattle.pb_solve.specs.Run.{Reports, ReportsFound};
 ghost use Rattle.pb_solve.specs.Solving.{HoldsLeast};
 ghost use Rattle.pb_session.specs.Found.{status_of, whole_status, cut_status};

@@ -4,6 +4,3 @@
 mod sharing;
 
 pub use sharing::BoardShare;
-
-#[cfg(test)]
-mod tests;

@@ -7,8 +7,8 @@ use Rattle.pb_inst.specs.Meaning.{IsFeasible, cost}
 use Rattle.pb_inst.specs.Order.{IsLeast}
 use Rattle.pb_inst.proofs.OrderProofs.{least_is_unique}
 use Rattle.pb_read.specs.declared.fault.ReadFault.{ReadFault}
-use Rattle.pb_solve.specs.declared.options.Refusal.{Refusal}
-use Rattle.pb_solve.specs.declared.options.Refusal.TheVariants.{Input, Cubes, Split, TooManyCubes}
+use Rattle.pb_report.specs.declared.ends.Refusal.{Refusal}
+use Rattle.pb_report.specs.declared.ends.Refusal.TheVariants.{Input, Cubes, Split, TooManyCubes}
 use Rattle.pb_read.specs.Format.{text_refusal}
 use Rattle.pb_solve.specs.Texts.{cube_text_refusal}
 use Rattle.pb_solve.specs.Outcome.{Outcome, Refused, Infeasible, Feasible, Optimal, IsAnswer, IsOutcomeOn, IsDivisionRefused, IsDivisionAccepted, IsFileRefused, FileSpells}

@@ -6,7 +6,5 @@ pub mod CutLaws
 pub mod FirstLaws
 pub mod LeastLaws
 mod OutcomeLaws
-mod ReportLaws
-mod SendingLaws
 mod TextLaws
 pub mod WorkLaws

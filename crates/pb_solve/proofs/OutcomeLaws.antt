@@ -10,12 +10,12 @@ use Rattle.pb_inst.specs.Incumbent.{Solution, IsSolution}
 use Rattle.pb_solve.specs.declared.prepare.Prepared.{Prepared}
 use Rattle.pb_read.specs.declared.format.Format.{Format}
 use Rattle.pb_solve.specs.declared.options.Ran.{Ran}
-use Rattle.pb_solve.specs.declared.options.Status.{Status}
-use Rattle.pb_solve.specs.declared.options.Status.TheVariants.{Satisfiable, Optimum, Unsupported, Unknown}
-use Rattle.pb_solve.specs.declared.options.Refusal.{Refusal}
+use Rattle.pb_report.specs.declared.statuses.Status.{Status}
+use Rattle.pb_report.specs.declared.statuses.Status.TheVariants.{Satisfiable, Optimum, Unsupported, Unknown}
+use Rattle.pb_report.specs.declared.ends.Refusal.{Refusal}
 use Rattle.pb_solve.specs.Solving.{HoldsLeast}
 use Rattle.pb_solve.specs.Outcome.{Refused, Feasible, Optimal, IsOutcome}
-use Rattle.pb_solve.specs.Report.{attained_report, satisfiable_report, optimum_report, refusal_report, unknown_report}
+use Rattle.pb_report.specs.Written.{attained_report, satisfiable_report, optimum_report, refusal_report, unknown_report}
 use Rattle.pb_solve.specs.Budgeted as budgeted
 use Rattle.pb_solve.specs.Budgeted.{Nothing, Costing, IsFoundIn}
 use Rattle.pb_solve.specs.Run.{WhereTold, Reports, ReportsFound, Answers, AnswersFound, IsAccepted}

@@ -5,10 +5,10 @@ use Rattle.pb_inst.specs.Problem.{Problem}
 use Rattle.pb_inst.specs.Meaning.{IsFeasible, cost}
 use Rattle.pb_read.specs.declared.format.Format.{Format}
 use Rattle.pb_read.specs.Format.{Spells}
-use Rattle.pb_solve.specs.declared.options.Status.{Status}
-use Rattle.pb_solve.specs.declared.options.Status.TheVariants.{Satisfiable, Unknown}
+use Rattle.pb_report.specs.declared.statuses.Status.{Status}
+use Rattle.pb_report.specs.declared.statuses.Status.TheVariants.{Satisfiable, Unknown}
 use Rattle.pb_solve.specs.Outcome.{IsDivisionAccepted}
-use Rattle.pb_solve.specs.Report.{unknown_report, satisfiable_report, attained_report}
+use Rattle.pb_report.specs.Written.{unknown_report, satisfiable_report, attained_report}
 
 -- no assignment was found, or this one, with its cost where there is an objective
 pub data Found : Type 0 where

@@ -1,6 +1,4 @@
-pub mod Device
 pub mod Reading
-pub mod Sending
 pub mod Texts
 pub mod Outcome
 pub mod Budgeted
@@ -11,4 +9,3 @@ pub mod Run
 pub mod Laws
 pub mod Parts
 pub mod Claims
-pub mod Statuses

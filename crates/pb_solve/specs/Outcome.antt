@@ -6,8 +6,8 @@ use Rattle.pb_inst.specs.Meaning.{IsFeasible, cost}
 use Rattle.pb_inst.specs.Order.{IsLeast}
 use Rattle.pb_read.specs.declared.fault.ReadFault.{ReadFault}
 use Rattle.pb_read.specs.declared.format.Format.{Format}
-use Rattle.pb_solve.specs.declared.options.Refusal.{Refusal}
-use Rattle.pb_solve.specs.declared.options.Refusal.TheVariants.{Input, Cubes, Split, TooManyCubes}
+use Rattle.pb_report.specs.declared.ends.Refusal.{Refusal}
+use Rattle.pb_report.specs.declared.ends.Refusal.TheVariants.{Input, Cubes, Split, TooManyCubes}
 use Rattle.pb_read.specs.Format.{Spells, text_refusal}
 use Rattle.pb_solve.specs.Texts.{SpellsCubes, cube_text_refusal}
 

@@ -6,12 +6,12 @@ use Rattle.std.specs.Io.KnownBytes.{Appends}
 use Rattle.pb_inst.specs.Literal.{Literal}
 use Rattle.pb_inst.specs.Problem.{Problem}
 use Rattle.pb_read.specs.declared.format.Format.{Format}
-use Rattle.pb_solve.specs.declared.options.Status.{Status}
+use Rattle.pb_report.specs.declared.statuses.Status.{Status}
 use Rattle.pb_solve.specs.declared.prepare.Prepared.{Prepared}
 use Rattle.pb_solve.specs.declared.prepare.Halt.{Halt}
 use Rattle.pb_solve.specs.declared.prepare.Halt.TheVariants.{ReadInput, ReadCubes, Memory, Refused}
-use Rattle.pb_solve.specs.Device.{Device}
-use Rattle.pb_solve.specs.declared.options.Refusal.TheVariants as refusal
+use Rattle.pb_report.specs.Device.{Device}
+use Rattle.pb_report.specs.declared.ends.Refusal.TheVariants as refusal
 use Rattle.pb_read.specs.Format.{Spells, text_refusal}
 use Rattle.pb_solve.specs.Outcome as outcome
 use Rattle.pb_solve.specs.Outcome.{Outcome, IsOutcome, IsAnswer, IsDivisionRefused}

@@ -1,21 +1,18 @@
 //! The run of the optimiser, from the bytes that are read to the report that is written.
 #![tactic(auto)]
 
-mod device;
 mod laws;
 mod options;
 mod prepare;
-mod report;
 mod running;
 mod workers;
 
-pub use device::Device;
 pub use laws::report_laws;
-pub use options::{Options, Ran, RunFault, Status};
+pub use options::{Options, Ran};
 pub use pb_read::Format;
-pub use report::{
-    report_attained, report_infeasible, report_memory, report_optimum, report_satisfiable,
-    report_unknown,
+pub use pb_report::{
+    Device, RunFault, Status, report_attained, report_infeasible, report_memory, report_optimum,
+    report_satisfiable, report_unknown,
 };
 pub use running::{run, run_alone};
 pub use workers::alone::solve_alone;

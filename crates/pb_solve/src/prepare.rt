@@ -7,12 +7,11 @@ ghost use Rattle.pb_solve.specs.Run.{IsPrepared, HaltsInput, stops_at_input, sto
 mod division;
 pub(crate) mod reading;
 
-use crate::device::Device;
-use crate::options::Refusal;
 use division::divide;
 use pb_cubes::Pieces;
 use pb_inst::{Cube, Instance};
 use pb_read::{Format, ReadFault, ReadKind, read};
+use pb_report::{Device, Refusal};
 use reading::{CubeFile, ReadStop, read_all};
 use std::alloc::Global;
 use std::io::Read;

@@ -3,23 +3,22 @@ ghost use Rattle.std.specs.Prelude.{◌≡◌, ◌≢◌, ◌↔◌, ℕ, List, 
 ghost use Rattle.std.specs.Io.KnownBytes.{Appends};
 ghost use Rattle.pb_read.specs.declared.fault.ReadFault.{ReadFault};
 ghost use Rattle.pb_solve.specs.Solving.{HoldsLeast};
-ghost use Rattle.pb_solve.specs.Report.{memory_report};
+ghost use Rattle.pb_report.specs.Written.{memory_report};
 ghost use Rattle.pb_read.specs.Format.{text_refusal};
 ghost use Rattle.pb_solve.specs.Run.{Reports, ReportsFound, Answers, AnswersFound, IsPrepared, IsUnfailed, IsUnread, failed_after, stops_at_cubes, stops_at_input, text_left};
 
-use crate::device::Device;
-use crate::options::{Options, Ran, RunFault, Status};
+use crate::options::{Options, Ran};
 use crate::prepare::reading::NoCubeFile;
 use crate::prepare::{Halt, Prepared, prepare};
-use crate::report::{
-    report_attained, report_infeasible, report_memory, report_optimum, report_refusal,
-    report_satisfiable, report_unknown,
-};
 use crate::workers::alone::solve_alone;
 use crate::workers::gate::OpenGate;
 use crate::workers::solve::{Answer, SolveFault, solve};
 use pb_inst::{Best, Instance};
 use pb_read::Format;
+use pb_report::{
+    Device, RunFault, Status, report_attained, report_infeasible, report_memory, report_optimum,
+    report_refusal, report_satisfiable, report_unknown,
+};
 use std::alloc::Global;
 use std::io::{Read, Write};
 use std::thread::Threads;

@@ -15,6 +15,3 @@ pub use fault::WriteFault;
 pub use formats::written_format;
 pub use laws::piece_laws;
 pub use writing::{write_instance, write_piece};
-
-#[cfg(test)]
-mod tests;

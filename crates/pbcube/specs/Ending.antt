@@ -3,9 +3,9 @@ use Rattle.std.specs.Prelude.{◌≡◌, ◌⊎◌, ℕ, List, Option}
 use Rattle.std.specs.Io.KnownBytes.{Appends}
 use Rattle.clap.specs.Words.{Text}
 use Rattle.pb_line.specs.Ends.{EndsOn}
-use Rattle.pb_solve.specs.Report.{memory_report}
-use Rattle.pb_solve.specs.Statuses.{exit_status}
-use Rattle.pb_solve.specs.declared.options.Status.{Status}
+use Rattle.pb_report.specs.Written.{memory_report}
+use Rattle.pb_report.specs.Statuses.{exit_status}
+use Rattle.pb_report.specs.declared.statuses.Status.{Status}
 use Rattle.pbcube.specs.CommandLine.{HasNoLine, pbcube}
 
 -- for want of memory it reports so and ends with 0, or with 1 if the report cannot be written

@@ -3,7 +3,7 @@ ghost use Rattle.std.specs.Prelude.{◌≡◌, false, map};
 ghost use Rattle.pbcube.specs.Fetching.{FetchesFor, FetchesInOrder};
 ghost use Rattle.clap.specs.Words.{kind_of};
 ghost use Rattle.pb_line.specs.Ends.{EndsBy};
-ghost use Rattle.pb_solve.specs.Statuses.{IsExitStatus, exit_status};
+ghost use Rattle.pb_report.specs.Statuses.{IsExitStatus, exit_status};
 ghost use Rattle.pbcube.specs.Ending.{Ends, EndsWithoutMemory};
 
 use crate::asked::Line;

@@ -2,8 +2,8 @@
 use Rattle.std.specs.Prelude.{◌≡◌, ℕ, List}
 use Rattle.clap.specs.Words.{Text}
 use Rattle.pb_line.specs.Ends.{EndsOn}
-use Rattle.pb_solve.specs.Statuses.{exit_status}
-use Rattle.pb_solve.specs.declared.options.Status.{Status}
+use Rattle.pb_report.specs.Statuses.{exit_status}
+use Rattle.pb_report.specs.declared.statuses.Status.{Status}
 use Rattle.pbcube_join.specs.CommandLine.{HasNoLine, pbcube_join}
 
 -- how it may end on these words: with 1 for want of memory, and with the status of its report where it wrote one

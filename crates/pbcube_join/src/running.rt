@@ -6,7 +6,7 @@ ghost use Rattle.pb_join.specs.declared.faults.Rejection.{Rejection as Why};
 ghost use Rattle.pb_line.specs.Ends.{EndsBy};
 ghost use Rattle.pbcube_join.specs.Ending.{Ends};
 ghost use Rattle.pbcube_join.specs.Joining.{Tells};
-ghost use Rattle.pb_solve.specs.Statuses.{IsExitStatus};
+ghost use Rattle.pb_report.specs.Statuses.{IsExitStatus};
 
 use crate::asked::Line;
 use crate::faults::{ProgramFault, Refusal};

@@ -8,12 +8,12 @@ ghost use Rattle.pb_solve.specs.Outcome.{FileSpells, IsFileRefused, split_count}
 ghost use Rattle.pb_solve.specs.Division.{AreOfSplit, IsDivided};
 ghost use Rattle.pb_solve.specs.Run.{HaltsDivision, CubesTold, stops_at_input, stops_at_cubes};
 
-use crate::options::Refusal;
 use crate::prepare::Halt;
 use crate::prepare::reading::{CubeFile, ReadStop};
 use pb_cubes::{CubeFault, MAX_CUBES, MAX_SPLIT, Pieces};
 use pb_inst::{Cube, Instance, Memory};
 use pb_read::{ReadFault, ReadKind, read_cubes};
+use pb_report::Refusal;
 use std::alloc::Global;
 
 /// The pieces that the input's own cubes, those of the cube file and those of the split make, in this order.

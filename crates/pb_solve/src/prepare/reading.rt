@@ -3,7 +3,7 @@ ghost use Rattle.std.specs.Prelude.{◌≡◌, ℕ, List, Bool, false, Option, S
 ghost use Rattle.std.specs.Option.{option_map};
 ghost use Rattle.pb_solve.specs.Reading.{is_fault, TellsText};
 
-use crate::device::Device;
+use pb_report::Device;
 use std::alloc::Global;
 use std::io::Read;
 

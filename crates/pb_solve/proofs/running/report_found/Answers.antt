@@ -4,7 +4,7 @@ use Rattle.std.specs.Io.KnownBytes.{Appends}
 use Rattle.std.specs.Option.{IfSome}
 use Rattle.pb_inst.specs.Problem.{Problem}
 use Rattle.pb_inst.specs.Incumbent.{IsSolution}
-use Rattle.pb_solve.specs.Report.{attained_report}
+use Rattle.pb_report.specs.Written.{attained_report}
 use Rattle.pb_solve.proofs.OutcomeLaws.{attained_found, satisfiable_found}
 use Rattle.pb_solve.proofs.running.report_found.Goals as goal
 

@@ -1,7 +1,7 @@
 use Rattle.std.proofs.Common.{◌∙◌, OnOk, arith, sym}
 use Rattle.std.proofs.lemmas.Int.{ints, to_z-of_z}
 use Rattle.std.specs.Io.KnownBytes.{Appends}
-use Rattle.pb_solve.specs.Report.{optimum_report}
+use Rattle.pb_report.specs.Written.{optimum_report}
 use Rattle.pb_solve.proofs.OutcomeLaws.{optimum_answers, satisfiable_answers}
 use Rattle.pb_solve.proofs.running.report_least.Goals as goal
 

@@ -1,6 +1,6 @@
 use Rattle.std.proofs.Common.{◌∙◌, Bool, ap, rules, subst, sym}
 use Rattle.std.specs.Prelude.{◌↔◌, IsErrOf, IsTrue}
-use Rattle.pb_solve.specs.declared.options.RunFault.TheVariants as fault
+use Rattle.pb_report.specs.declared.ends.RunFault.TheVariants as fault
 use Rattle.pb_solve.specs.Run.{stops_at_cubes}
 use Rattle.pb_solve.proofs.running.run.Goals as goal
 use Rattle.pb_solve.proofs.running.run.Goals.{in-None, in-Some}

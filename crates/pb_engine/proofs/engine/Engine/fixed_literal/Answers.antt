@@ -6,7 +6,7 @@ use Rattle.pb_inst.proofs.NumberWidth.{number_width}
 use Rattle.pb_normal.specs.NormalForm.{PositiveRow, NormalForm}
 use Rattle.pb_trail.specs.EngineState.{EngineState}
 use Rattle.pb_trail.specs.Tracked.{Tracked}
-use Rattle.pb_dual.specs.Multipliers.{IsFixed}
+use Rattle.pb_lagrange.specs.Multipliers.{IsFixed}
 use Rattle.pb_engine.proofs.RelaxedLemmas.{if-fixed-in}
 use Rattle.pb_engine.proofs.engine.Engine.fixed_literal.Goals as goal
 

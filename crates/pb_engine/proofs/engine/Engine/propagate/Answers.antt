@@ -3,7 +3,7 @@ use Rattle.std.specs.Prelude.{IfSome}
 use Rattle.pb_normal.specs.NormalForm.{PositiveRow, NormalForm}
 use Rattle.pb_trail.specs.Completion.{HasNoCompletion}
 use Rattle.pb_trail.specs.EngineState.{EngineState, is_conflict}
-use Rattle.pb_dual.specs.Relaxation.{IsBeside}
+use Rattle.pb_lagrange.specs.Relaxation.{IsBeside}
 use Rattle.pb_engine.proofs.RelaxedLemmas.{beside-if-forced}
 use Rattle.pb_engine.proofs.BesideLemmas.{HasCounters-propagated}
 use Rattle.pb_engine.proofs.engine.Engine.propagate.Goals as goal

@@ -7,7 +7,7 @@ use Rattle.pb_normal.specs.NormalForm.{PositiveRow, NormalForm}
 use Rattle.pb_trail.specs.Completion.{IsLowerBound}
 use Rattle.pb_trail.specs.EngineState.{EngineState}
 use Rattle.pb_trail.specs.Tracked.{Tracked}
-use Rattle.pb_dual.specs.Multipliers.{IsBelowCosts}
+use Rattle.pb_lagrange.specs.Multipliers.{IsBelowCosts}
 use Rattle.pb_engine.proofs.RelaxedLemmas.{raised-bound}
 use Rattle.pb_engine.proofs.engine.Engine.relaxed_bound.Goals as goal
 

@@ -1,6 +1,0 @@
-use Rattle.std.proofs.Common.{ℕ, ◌<◌, ◌≤◌, get_or}
-use Rattle.pb_inst.specs.Literal.{Literal}
-use Rattle.pb_engine.proofs.engine.courses.is_within.Given as goal
-
-abbrev pub invariant-loop-lit : goal.invariant-loop-lit
-invariant-loop-lit l = (k : ℕ) (d : Literal) → k < l.lit-index → (get_or l.lits k d).var ≤ l.vars

@@ -1,0 +1,2 @@
+pub mod Relaxation
+pub use Rattle.pb_dual.specs.Multipliers

@@ -1,0 +1,353 @@
+//! Multipliers that follow a search: when they are used, and what they put in place of a bound. No answer depends on which
+//! they are; what follows from any multipliers is told by `Multipliers`.
+
+mod fixing;
+mod levels;
+mod passes;
+mod schedule;
+mod steps;
+
+ghost use Rattle.std.specs.Prelude.{◌≡◌, ◌⊎◌, ◌+◌, ◌^◌, ◌<◌, ◌≤◌, ◌≤ℤ◌, [], true, IfOk, IfSome, length, take};
+ghost use Rattle.pb_dual.specs.Multipliers.{IsBelowCosts, IsFixed};
+ghost use Rattle.pb_lagrange.specs.Relaxation.{IsBeside, IsSameButShifted};
+
+use crate::account::Account;
+use fixing::Fixing;
+use levels::{Levels, changes_for};
+use passes::Passes;
+use pb_count::{Count, Tally};
+use pb_dual::Multipliers;
+use pb_inst::{Lit, Memory, Number};
+use pb_normal::Form;
+use pb_rows::Tables;
+use pb_trail::Slacks;
+use schedule::Schedule;
+use std::alloc::Global;
+use std::marker::Model;
+use steps::Steps;
+
+/// Multipliers beside the trail of a search. Where they are used they follow the trail, and are shifted at the rows that it
+/// touches. What was shifted below an assumption is taken back with it. An account tells where they are used.
+pub struct Relaxation<'a, C: Count = u64> {
+    multipliers: Multipliers<'a, C>,
+    schedule: Schedule,
+    steps: Steps<C>,
+    passes: Passes<C>,
+    fixing: Fixing,
+    account: Account,
+    levels: Levels,
+    /// How many literals of the trail are counted.
+    counted: usize,
+    /// Whether they were used at the node where the search is.
+    is_used: bool,
+    /// Whether they were used at the node that was judged last, be it above the one where the search is.
+    was_used: bool,
+}
+
+// By hand, as that of `Multipliers`.
+impl<C: Count> Drop for Relaxation<'_, C> {
+    fn drop(self) {
+        let Relaxation {
+            multipliers: _,
+            schedule: _,
+            steps: _,
+            passes: _,
+            fixing: _,
+            account: _,
+            levels: _,
+            counted: _,
+            is_used: _,
+            was_used: _,
+        } = self;
+    }
+}
+
+impl<'a, C: Count> Model for Relaxation<'a, C> {
+    ghost use Rattle.std.specs.Prelude.{◌≡◌, length};
+    ghost use Rattle.pb_dual.specs.Multipliers.{MultipliersState};
+
+    ghost Value = { MultipliersState };
+
+    ghost view = { λ r. r.multipliers };
+
+    ghost invariant = { λ r. r.schedule ≡ length r.multipliers.form.rows };
+}
+
+impl<'a, C: Count> Relaxation<'a, C> {
+    /// No multipliers, beside an empty trail. Nothing after it takes memory. There is none where the costs have no scale in
+    /// the width of the form.
+    pub fn new(alloc: Global, form: &'a Form<C>) -> Result<Option<Relaxation<'a, C>>, Memory>
+        ensures { IfOk result (λ made. IfSome made (λ r. (r.form ≡ form.now) × (r.trail ≡ []))) }
+    {
+        match Multipliers::new(alloc, form, changes_for(form.len()))? {
+            Some(multipliers) => Ok(Some(Relaxation::beside(alloc, form, multipliers)?)),
+            None => Ok(None),
+        }
+    }
+
+    /// The same with these multipliers.
+    fn beside(
+        alloc: Global,
+        form: &'a Form<C>,
+        multipliers: Multipliers<'a, C>,
+    ) -> Result<Relaxation<'a, C>, Memory>
+        requires { multipliers.form ≡ form.now }
+        ensures { IfOk result (λ r. r ≡ multipliers.entry) }
+    {
+        let passes = Passes::new(alloc, form)?;
+        let account = Account::new(passes.terms());
+        Ok(Relaxation {
+            multipliers,
+            schedule: Schedule::new(alloc, form)?,
+            steps: Steps::new(alloc, form)?,
+            passes,
+            fixing: Fixing::new(),
+            account,
+            levels: Levels::new(alloc, form.vars() as usize)?,
+            counted: 0,
+            is_used: false,
+            was_used: false,
+        })
+    }
+
+    /// The bound, or that of the multipliers where they are used and it is greater. Where the latter is below the goal, the
+    /// rows that the trail touched since the last time are stepped at first. Where it alone would reach the goal it is left
+    /// out now and then, to see what it saves.
+    pub fn raise(&mut self, slacks: &Slacks<'_, '_, C>, bound: Number, goal: Number) -> Number
+        requires { IsBeside slacks.now.form slacks.now.trail self.old }
+        ensures bound { (result ≡ bound) ⊎ ((bound ≤ℤ result) × IsBelowCosts slacks.now.form slacks.now.trail result) }
+        ensures beside { IsBeside slacks.now.form slacks.now.trail self.new }
+    {
+        let is_used = self.use_at(slacks, goal);
+        if !is_used {
+            return bound;
+        }
+        let relaxed = self.multipliers.bound();
+        if relaxed <= bound || self.is_tried(relaxed, goal) {
+            return bound;
+        }
+        relaxed
+    }
+
+    /// Follows the trail and improves the multipliers, where they are used, as `raise` does; no bound is asked for.
+    pub fn adjust(&mut self, slacks: &Slacks<'_, '_, C>)
+        requires { IsBeside slacks.now.form slacks.now.trail self.old }
+        ensures { IsBeside slacks.now.form slacks.now.trail self.new }
+    {
+        self.use_at(slacks, Number::MAX);
+    }
+
+    /// Uses the multipliers at the node, if they pay: they follow the trail to its end, and are improved where their bound is
+    /// below the goal. Answers whether they are used.
+    fn use_at(&mut self, slacks: &Slacks<'_, '_, C>, goal: Number) -> bool
+        requires { IsBeside slacks.now.form slacks.now.trail self.old }
+        ensures followed { result ≡ true → self.new.trail ≡ slacks.now.trail }
+        ensures beside { IsBeside slacks.now.form slacks.now.trail self.new }
+    {
+        self.count_node(slacks.len());
+        self.passes
+            .climb(&mut self.multipliers, &mut self.steps, goal);
+        self.is_used = self.account.is_open();
+        self.was_used = self.is_used;
+        if !self.is_used {
+            return false;
+        }
+        self.passes
+            .ascend(&mut self.multipliers, &mut self.steps, &mut self.account);
+        self.catch_up(slacks);
+        self.improve(slacks.tables(), goal);
+        self.account.count_use(self.schedule.work());
+        true
+    }
+
+    /// Counts a node of the search whose trail has so many literals.
+    fn count_node(&mut self, length: usize)
+        ensures { self.new ≡ self.old }
+    {
+        self.schedule.begin();
+        self.fixing.forget();
+        self.passes.count_node();
+        self.account
+            .count_search(length.saturating_sub(self.counted));
+        self.counted = length;
+    }
+
+    /// Whether a bound that reaches the goal is left out, to see what it saves. The multipliers then rest below the node.
+    fn is_tried(&mut self, relaxed: Number, goal: Number) -> bool
+        ensures { self.new ≡ self.old }
+    {
+        if relaxed < goal || self.account.close(self.levels.len()) {
+            return false;
+        }
+        self.is_used = false;
+        self.was_used = false;
+        true
+    }
+
+    /// A literal that every completion of the trail that costs no more than the limit makes true, and that has no value yet; or
+    /// none. None also where the multipliers are not used at the node.
+    pub fn fixed_literal(&mut self, slacks: &Slacks<'_, '_, C>, limit: Number) -> Option<Lit>
+        requires { IsBeside slacks.now.form slacks.now.trail self.old }
+        ensures fixed { IfSome result (IsFixed slacks.now.form slacks.now.trail limit) }
+        ensures beside { IsBeside slacks.now.form slacks.now.trail self.new }
+    {
+        self.fixing.forget();
+        if !self.is_used {
+            return None;
+        }
+        self.catch_up(slacks);
+        if self.multipliers.bound() > limit {
+            return None;
+        }
+        let found = self.fixing.find(&self.multipliers, limit);
+        if found.is_some() {
+            self.account.fix();
+        }
+        found
+    }
+
+    /// Whether the last call of `fixed_literal` fixed a literal at the node where the search still is. There may be more, and
+    /// no bound need be asked for before.
+    pub fn is_fixing(&self) -> bool {
+        self.fixing.has_found()
+    }
+
+    /// By how much, in a unit that depends on the form, the bound at the node that was judged last may rise before it is over
+    /// the limit, and 2^64 - 1 where it is more; none where the multipliers were not used there.
+    pub fn gap(&self, limit: Number) -> Option<u64> {
+        if self.was_used {
+            return Some(measure(self.multipliers.gap(limit)));
+        }
+        None
+    }
+
+    /// Whether the multipliers have saved what they cost, in counted work.
+    pub fn pays(&self) -> bool {
+        self.account.pays()
+    }
+
+    /// Of the literal and its negation the one whose reduced cost is less, where the multipliers are used at the node; else
+    /// the literal.
+    pub fn cheaper(&self, lit: Lit) -> Lit
+        requires { lit.var ≤ self.now.form.vars }
+        ensures { result.var ≡ lit.var }
+    {
+        if self.is_used && self.multipliers.difference(lit).is_positive() {
+            return lit.negate();
+        }
+        lit
+    }
+
+    /// Improves the bound where it is below the goal.
+    fn improve(&mut self, tables: &Tables<'_, '_, C>, goal: Number)
+        requires { tables.now.form ≡ self.old.form }
+        ensures { IsSameButShifted self.old self.new }
+    {
+        if self.multipliers.bound() < goal {
+            self.tighten(tables);
+        }
+    }
+
+    /// Shifts the multipliers of the touched rows, each to where the bound is greatest.
+    fn tighten(&mut self, tables: &Tables<'_, '_, C>)
+        requires { tables.now.form ≡ self.old.form }
+        ensures { IsSameButShifted self.old self.new }
+    {
+        let mut from = self.schedule.take_start();
+        while let Some(row) = self.step_next(tables, from) {
+            from = row + 1;
+            if self.schedule.ends_before(from) {
+                return;
+            }
+        }
+    }
+
+    /// Steps the next touched row from this one on, and touches the rows that may be improved after it. Gives the row, or none
+    /// where no row is touched.
+    fn step_next(&mut self, tables: &Tables<'_, '_, C>, from: usize) -> Option<usize>
+        requires { tables.now.form ≡ self.old.form }
+        ensures row { IfSome result (λ row. (from ≤ row) × (row < length self.old.form.rows) × (row + 1 < 2 ^ 64)) }
+        ensures same { IsSameButShifted self.old self.new }
+    {
+        let row = self.schedule.take(from)?;
+        let amount = self.steps.step(&mut self.multipliers, row);
+        self.schedule.spread(&self.multipliers, tables, row, amount);
+        Some(row)
+    }
+
+    /// An assumption is made: what is shifted from now on goes with it.
+    pub fn begin_level(&mut self)
+        ensures { self.new ≡ self.old }
+    {
+        self.levels.push(self.multipliers.changes());
+    }
+
+    /// The trail has so many literals left, and so many assumptions.
+    pub fn undo_to(&mut self, level: usize, length: usize)
+        ensures form { self.new.form ≡ self.old.form }
+        ensures trail { self.new.trail ≡ take length self.old.trail }
+    {
+        self.multipliers.unassign_to(length);
+        if let Some(mark) = self.levels.cut(level) {
+            self.take_back_to(mark);
+        }
+        self.account.step_back(level);
+        self.counted = self.counted.min(length);
+        self.is_used = false;
+        self.fixing.forget();
+    }
+
+    /// Takes back the changes of multipliers until so many are left, and touches their rows: below the next decision their
+    /// best multipliers may be others again.
+    fn take_back_to(&mut self, mark: usize)
+        ensures { IsSameButShifted self.old self.new }
+    {
+        while self.take_back_above(mark) {}
+    }
+
+    /// Takes back the last change where there are more than so many, and touches its row. Answers whether it did.
+    fn take_back_above(&mut self, mark: usize) -> bool
+        ensures same { IsSameButShifted self.old self.new }
+        ensures fewer { result ≡ true → length self.new.changes < length self.old.changes }
+    {
+        let Some(row) = self.multipliers.last_changed(mark) else {
+            return false;
+        };
+        self.multipliers.take_back_last();
+        self.schedule.touch_row(row);
+        true
+    }
+
+    /// Follows the trail to its end.
+    fn catch_up(&mut self, slacks: &Slacks<'_, '_, C>)
+        requires { IsBeside slacks.now.form slacks.now.trail self.old }
+        ensures form { self.new.form ≡ self.old.form }
+        ensures trail { self.new.trail ≡ slacks.now.trail }
+    {
+        while self.multipliers.len() < slacks.len() {
+            self.follow(slacks);
+        }
+    }
+
+    /// Follows the trail for one literal, and notes the rows of its variable.
+    fn follow(&mut self, slacks: &Slacks<'_, '_, C>)
+        requires beside { IsBeside slacks.now.form slacks.now.trail self.old }
+        requires more { length self.old.trail < length slacks.now.trail }
+        ensures form { self.new.form ≡ self.old.form }
+        ensures trail { self.new.trail ≡ take (length self.old.trail + 1) slacks.now.trail }
+    {
+        let tables = slacks.tables();
+        let (_vars, _length) = (tables.vars(), slacks.len());
+        let lit = slacks.literal(self.multipliers.len());
+        self.multipliers.assign(lit);
+        self.schedule.touch(tables, lit);
+    }
+}
+
+/// The difference in units of 1 in the origin's place in 64 bits, so that those of a wide form are about as great as those of
+/// a form of 64 bits.
+fn measure<C: Count>(difference: Tally<C>) -> u64 {
+    let unit = Tally::origin() / Tally::of(1 << 62);
+    let units = difference / unit.max(Tally::of(1));
+    units.number().min(u64::MAX as u128) as u64
+}

@@ -1,0 +1,136 @@
+//! When all rows are stepped: at the first node, and once the search has gone on for some nodes.
+
+ghost use Rattle.std.specs.Prelude.{◌≡◌, ◌⊎◌, []};
+ghost use Rattle.pb_lagrange.specs.Relaxation.{IsSameButShifted};
+
+use super::steps::Steps;
+use crate::account::Account;
+use crate::ascent::Ascent;
+use pb_count::Count;
+use pb_dual::Multipliers;
+use pb_inst::{Memory, Number};
+use pb_normal::Form;
+use std::alloc::Global;
+
+/// How often all rows are gone through at the first node, forwards and backwards in turn.
+const FIRST_PASSES: u32 = 2;
+
+/// After how many nodes better first multipliers are looked for: a search that is over before does well without.
+const PATIENCE: u32 = 10;
+
+/// How often all rows are gone through by then.
+const PASSES: u32 = 20;
+
+/// After how many nodes all rows are shifted at once, to make the first multipliers better still.
+const LONG_PATIENCE: u32 = 20;
+
+/// What was done to all rows, and what the next passes wait for.
+#[derive(Drop)]
+pub struct Passes<C: Count> {
+    ascent: Ascent<C>,
+    /// The number of terms of all rows.
+    terms: u64,
+    /// How many nodes were counted.
+    nodes: u32,
+    /// How often all rows were gone through.
+    passes: u32,
+}
+
+impl<C: Count> Passes<C> {
+    /// None yet over the rows of the form.
+    pub fn new(alloc: Global, form: &Form<C>) -> Result<Passes<C>, Memory> {
+        Ok(Passes {
+            ascent: Ascent::new(alloc, form.len())?,
+            terms: all_terms(form),
+            nodes: 0,
+            passes: 0,
+        })
+    }
+
+    /// The number of terms of all rows.
+    pub fn terms(&self) -> u64 {
+        self.terms
+    }
+
+    /// Counts a node of the search.
+    pub fn count_node(&mut self) {
+        self.nodes = self.nodes.saturating_add(1);
+    }
+
+    /// Looks for first multipliers, and for better ones once the search has gone on for some nodes, where that is not too
+    /// dear.
+    pub fn ascend(
+        &mut self,
+        multipliers: &mut Multipliers<'_, C>,
+        steps: &mut Steps<C>,
+        account: &mut Account,
+    )
+        ensures form { multipliers.new.form ≡ multipliers.old.form }
+        ensures trail { (multipliers.new.trail ≡ multipliers.old.trail) ⊎ (multipliers.new.trail ≡ []) }
+    {
+        let end = if self.nodes < PATIENCE {
+            FIRST_PASSES
+        } else {
+            PASSES
+        };
+        let passes = end.saturating_sub(self.passes) as u64;
+        let work = passes.saturating_mul(self.terms);
+        if passes > 0 && account.affords(work) {
+            account.count_multipliers(work);
+            self.pass_up_to(multipliers, steps, end);
+        }
+    }
+
+    /// Shifts all rows at once, again and again, when the search has gone on for long enough, and steps them twice after that.
+    /// That is done once, so the account leaves it out.
+    pub fn climb(
+        &mut self,
+        multipliers: &mut Multipliers<'_, C>,
+        steps: &mut Steps<C>,
+        limit: Number,
+    )
+        ensures form { multipliers.new.form ≡ multipliers.old.form }
+        ensures trail { (multipliers.new.trail ≡ multipliers.old.trail) ⊎ (multipliers.new.trail ≡ []) }
+    {
+        if self.nodes == LONG_PATIENCE {
+            multipliers.unassign_to(0);
+            self.ascent.climb(multipliers, self.terms, limit);
+            pass(multipliers, steps, false);
+            pass(multipliers, steps, true);
+        }
+    }
+
+    /// Goes through all rows until that was done so often, with no trail. The multipliers are kept for good.
+    fn pass_up_to(&mut self, multipliers: &mut Multipliers<'_, C>, steps: &mut Steps<C>, end: u32)
+        ensures form { multipliers.new.form ≡ multipliers.old.form }
+        ensures empty { multipliers.new.trail ≡ [] }
+    {
+        multipliers.unassign_to(0);
+        let start = self.passes;
+        for number in start..end {
+            pass(multipliers, steps, number % 2 == 1);
+        }
+        self.passes = end;
+    }
+}
+
+/// Steps once through all rows, and keeps the multipliers for good.
+fn pass<C: Count>(multipliers: &mut Multipliers<'_, C>, steps: &mut Steps<C>, backwards: bool)
+    ensures { IsSameButShifted multipliers.old multipliers.new }
+{
+    let rows = multipliers.form().len();
+    for place in 0..rows {
+        let row = if backwards { rows - 1 - place } else { place };
+        steps.step(multipliers, row);
+        multipliers.keep();
+    }
+}
+
+/// The number of terms of all rows.
+fn all_terms<C: Count>(form: &Form<C>) -> u64 {
+    let mut count = 0_u64;
+    for row in 0..form.len() {
+        count = count.saturating_add(form.terms(row).len() as u64);
+    }
+    count
+}

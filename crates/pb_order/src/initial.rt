@@ -1,0 +1,190 @@
+//! What the order begins with: each variable's activity, what conflicts add to it, and the literal that is tried first. No
+//! answer depends on it, so nothing is promised.
+
+ghost use Rattle.std.specs.Prelude.{◌≤◌};
+
+use crate::activity::{Activity, BUMP, VariableActivity};
+use pb_count::Count;
+use pb_inst::{Cube, Lit, Memory};
+use pb_normal::{Form, FormTerm};
+use std::alloc::Global;
+
+/// What speaks for a variable before any conflict, scaled up. The greatest one stands for all that are greater, however wide
+/// the coefficients are.
+type Score = u64;
+
+/// By how much quotients are scaled up.
+const SCALE: Score = HALF_SCALE * HALF_SCALE;
+
+/// The square root of the scale.
+const HALF_SCALE: Score = 4096;
+
+/// An activity for each variable. It begins as less than that of one conflict, by the variable's score: (1 + cost / mean
+/// cost) times the sum of coefficient / degree over the variable's rows. A conflict adds 1 + cost / mean cost. Where cubes
+/// are to be false, their variables begin before all others, by falling number of occurrences in them.
+pub fn initial_activities<C: Count>(
+    alloc: Global,
+    form: &Form<C>,
+    negated: &[Cube],
+) -> Result<Vec<VariableActivity>, Memory> {
+    let scores = static_scores(alloc, form)?;
+    let mut activities = activities_of(alloc, &scores)?;
+    add_costs(&mut activities, form.objective());
+    // The clauses of the remainder speak of the cubes' variables alone, so with these decided first they soon propagate.
+    let counts = occurrences(alloc, form.vars(), negated)?;
+    give_head_starts(&mut activities, &counts);
+    Ok(activities)
+}
+
+/// For each variable the literal that costs nothing, and the negated one where neither costs.
+pub fn initial_phases<C: Count>(alloc: Global, form: &Form<C>) -> Result<Vec<Lit>, Memory> {
+    let mut phases = Vec::with_capacity(alloc, form.vars() as usize)?;
+    for place in 0..form.vars() {
+        if let Ok(lit) = Lit::new(place + 1, false) {
+            phases.push(lit)?;
+        }
+    }
+    for term in form.objective() {
+        let costly = term.lit();
+        if let Some(lit) = phases.get_mut(costly.var() as usize - 1) {
+            *lit = costly.negate();
+        }
+    }
+    Ok(phases)
+}
+
+/// The activities by score, as shares of the greatest one.
+fn activities_of(alloc: Global, scores: &[Score]) -> Result<Vec<VariableActivity>, Memory> {
+    let most = greatest(scores);
+    let mut activities = Vec::with_capacity(alloc, scores.len())?;
+    for score in scores {
+        // Less than one bump, so that before any conflict the order is the static one, and after it conflicts decide.
+        let activity = ratio(*score, most).min(SCALE - 1);
+        activities.push(VariableActivity {
+            activity,
+            bump: BUMP,
+        })?;
+    }
+    Ok(activities)
+}
+
+/// The greatest score, at least 1.
+fn greatest(scores: &[Score]) -> Score {
+    let mut most = 1;
+    for score in scores {
+        most = most.max(*score);
+    }
+    most
+}
+
+/// Adds to each variable's bump its cost by the mean cost.
+fn add_costs<C: Count>(activities: &mut [VariableActivity], objective: &[FormTerm<C>]) {
+    let mean = mean_cost(objective);
+    for term in objective {
+        if let Some(entry) = activities.get_mut(term.lit().var() as usize - 1) {
+            let share = wide_ratio(coefficient(term), mean);
+            entry.bump = entry.bump.saturating_add(share);
+        }
+    }
+}
+
+/// Adds to the activities of the variables that occur, for each time what a conflict adds.
+fn give_head_starts(activities: &mut [VariableActivity], counts: &[Activity]) {
+    for i in 0..counts.len() {
+        if let Some(entry) = activities.get_mut(i) {
+            let head_start = HEAD_START.saturating_mul(counts[i]);
+            entry.activity = entry.activity.saturating_add(head_start);
+        }
+    }
+}
+
+/// What each occurrence in a cube that is to be false adds to the initial activity.
+const HEAD_START: Activity = BUMP;
+
+/// The score of each variable, before any conflict.
+fn static_scores<C: Count>(alloc: Global, form: &Form<C>) -> Result<Vec<Score>, Memory> {
+    let vars = form.vars() as usize;
+    let mut scores = vec![in alloc; 0; vars]?;
+    for row in 0..form.len() {
+        let degree = form.degree(row).number();
+        add_row(&mut scores, form.terms(row), degree);
+    }
+    raise_by_cost(&mut scores, form.objective());
+    Ok(scores)
+}
+
+/// Adds coefficient / degree to the score of each variable of the row.
+fn add_row<C: Count>(scores: &mut [Score], terms: &[FormTerm<C>], degree: u128) {
+    for term in terms {
+        if let Some(score) = scores.get_mut(term.lit().var() as usize - 1) {
+            let share = wide_ratio(coefficient(term), degree);
+            *score = score.saturating_add(share);
+        }
+    }
+}
+
+/// Multiplies the score of each variable by 1 + cost / mean cost.
+fn raise_by_cost<C: Count>(scores: &mut [Score], objective: &[FormTerm<C>]) {
+    let mean = mean_cost(objective);
+    for term in objective {
+        if let Some(score) = scores.get_mut(term.lit().var() as usize - 1) {
+            let share = wide_ratio(coefficient(term), mean) / HALF_SCALE;
+            *score = score.saturating_add((*score / HALF_SCALE).saturating_mul(share));
+        }
+    }
+}
+
+/// The mean coefficient, at least 1.
+fn mean_cost<C: Count>(objective: &[FormTerm<C>]) -> u128 {
+    let mut total: u128 = 0;
+    for term in objective {
+        total = total.saturating_add(coefficient(term));
+    }
+    let count = objective.len() as u128;
+    (total / count.max(1)).max(1)
+}
+
+/// The term's coefficient.
+fn coefficient<C: Count>(term: &FormTerm<C>) -> u128 {
+    term.coef().number()
+}
+
+/// The scaled quotient of numbers of any width. Of numbers that are wider than a score the leading bits count.
+fn wide_ratio(part: u128, whole: u128) -> Score {
+    let excess = Score::BITS.saturating_sub((part | whole).leading_zeros());
+    ratio(leading(part, excess), leading(whole, excess))
+}
+
+/// The number without its last bits, of which there are `excess`; the greatest score where it is still wider.
+fn leading(number: u128, excess: u32) -> Score
+    requires { excess ≤ 64 }
+{
+    (number >> excess).min(Score::MAX as u128) as Score
+}
+
+/// The scaled quotient. Where the part is too large to be scaled, the whole is scaled down.
+fn ratio(part: Score, whole: Score) -> Score {
+    if part <= Score::MAX / SCALE {
+        part * SCALE / whole.max(1)
+    } else {
+        part / (whole / SCALE).max(1)
+    }
+}
+
+/// How often each variable occurs in the cubes.
+fn occurrences(alloc: Global, vars: u32, cubes: &[Cube]) -> Result<Vec<Activity>, Memory> {
+    let mut counts = vec![in alloc; 0; vars as usize]?;
+    for cube in cubes {
+        count(&mut counts, cube.lits());
+    }
+    Ok(counts)
+}
+
+/// Counts the variables of the literals.
+fn count(counts: &mut [Activity], lits: &[Lit]) {
+    for lit in lits {
+        if let Some(count) = counts.get_mut(lit.var() as usize - 1) {
+            *count = count.saturating_add(1);
+        }
+    }
+}

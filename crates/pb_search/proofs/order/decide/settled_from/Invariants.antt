@@ -1,6 +1,0 @@
-use Rattle.std.proofs.Common.{ℕ, ◌+◌, ◌<◌, ◌≤◌, ◌≢◌, None}
-use Rattle.pb_engine.specs.Trail.{value_on}
-use Rattle.pb_search.proofs.order.decide.settled_from.Given as goal
-
-abbrev pub invariant-loop-place : goal.invariant-loop-place
-invariant-loop-place g l = (k : ℕ) → l.fn.from ≤ k → k < l.place → value_on l.engine.trail (k + 1) ≢ None

@@ -1,8 +1,0 @@
-use Rattle.std.proofs.Common.{◌≡◌}
-use Rattle.pb_search.proofs.tests.instances.run_pieces.Given as goal
-
-abbrev pub invariant-loop-piece : goal.invariant-loop-piece
-invariant-loop-piece g l = record {
-  same_search : l.search.division ≡ l.initial.search.division;
-  same_instance : l.best.problem ≡ l.fn.best.problem;
-}

@@ -1,0 +1,10 @@
+//! The tests by what they are of.
+
+mod account;
+mod blind_multipliers;
+mod clauses;
+mod courses;
+mod forms;
+mod player;
+mod widths;
+mod worked_rows;

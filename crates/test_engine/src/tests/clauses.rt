@@ -1,0 +1,119 @@
+//! Clauses of cubes, and a row of a million literals.
+
+use super::courses::{Course, Move};
+use super::forms::form;
+use super::player::Player;
+use pb_engine::Step;
+use pb_inst::Number;
+use std::process::Abort;
+
+#[test]
+fn a_cube_that_is_nearly_true_forces_a_literal(rt: HostRuntime) {
+    let course = Course {
+        vars: 3,
+        costs: &[],
+        rows: &[],
+        cubes: &[&[1, -2, 3]],
+        moves: &[
+            Move::Propagate(Step::Fixed),
+            Move::Assume(3),
+            Move::Propagate(Step::Fixed),
+            Move::Value(2, None),
+            Move::Assume(1),
+            Move::Propagate(Step::Fixed),
+            Move::Value(2, Some(true)),
+            Move::UndoTo(1),
+            Move::Value(2, None),
+            Move::Assume(-2),
+            Move::Propagate(Step::Fixed),
+            Move::Value(1, Some(false)),
+        ],
+    };
+    assert!(rt; course.comes_out(&rt, rt.alloc()));
+}
+
+#[test]
+fn repeats_in_a_cube_count_once(rt: HostRuntime) {
+    let course = Course {
+        vars: 3,
+        costs: &[],
+        rows: &[],
+        cubes: &[&[2, 1, 2, 1, 2]],
+        moves: &[
+            Move::Slack(0, Some(1)),
+            Move::Propagate(Step::Fixed),
+            Move::Assume(2),
+            Move::Slack(0, Some(0)),
+            Move::Propagate(Step::Fixed),
+            Move::Value(1, Some(false)),
+        ],
+    };
+    assert!(rt; course.comes_out(&rt, rt.alloc()));
+}
+
+#[test]
+fn a_cube_that_contradicts_itself_gives_no_clause(rt: HostRuntime) {
+    let course = Course {
+        vars: 3,
+        costs: &[],
+        rows: &[],
+        cubes: &[&[1, 3, -1], &[2]],
+        moves: &[
+            Move::Rows(1),
+            Move::Propagate(Step::Fixed),
+            Move::Value(1, None),
+            Move::Value(2, Some(false)),
+            Move::Value(3, None),
+        ],
+    };
+    assert!(rt; course.comes_out(&rt, rt.alloc()));
+}
+
+#[test]
+fn the_empty_cube_conflicts_at_once(rt: HostRuntime) {
+    let course = Course {
+        vars: 3,
+        costs: &[],
+        rows: &[],
+        cubes: &[&[]],
+        moves: &[
+            Move::Propagate(Step::Conflict),
+            Move::UndoTo(0),
+            Move::Propagate(Step::Conflict),
+        ],
+    };
+    assert!(rt; course.comes_out(&rt, rt.alloc()));
+}
+
+/// Makes the variables before `last` false one by one, and says whether each time `last` has no value before the rows are
+/// looked at.
+fn refute_all_before(rt: &impl Abort, player: &mut Player<'_>, last: i32) -> bool {
+    for number in 1..last {
+        let fixed = player.assume(rt, number.wrapping_neg()) == Step::Fixed;
+        let open = player.value(rt, last.unsigned_abs()).is_none();
+        if !fixed || !open || player.propagate(rt) == Step::Conflict {
+            return false;
+        }
+    }
+    true
+}
+
+/// The same, and whether `last` is true then, and without a value once the last assumption is taken back.
+fn last_is_forced(rt: &impl Abort, player: &mut Player<'_>, last: i32) -> bool {
+    let refuted = refute_all_before(rt, player, last);
+    let forced = player.value(rt, last.unsigned_abs()) == Some(true);
+    let level = player.level(rt).saturating_sub(1);
+    player.undo_to(rt, level);
+    refuted && forced && player.value(rt, last.unsigned_abs()).is_none()
+}
+
+#[test]
+fn the_last_of_a_million_literals_is_forced(rt: HostRuntime) {
+    let mut row: Vec<(Number, i32)> = Vec::new(rt.alloc());
+    for number in 1..=1_000_000 {
+        row.push((1, number)).expect(&rt, "memory");
+    }
+    let form = form(&rt, rt.alloc(), 1_000_000, &[], &[(&row, 1)]);
+    let mut player = Player::new(&rt, rt.alloc(), &form, &[]);
+    assert!(rt; last_is_forced(&rt, &mut player, 1_000_000));
+}

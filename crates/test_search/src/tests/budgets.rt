@@ -1,0 +1,126 @@
+//! Searches with a budget of decisions.
+
+ghost use Rattle.std.specs.Prelude.{◌≡◌, ◌≤◌, length};
+
+use super::instances::{Row, cubes, instance, nothing, shown};
+use pb_cubes::Pieces;
+use pb_inst::{Best, Instance, Number, Relation};
+use pb_normal::normalise;
+use pb_search::{Alone, Search};
+use std::alloc::Global;
+use std::process::Abort;
+
+/// Of two variables no pair of values is left.
+const NO_PAIR: &[Row<'_>] = &[
+    (&[(1, 1), (1, 2)], Relation::AtLeast, 1),
+    (&[(1, 1), (1, -2)], Relation::AtLeast, 1),
+    (&[(1, -1), (1, 2)], Relation::AtLeast, 1),
+    (&[(1, -1), (1, -2)], Relation::AtLeast, 1),
+];
+
+/// Searches a piece with these budgets, one after the other. Shows what each run answers with the decisions that the search
+/// tells then, and what is held in the end.
+fn shown_runs(
+    rt: &impl Abort,
+    alloc: Global,
+    search: &mut Search<'_>,
+    piece: u32,
+    budgets: &[Option<u64>],
+    best: &mut Best<'_>,
+) -> String
+    requires piece { piece ≤ length search.old.division.cubes }
+    requires same_instance { best.old.problem ≡ search.old.division.problem }
+{
+    let mut text = String::new(alloc);
+    for budget in budgets {
+        let outcome = search.run(piece, best, &mut Alone, *budget);
+        let decisions = search.decisions();
+        let run = format!(in alloc; "{outcome:?} {decisions}, ").expect(rt, "memory");
+        text.push_str(run.as_str()).expect(rt, "memory");
+    }
+    let held = shown(rt, alloc, best);
+    text.push_str(held.as_str()).expect(rt, "memory");
+    text
+}
+
+/// The same for a piece of the instance and the cubes, where nothing is held at first.
+fn runs_of(
+    rt: &impl Abort,
+    alloc: Global,
+    instance: &Instance,
+    lists: &[&[i32]],
+    piece: u32,
+    budgets: &[Option<u64>],
+) -> String {
+    let vars = instance.vars();
+    let pieces = Pieces::new(vars, cubes(rt, alloc, lists)).expect(rt, "pieces");
+    assert!(rt; pieces.vars() == vars);
+    assert!(rt; piece < pieces.len());
+    let normal = normalise(alloc, instance).expect(rt, "memory");
+    let mut best = nothing(rt, alloc, instance);
+    let mut search = Search::new(alloc, instance, &normal, &pieces).expect(rt, "memory");
+    shown_runs(rt, alloc, &mut search, piece, budgets, &mut best)
+}
+
+/// A first value and a second one are a decision each. The literals of a cube are none.
+#[test]
+fn counted(rt: HostRuntime) {
+    let alloc = rt.alloc();
+    let no_pair = instance(&rt, alloc, 2, &[], NO_PAIR);
+    let moves: &[(&[&[i32]], &[Option<u64>], &str)] = &[
+        (&[], &[None], "Whole 0, none"),
+        (&[], &[Some(1000)], "Whole 2, none"),
+        (&[], &[Some(2)], "Whole 2, none"),
+        (&[], &[Some(1)], "Cut 1, none"),
+        (&[], &[Some(0)], "Cut 0, none"),
+        (&[&[1]], &[Some(0)], "Whole 0, none"),
+        (
+            &[],
+            &[Some(1), Some(1), None],
+            "Cut 1, Cut 1, Whole 1, none",
+        ),
+        (&[], &[Some(1), Some(3)], "Cut 1, Whole 2, none"),
+    ];
+    for (lists, budgets, want) in moves {
+        let got = runs_of(&rt, alloc, &no_pair, lists, 0, budgets);
+        assert!(rt; got.as_str() == *want, "{got}");
+    }
+}
+
+/// Nothing is held on the way down, so that no bound is taken there. On the way back it is, and closes both second values.
+#[test]
+fn second_values_wait_for_the_bound(rt: HostRuntime) {
+    let alloc = rt.alloc();
+    let sum: &[(Number, i32)] = &[(1, 1), (1, 2)];
+    let any = instance(&rt, alloc, 2, sum, &[(sum, Relation::AtLeast, 0)]);
+    let moves: &[(Option<u64>, &str)] = &[
+        (Some(0), "Cut 0, none"),
+        (Some(1), "Cut 1, none"),
+        (Some(2), "Whole 2, 0:"),
+    ];
+    for (budget, want) in moves {
+        let got = runs_of(&rt, alloc, &any, &[], 0, &[*budget]);
+        assert!(rt; got.as_str() == *want, "{got}");
+    }
+}
+
+/// Without a decision: nothing to decide, nothing feasible, and a cut.
+#[test]
+fn no_decisions(rt: HostRuntime) {
+    let alloc = rt.alloc();
+    let refuted: &[Row<'_>] = &[
+        (&[(1, 1)], Relation::AtLeast, 1),
+        (&[(1, 1)], Relation::Equal, 0),
+    ];
+    let one_of_two: &[Row<'_>] = &[(&[(1, 1), (1, 2)], Relation::AtLeast, 1)];
+    let moves: &[(u32, &[Row<'_>], &str)] = &[
+        (0, &[], "Whole 0, 0:"),
+        (1, refuted, "Whole 0, none"),
+        (2, one_of_two, "Cut 0, none"),
+    ];
+    for (vars, rows, want) in moves {
+        let instance = instance(&rt, alloc, *vars, &[], rows);
+        let got = runs_of(&rt, alloc, &instance, &[], 0, &[Some(0)]);
+        assert!(rt; got.as_str() == *want, "{got}");
+    }
+}

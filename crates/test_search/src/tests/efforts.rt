@@ -1,0 +1,95 @@
+//! How much work searches take at most, by their decisions or by how often the share is asked: once at the beginning, and
+//! after every 256th decision.
+
+use super::instances::{
+    Row, cover, crowd_behind_ring, instance, nothing, ring, ring_cover, search_pieces,
+};
+use super::lenders::InTurn;
+use pb_cubes::{Pieces, split};
+use pb_inst::{Cube, Instance, Relation};
+use pb_normal::normalise;
+use pb_search::{Alone, Search};
+use std::alloc::Global;
+use std::process::Abort;
+
+/// How often the search of what the cubes leave asks its share.
+fn asked(rt: &impl Abort, alloc: Global, instance: &Instance, cubes: Vec<Cube>) -> u64 {
+    let pieces = Pieces::new(instance.vars(), cubes).expect(rt, "pieces");
+    let mut share = InTurn::new(Vec::new(alloc));
+    let mut best = nothing(rt, alloc, instance);
+    let end = pieces.len();
+    let last = end.saturating_sub(1);
+    search_pieces(
+        rt, alloc, instance, &pieces, last, end, &mut best, &mut share,
+    );
+    share.asked
+}
+
+/// How many decisions the search of the whole instance makes.
+fn decisions(rt: &impl Abort, alloc: Global, instance: &Instance) -> u64 {
+    let vars = instance.vars();
+    let pieces = Pieces::new(vars, Vec::new(alloc)).expect(rt, "pieces");
+    assert!(rt; pieces.vars() == vars);
+    let normal = normalise(alloc, instance).expect(rt, "memory");
+    let mut search = Search::new(alloc, instance, &normal, &pieces).expect(rt, "memory");
+    let mut best = nothing(rt, alloc, instance);
+    search.run(0, &mut best, &mut Alone, Some(u64::MAX));
+    search.decisions()
+}
+
+/// Pigeons without room behind a ring whose variables occur more often. After the first conflicts the pigeons come before
+/// the ring; else every choice on the ring would search them anew.
+#[test]
+fn conflicts_bring_their_variables_forward(rt: HostRuntime) {
+    let alloc = rt.alloc();
+    let crowded = crowd_behind_ring(&rt, alloc, 38, 8, 5);
+    let count = asked(&rt, alloc, &crowded, Vec::new(alloc));
+    assert!(rt; count <= 21, "asked {count} times");
+}
+
+/// How many decisions covers of rings of these sizes take together.
+fn decisions_on_rings(rt: &impl Abort, alloc: Global, sizes: &[i32]) -> u64 {
+    let mut count = 0u64;
+    for size in sizes {
+        let cover = ring_cover(rt, alloc, *size);
+        count = count.saturating_add(decisions(rt, alloc, &cover));
+    }
+    count
+}
+
+/// Short rings are searched soon, where the dear and the much needed are decided first.
+#[test]
+fn costs_and_occurrences_lead_the_search(rt: HostRuntime) {
+    let count = decisions_on_rings(&rt, rt.alloc(), &[36, 40, 44, 48]);
+    assert!(rt; count <= 450, "{count} decisions");
+}
+
+/// Without the bound of the multipliers five longer rings take over four hundred times as many decisions.
+#[test]
+fn multipliers_keep_long_rings_short(rt: HostRuntime) {
+    let count = decisions_on_rings(&rt, rt.alloc(), &[80, 120, 160, 200, 240]);
+    assert!(rt; count <= 15_900, "{count} decisions");
+}
+
+/// All cubes over the last nine of 49 variables.
+fn cubes_of_the_last(rt: &impl Abort, alloc: Global) -> Vec<Cube> {
+    let mut last = Vec::new(alloc);
+    for place in 40..49i32 {
+        last.push((1, place + 1)).expect(rt, "memory");
+    }
+    let rows: &[Row<'_>] = &[(last.as_slice(), Relation::AtLeast, 1)];
+    let named = instance(rt, alloc, 49, &[], rows);
+    split(alloc, &named, 9).expect(rt, "a split")
+}
+
+/// All cubes over nine variables that no constraint names leave nothing: the search sees it at once where it begins with
+/// these variables.
+#[test]
+fn the_remainder_begins_with_the_variables_of_the_cubes(rt: HostRuntime) {
+    let alloc = rt.alloc();
+    let pairs = ring(&rt, alloc, 40, &[1, 2]);
+    let cover = cover(&rt, alloc, 49, &[], &pairs);
+    let cubes = cubes_of_the_last(&rt, alloc);
+    let count = asked(&rt, alloc, &cover, cubes);
+    assert!(rt; count <= 3, "asked {count} times");
+}

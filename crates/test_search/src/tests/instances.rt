@@ -1,0 +1,290 @@
+//! Instances, cubes and assignments by the numbers of their literals, and searches of pieces.
+
+ghost use Rattle.std.specs.Prelude.{◌≡◌, ◌+◌, ◌≤◌, length};
+
+use pb_cubes::Pieces;
+use pb_inst::{Assignment, Best, Cube, Instance, InstanceBuilder, Lit, Number, Relation, Term};
+use pb_normal::normalise;
+use pb_search::{Search, Share};
+use std::alloc::Global;
+use std::process::Abort;
+
+/// Coefficients and literals, a relation and a number.
+pub type Row<'a> = (&'a [(Number, i32)], Relation, Number);
+
+/// `min: 2 x1 3 x2 1 x3` with `x1 + x2 >= 1` and `x2 + x3 >= 1`: x1 and x3 cost 3, and so does x2, which comes first.
+pub const TIED: (&[(Number, i32)], &[Row<'_>]) = (
+    &[(2, 1), (3, 2), (1, 3)],
+    &[
+        (&[(1, 1), (1, 2)], Relation::AtLeast, 1),
+        (&[(1, 2), (1, 3)], Relation::AtLeast, 1),
+    ],
+);
+
+/// The literal of the variable, negated where the number is negative.
+pub fn lit(rt: &impl Abort, number: i32) -> Lit {
+    Lit::new(number.unsigned_abs(), number > 0).expect(rt, "a variable")
+}
+
+fn terms(rt: &impl Abort, alloc: Global, numbers: &[(Number, i32)]) -> Vec<Term> {
+    let mut terms = Vec::new(alloc);
+    for (coef, number) in numbers {
+        let lit = lit(rt, *number);
+        terms.push(Term { coef: *coef, lit }).expect(rt, "memory");
+    }
+    terms
+}
+
+/// An objective, where it has terms, and constraints.
+pub fn instance(
+    rt: &impl Abort,
+    alloc: Global,
+    vars: u32,
+    objective: &[(Number, i32)],
+    rows: &[Row<'_>],
+) -> Instance {
+    let mut builder = InstanceBuilder::new(alloc);
+    if !objective.is_empty() {
+        let objective = terms(rt, alloc, objective);
+        builder.set_objective(&objective).expect(rt, "an objective");
+    }
+    for (row, relation, bound) in rows {
+        let row = terms(rt, alloc, row);
+        builder
+            .add(&row, *relation, *bound)
+            .expect(rt, "a constraint");
+    }
+    builder.finish(vars).ok().expect(rt, "an instance")
+}
+
+/// `TIED` as an instance.
+pub fn tied(rt: &impl Abort, alloc: Global) -> Instance {
+    instance(rt, alloc, 3, TIED.0, TIED.1)
+}
+
+/// The pairs of variables on a ring of `size` that are one of these numbers of steps apart.
+pub fn ring(rt: &impl Abort, alloc: Global, size: i32, steps: &[i32]) -> Vec<[(Number, i32); 2]> {
+    let mut pairs = Vec::new(alloc);
+    for place in 0..size {
+        for step in steps {
+            let other = place.wrapping_add(*step).checked_rem(size);
+            let other = other.expect(rt, "variables").wrapping_add(1);
+            pairs
+                .push([(1, place + 1), (1, other)])
+                .expect(rt, "memory");
+        }
+    }
+    pairs
+}
+
+/// The costs 1 to 11 in turn on a ring, no two alike next to each other.
+fn ring_costs(rt: &impl Abort, alloc: Global, size: i32) -> Vec<(Number, i32)> {
+    let mut costs = Vec::new(alloc);
+    for place in 0..size {
+        let cost = Number::from(place.wrapping_mul(7) % 11 + 1);
+        costs.push((cost, place + 1)).expect(rt, "memory");
+    }
+    costs
+}
+
+/// Of each pair one is chosen.
+fn pair_rows<'a>(rt: &impl Abort, alloc: Global, pairs: &'a [[(Number, i32); 2]]) -> Vec<Row<'a>> {
+    let mut rows: Vec<Row<'a>> = Vec::new(alloc);
+    for pair in pairs {
+        rows.push((pair.as_slice(), Relation::AtLeast, 1))
+            .expect(rt, "memory");
+    }
+    rows
+}
+
+/// One of each pair is chosen, at these costs.
+pub fn cover(
+    rt: &impl Abort,
+    alloc: Global,
+    vars: u32,
+    costs: &[(Number, i32)],
+    pairs: &[[(Number, i32); 2]],
+) -> Instance {
+    let rows = pair_rows(rt, alloc, pairs);
+    instance(rt, alloc, vars, costs, &rows)
+}
+
+/// One of every two neighbours on a ring with chords is chosen, at least cost.
+pub fn ring_cover(rt: &impl Abort, alloc: Global, size: i32) -> Instance {
+    let costs = ring_costs(rt, alloc, size);
+    let pairs = ring(rt, alloc, size, &[1, 7]);
+    cover(rt, alloc, size.unsigned_abs(), &costs, &pairs)
+}
+
+/// The variable, of those after `after`, that says that the pigeon sits in the hole.
+fn seat(after: i32, holes: i32, pigeon: i32, hole: i32) -> (Number, i32) {
+    let place = pigeon.wrapping_mul(holes).wrapping_add(hole);
+    (1, after.wrapping_add(place).wrapping_add(1))
+}
+
+/// Each pigeon sits in a hole, and no two in one, though there is one pigeon more than holes.
+fn crowd(
+    rt: &impl Abort,
+    alloc: Global,
+    after: i32,
+    holes: i32,
+) -> Vec<(Vec<(Number, i32)>, Relation)> {
+    let mut sums = Vec::new(alloc);
+    let pigeons = holes.wrapping_add(1);
+    for pigeon in 0..pigeons {
+        let mut seats = Vec::new(alloc);
+        for hole in 0..holes {
+            seats
+                .push(seat(after, holes, pigeon, hole))
+                .expect(rt, "memory");
+        }
+        sums.push((seats, Relation::AtLeast)).expect(rt, "memory");
+    }
+    for hole in 0..holes {
+        let mut seats = Vec::new(alloc);
+        for pigeon in 0..pigeons {
+            seats
+                .push(seat(after, holes, pigeon, hole))
+                .expect(rt, "memory");
+        }
+        sums.push((seats, Relation::AtMost)).expect(rt, "memory");
+    }
+    sums
+}
+
+/// Adds the rows of these sums, whose bound is 1.
+fn add_sums<'a>(
+    rt: &impl Abort,
+    rows: &mut Vec<Row<'a>>,
+    sums: &'a [(Vec<(Number, i32)>, Relation)],
+) {
+    for (sum, relation) in sums {
+        rows.push((sum.as_slice(), *relation, 1))
+            .expect(rt, "memory");
+    }
+}
+
+/// More pigeons than this many holes behind a ring of so many variables, of which one of any two near each other is chosen.
+pub fn crowd_behind_ring(
+    rt: &impl Abort,
+    alloc: Global,
+    vars: u32,
+    size: i32,
+    holes: i32,
+) -> Instance {
+    let pairs = ring(rt, alloc, size, &[1, 2]);
+    let sums = crowd(rt, alloc, size, holes);
+    let mut rows = pair_rows(rt, alloc, &pairs);
+    add_sums(rt, &mut rows, &sums);
+    instance(rt, alloc, vars, &[], &rows)
+}
+
+/// Cubes, each a list of literals.
+pub fn cubes(rt: &impl Abort, alloc: Global, lists: &[&[i32]]) -> Vec<Cube> {
+    let mut cubes = Vec::new(alloc);
+    for list in lists {
+        let mut lits = Vec::new(alloc);
+        for number in *list {
+            lits.push(lit(rt, *number)).expect(rt, "memory");
+        }
+        let cube = Cube::new(alloc, &lits).expect(rt, "memory");
+        cubes.push(cube).expect(rt, "memory");
+    }
+    cubes
+}
+
+/// The assignment that makes these variables alone true.
+pub fn assignment(rt: &impl Abort, alloc: Global, vars: u32, made_true: &[u32]) -> Assignment
+    ensures { length result ≡ vars }
+{
+    let mut assignment = Assignment::new(alloc, vars).expect(rt, "memory");
+    for var in made_true {
+        assert!(rt; 1 <= *var);
+        assert!(rt; *var <= assignment.len());
+        assignment.set(*var, true);
+    }
+    assert!(rt; assignment.len() == vars);
+    assignment
+}
+
+/// Holds nothing yet.
+pub fn nothing<'i>(rt: &impl Abort, alloc: Global, instance: &'i Instance) -> Best<'i>
+    ensures { result.problem ≡ instance.now }
+{
+    Best::none(alloc, instance).expect(rt, "memory")
+}
+
+/// Searches the pieces from `first` to before `end`, one after the other.
+pub fn search_pieces<S: Share>(
+    rt: &impl Abort,
+    alloc: Global,
+    instance: &Instance,
+    pieces: &Pieces,
+    first: u32,
+    end: u32,
+    best: &mut Best<'_>,
+    share: &mut S,
+)
+    requires { best.old.problem ≡ instance.now }
+    ensures { best.new.problem ≡ best.old.problem }
+{
+    let vars = instance.vars();
+    assert!(rt; pieces.vars() == vars);
+    assert!(rt; end <= pieces.len());
+    let normal = normalise(alloc, instance).expect(rt, "memory");
+    let mut search = Search::new(alloc, instance, &normal, pieces).expect(rt, "memory");
+    run_pieces(&mut search, first, end, best, share);
+}
+
+/// What is held after a search of all pieces, where nothing is held before.
+pub fn found<S: Share>(
+    rt: &impl Abort,
+    alloc: Global,
+    instance: &Instance,
+    cubes: Vec<Cube>,
+    share: &mut S,
+) -> String {
+    let pieces = Pieces::new(instance.vars(), cubes).expect(rt, "pieces");
+    let end = pieces.len();
+    let mut best = nothing(rt, alloc, instance);
+    search_pieces(rt, alloc, instance, &pieces, 0, end, &mut best, share);
+    shown(rt, alloc, &best)
+}
+
+/// Runs the search on the pieces from `first` to before `end`, one after the other.
+pub fn run_pieces<S: Share>(
+    search: &mut Search<'_>,
+    first: u32,
+    end: u32,
+    best: &mut Best<'_>,
+    share: &mut S,
+)
+    requires pieces { end ≤ length search.old.division.cubes + 1 }
+    requires same_instance { best.old.problem ≡ search.old.division.problem }
+    ensures { best.new.problem ≡ best.old.problem }
+{
+    for piece in first..end {
+        search.run(piece, best, share, None);
+    }
+}
+
+/// The cost and the variables that are true, as `3: x2`, or `none`.
+pub fn shown(rt: &impl Abort, alloc: Global, best: &Best<'_>) -> String {
+    match (best.cost(), best.assignment()) {
+        (Some(cost), Some(held)) => solution(rt, alloc, cost, held),
+        _ => format!(in alloc; "none").expect(rt, "memory"),
+    }
+}
+
+/// The cost and the variables that are true, as `3: x2`.
+pub fn solution(rt: &impl Abort, alloc: Global, cost: Number, held: &Assignment) -> String {
+    let mut text = format!(in alloc; "{cost}:").expect(rt, "memory");
+    for place in 0..held.len() {
+        let var = place + 1;
+        if held.get(var) {
+            let part = format!(in alloc; " x{var}").expect(rt, "memory");
+            text.push_str(part.as_str()).expect(rt, "memory");
+        }
+    }
+    text
+}

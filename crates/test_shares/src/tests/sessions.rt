@@ -1,0 +1,90 @@
+//! A planner's session: two jobs, of which one has to be done.
+
+use pb_inst::{InstFault, Lit, Number, Relation};
+use pb_session::{Session, SessionFault};
+use pb_solve::{Format, Status};
+
+// Each test holds its session with no way out before its end, and calls it through helpers without a contract: the tests look at
+// answers alone, and the clauses of the calls would make their proofs ten times as long.
+
+/// Tells a sum of positive variables with these coefficients.
+fn tell(session: &mut Session, sum: &[(Number, u32)]) -> Result<(), SessionFault> {
+    for &(coef, var) in sum {
+        session.term(coef, Lit::new(var, true)?)?;
+    }
+    Ok(())
+}
+
+/// Costs 3 and 2, and at least one of the two.
+fn tell_jobs(session: &mut Session) -> Result<(), SessionFault> {
+    tell(session, &[(3, 1), (2, 2)])?;
+    session.end_objective()?;
+    tell(session, &[(1, 1), (1, 2)])?;
+    session.end(Relation::AtLeast, 1)
+}
+
+fn end(session: &mut Session) -> Result<(), SessionFault> {
+    session.end(Relation::AtMost, 0)
+}
+
+fn end_objective(session: &mut Session) -> Result<(), SessionFault> {
+    session.end_objective()
+}
+
+/// The status of a search, and whether it was cut.
+fn solve(session: &mut Session, nodes: Option<u64>) -> Result<(Status, bool), SessionFault> {
+    let ran = session.solve(nodes)?;
+    Ok((ran.status, ran.cut))
+}
+
+/// The values of the variables from 0 to 3 in what was found.
+fn values(session: &Session) -> [Option<bool>; 4] {
+    [
+        session.value(0),
+        session.value(1),
+        session.value(2),
+        session.value(3),
+    ]
+}
+
+fn run(session: &mut Session, format: Format, text: &[u8]) -> Result<Status, SessionFault> {
+    let ran = session.run_text(format, text, None)?;
+    Ok(ran.status)
+}
+
+#[test]
+fn the_cheaper_job_is_done(rt: HostRuntime) {
+    let mut session = Session::new(rt.alloc());
+    assert!(rt; tell_jobs(&mut session).is_ok());
+    assert!(rt; solve(&mut session, None) == Ok((Status::Optimum, false)));
+    assert!(rt; session.cost() == Some(2));
+    assert!(rt; values(&session) == [None, Some(false), Some(true), None]);
+    assert!(rt; tell(&mut session, &[(1, 1)]) == Err(SessionFault::Closed));
+    assert!(rt; solve(&mut session, Some(0)) == Ok((Status::Unknown, true)));
+}
+
+#[test]
+fn refusals_change_nothing(rt: HostRuntime) {
+    let mut session = Session::new(rt.alloc());
+    assert!(rt; tell_jobs(&mut session).is_ok());
+    assert!(rt; tell(&mut session, &[(Number::MAX, 7)]).is_ok());
+    let too_large = SessionFault::Statement(InstFault::TooLarge);
+    assert!(rt; end(&mut session) == Err(too_large));
+    assert!(rt; end_objective(&mut session) == Err(too_large));
+    assert!(rt; solve(&mut session, None) == Err(SessionFault::Unended));
+    session.discard();
+    assert!(rt; session.vars() == 2);
+    assert!(rt; solve(&mut session, None) == Ok((Status::Optimum, false)));
+    assert!(rt; session.cost() == Some(2));
+}
+
+#[test]
+fn a_text_is_reported(rt: HostRuntime) {
+    let mut session = Session::new(rt.alloc());
+    let ended = run(&mut session, Format::Cnf, b"p cnf 2 1\n1 2 0\n");
+    assert!(rt; ended == Ok(Status::Satisfiable));
+    assert!(rt; session.report() == b"s SATISFIABLE\nv -1 2 0\n".as_slice());
+    let ended = run(&mut session, Format::Opb, b"min: 1 x1 ;\n1 y1 >= 1 ;\n");
+    assert!(rt; ended == Ok(Status::Unsupported));
+    assert!(rt; session.report() == b"c refused: Syntax at line 2\ns UNSUPPORTED\n".as_slice());
+}

@@ -1,0 +1,82 @@
+#!/usr/bin/env python3
+"""Runs all that judges the built program and the library, side by side, and prints what each script said when it has ended.
+
+    tests/all.py
+
+As many are under way as there are processors. Those that take longest begin first, and those that the work of others may mislead
+run by themselves at the end. The library for C is built before the scripts that call it. The status is 1 where one of them failed.
+"""
+import shutil
+import subprocess
+import sys
+import time
+from concurrent.futures import FIRST_COMPLETED, ThreadPoolExecutor, wait
+from dataclasses import dataclass
+
+sys.dont_write_bytecode = True
+from lib import PROCESSORS, TOP
+
+
+@dataclass(frozen=True)
+class Step:
+    """A command, the step that it waits for, and whether nothing else may run beside it."""
+
+    name: str
+    command: str
+    after: str = ""
+    is_alone: bool = False
+
+
+STEPS = [
+    Step("work", "tests/work.py"),
+    Step("library", "c/build --as-built"),
+    Step("embedding", "tests/embedding.py --as-built", after="library"),
+    Step("joins", "tests/joins.py"),
+    Step("ways", "tests/ways.py", after="library"),
+    Step("budgets", "tests/budgets.py"),
+    Step("faults", "tests/faults.py"),
+    Step("memory", "tests/memory.py"),
+    Step("pieces", "tests/pieces.py"),
+    Step("examples", "tests/examples.py"),
+    Step("commands", "tests/commands.py"),
+    Step("plants", "tests/plants.py --check"),
+    Step("threads", "tests/threads.py", is_alone=True),
+]
+
+
+def run(step):
+    """Whether it passed. What it said is printed as one piece."""
+    if step.name == "library" and not shutil.which("cc"):
+        return True  # the scripts that call it say that there is none
+    begun = time.monotonic()
+    ended = subprocess.run(step.command.split(), cwd=TOP, stdin=subprocess.DEVNULL, stdout=subprocess.PIPE, stderr=subprocess.STDOUT)
+    said = ended.stdout.decode(errors="replace")
+    failed = f", FAILED with status {ended.returncode}" if ended.returncode else ""
+    print(f"{said}{step.name}: {time.monotonic() - begun:.0f} seconds{failed}", flush=True)
+    return ended.returncode == 0
+
+
+def run_side_by_side(steps):
+    """Which steps passed, by name. One that waits for a step that failed fails too."""
+    passed, under_way, waiting = {}, {}, list(steps)
+    with ThreadPoolExecutor(PROCESSORS) as pool:
+        while waiting or under_way:
+            for step in [it for it in waiting if it.after in ("", *passed)][: PROCESSORS - len(under_way)]:
+                waiting.remove(step)
+                under_way[pool.submit(lambda it: passed.get(it.after, True) and run(it), step)] = step
+            for ended in wait(under_way, return_when=FIRST_COMPLETED).done:
+                passed[under_way.pop(ended).name] = ended.result()
+    return passed
+
+
+def main():
+    begun = time.monotonic()
+    passed = run_side_by_side([it for it in STEPS if not it.is_alone])
+    passed |= {it.name: run(it) for it in STEPS if it.is_alone}
+    failed = [name for name, is_passed in passed.items() if not is_passed]
+    print(*[f"{name}: FAILED" for name in failed], f"{len(passed) - len(failed)} steps passed, {len(failed)} failed, in {time.monotonic() - begun:.0f} seconds", sep="\n")
+    return 1 if failed else 0
+
+
+if __name__ == "__main__":
+    sys.exit(main())

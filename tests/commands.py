@@ -1,0 +1,350 @@
+#!/usr/bin/env python3
+"""Runs the built programs on command lines, and prints where an output, a file or the exit status is not as expected.
+
+    tests/commands.py [PROGRAM ..]
+
+Without a word it takes the programs that the merge gate built: pbcube, pbcube_pieces and pbcube_join. Each runs its own rows, in a
+new folder with the files below.
+"""
+import hashlib
+import os
+import stat
+import subprocess
+import sys
+import tempfile
+from dataclasses import dataclass, field
+from pathlib import Path
+
+sys.dont_write_bytecode = True
+from lib import built, side_by_side
+SECONDS = 60
+FULL = "/dev/full"  # takes no byte
+
+OWN_CUBES = "p inccnf\n1 20 0\na 1 0\n"  # one, of twenty variables
+FIRST = "o 3\ns OPTIMUM FOUND\nv x1 -x2 x3\n"
+SECOND = "o 3\ns OPTIMUM FOUND\nv -x1 x2 -x3\n"
+FILES = {
+    "tie.opb": "* #variable= 3 #constraint= 2\nmin: 2 x1 3 x2 1 x3 ;\n1 x1 1 x2 >= 1 ;\n1 x2 1 x3 >= 1 ;\n",
+    "none_feasible.opb": "1 x1 >= 1 ;\n1 x1 = 0 ;\n",
+    "no_objective.opb": "* #variable= 3 #constraint= 1\n1 x2>=1;\n",
+    "product.opb": "1 x1 x2 >= 1 ;\n",
+    "older_spelling.opb": "* a comment\n+1*x1 >= 1 ;\n",
+    "one_clause.cnf": "p cnf 2 2\n1 2 0\n-1 2 0\n",
+    "own_cube.icnf": "p inccnf\n1 2 0\na 1 0\n",
+    "own_cubes.icnf": OWN_CUBES,
+    "good.cubes": "a 1 0\n",
+    "over.cubes": "a 4 0\n",
+    "second_over.cubes": "a 1 0\na 4 0\n",
+    "nine.cubes": "a 2 0\n" * 9,
+    "hundred.cubes": "a 2 0\n" * 100,
+    "with_index/index": "",
+    "with_piece/0.opb": "kept\n",
+    "clause.cnf": "p cnf 2 1\n1 2 0\n",
+    "clause-0.out": "s SATISFIABLE\nv -1 2 0\n",
+    "out/0.out": FIRST,
+    "again-0.out": FIRST,
+    "piece-001.out": "c another solver\no 4\no 3\ns OPTIMUM FOUND\nv -x1 x2\nv -x3\n",
+    "2": "s UNSATISFIABLE\n",
+    "cut-1.out": "s UNKNOWN\n",
+    "torn-1.out": "o 3\ns OPTIMUM FOUND\nv -x1 x2\n",
+    "wrong-1.out": "o 2\ns OPTIMUM FOUND\nv -x1 x2 -x3\n",
+    "report.out": "s UNSATISFIABLE\n",
+    "reports/0.report": FIRST,
+    "reports/1.report": SECOND,
+    "reports/0.opb": "no report\n",
+    "reports/index": "no report\n",
+    "empty/index": "no report\n",
+    "empty/2.opb": "no report\n",
+    "empty/report": "no report\n",
+    "empty/3.reports": "no report\n",
+}
+# names of reports, and the numbers of the pieces that they tell
+NUMBERS = {
+    "names/007.out": 7,
+    "names/a.9/run2-10.out": 10,
+    "names/a.9/run2-10.opb.out": None,
+    "names/3": 3,
+    "names/.5": 5,
+    "names/piece-.out": None,
+    "names/7/.out": None,
+    "names/7/..out": None,
+    "names/4294967296.out": None,
+}
+UNREADABLE = ("broken.opb", "broken.cubes")  # folders: opened, and then not read
+SOCKET = "7.out"  # neither a folder nor opened
+
+
+@dataclass(frozen=True)
+class Row:
+    """Words, and how the program ends on them. Of an output either all that is written stands here, or some parts of it."""
+
+    words: str
+    out: str | tuple = ""
+    err: str | tuple = ""
+    status: int = 0
+    out_to: str = ""  # a file in place of the standard output
+    err_to: str = ""  # and in place of the standard error
+    may_write_files: bool = True
+    files: dict = field(default_factory=dict)  # the texts of some files that are there afterwards
+
+
+def refused(words, *parts):
+    return Row(words, err=parts, status=2)
+
+
+def helped(words, *parts):
+    return Row(words, out=parts)
+
+
+UNSUPPORTED = "s UNSUPPORTED\n"
+PBCUBE = [
+    Row("tie.opb", SECOND, status=30),
+    Row("--format opb --workers 64 --split 0 no_objective.opb", "s SATISFIABLE\nv -x1 x2 -x3\n", status=10),
+    Row("none_feasible.opb", "s UNSATISFIABLE\n", status=20),
+    Row("--format cnf --workers 3 --split 1 one_clause.cnf", "s SATISFIABLE\nv -1 2 0\n", status=10),
+    Row("--format icnf own_cube.icnf", "s SATISFIABLE\nv -1 2 0\n", status=10),
+    Row("--cubes good.cubes tie.opb", SECOND, status=30),
+    # budgets
+    Row("--nodes 0 tie.opb", "s UNKNOWN\n"),
+    Row("--nodes 1 tie.opb", "o 3\ns SATISFIABLE\nv x1 -x2 x3\n", status=10),
+    Row("--nodes 1000 tie.opb", SECOND, status=30),
+    Row("--nodes 1000000000 tie.opb", SECOND, status=30),
+    Row("--nodes 0 none_feasible.opb", "s UNSATISFIABLE\n", status=20),
+    # refused texts, with a hint where there is one
+    Row("product.opb", f"c refused: NonLinear at line 1\n{UNSUPPORTED}"),
+    Row("--cubes over.cubes tie.opb", f"c refused cubes: BadVariable at line 1\n{UNSUPPORTED}"),
+    Row("--split 2 none_feasible.opb", f"c refused split: BadSplit\n{UNSUPPORTED}"),
+    Row(
+        "one_clause.cnf",
+        f"c refused: Unfinished at line 1\n{UNSUPPORTED}",
+        "pbcube: one_clause.cnf begins as DIMACS CNF: --format cnf reads it\n",
+    ),
+    Row("older_spelling.opb", f"c refused: Syntax at line 2\n{UNSUPPORTED}", "pbcube: line 2, column 1: '+1*x1'\n"),
+    Row(
+        "--format cnf tie.opb",
+        f"c refused: BadHeader at line 1\n{UNSUPPORTED}",
+        "pbcube: tie.opb begins as OPB: --format opb reads it\n",
+    ),
+    # files that are not there or cannot be read: both are opened before one is read, and the input is first in each
+    Row("none.opb", err="pbcube: cannot read none.opb\n", status=1),
+    Row("broken.opb", err="pbcube: cannot read broken.opb\n", status=1),
+    Row("--cubes none.cubes tie.opb", err="pbcube: cannot read none.cubes\n", status=1),
+    Row("--cubes broken.cubes tie.opb", err="pbcube: cannot read broken.cubes\n", status=1),
+    Row("--cubes none.cubes none.opb", err="pbcube: cannot read none.opb\n", status=1),
+    Row("--cubes none.cubes broken.opb", err="pbcube: cannot read none.cubes\n", status=1),
+    Row("--cubes broken.cubes broken.opb", err="pbcube: cannot read broken.opb\n", status=1),
+    Row("--cubes broken.cubes product.opb", f"c refused: NonLinear at line 1\n{UNSUPPORTED}"),
+    # outputs that fail: the standard error's is ignored
+    Row("tie.opb", err="pbcube: cannot write\n", status=1, out_to=FULL),
+    Row("--help", err="pbcube: cannot write\n", status=1, out_to=FULL),
+    Row("none.opb", status=1, err_to=FULL),
+    Row("--nothing", status=2, err_to=FULL),
+    Row("tie.opb", status=1, out_to=FULL, err_to=FULL),
+    # refused words
+    refused("", "<FILE>"),
+    refused("tie.opb product.opb", "'product.opb'"),
+    refused("--workers 0 tie.opb", "0 is not in 1..=64"),
+    refused("--workers 65 tie.opb", "65 is not in 1..=64"),
+    refused("--workers two tie.opb", "'two'"),
+    refused("--split 13 tie.opb", "13 is not in 0..=12"),
+    refused("--split -1 tie.opb", "'-1'"),
+    refused("--nodes 1000000001 tie.opb", "1000000001 is not in 0..=1000000000"),
+    refused("--nodes -1 tie.opb", "'-1'"),
+    refused("--nodes x tie.opb", "'x'"),
+    refused("--split 1 --split 2 tie.opb", "multiple times"),
+    refused("--format wbo tie.opb", "opb, cnf and icnf"),
+    refused("--nothing tie.opb", "'--nothing'"),
+    refused("tie.opb --cubes", "--cubes"),
+    helped(
+        "-h",
+        "Usage: pbcube [OPTIONS] <FILE>",
+        "--format <FORMAT>",
+        "opb, cnf or icnf [default: opb]",
+        "1 to 64",
+        "[default: 1]",
+        "0 to 12 [default: 0]",
+        "--cubes <FILE>",
+        "`a LITERALS 0`",
+        "--nodes <B>",
+        "0 to 1000000000",
+    ),
+    helped(
+        "--help",
+        "Usage: pbcube [OPTIONS] <FILE>",
+        "--format <FORMAT>",
+        "--workers <W>",
+        "--split <K>",
+        "--nodes <B>",
+        "pbcube --format cnf formula.cnf",
+        "30  s OPTIMUM FOUND",
+        "20  s UNSATISFIABLE",
+        "10  s SATISFIABLE",
+        " 0  s UNSUPPORTED",
+        " 1  a file cannot be opened",
+        " 2  the command line is refused",
+    ),
+]
+
+
+TIE_WITH_CUBE = FILES["tie.opb"].replace("#constraint= 2", "#constraint= 3") + "1 x2 >= 1 ;\n"
+
+
+def index_of_own_cubes():
+    digest = hashlib.sha256(OWN_CUBES.encode()).hexdigest()
+    names = "".join(f"{number:02}.cnf\n" for number in range(11))
+    return f"pieces 11\nformat cnf\nvariables 20\nsha256 {digest}\n{names}"
+
+
+PIECES = [
+    Row("--out one/new tie.opb", files={"one/new/0.opb": FILES["tie.opb"]}),
+    Row("--split 3 --cubes good.cubes --out nine tie.opb"),
+    Row("--format icnf --out two own_cube.icnf"),
+    Row("--format icnf --cubes nine.cubes --out eleven own_cubes.icnf", files={"eleven/index": index_of_own_cubes()}),
+    Row("--cubes hundred.cubes --out hundred tie.opb", files={"hundred/007.opb": TIE_WITH_CUBE}),
+    Row("--out pieces none.opb", err="pbcube_pieces: cannot read none.opb\n", status=1),
+    Row("--out pieces product.opb", err="pbcube_pieces: product.opb: NonLinear at line 1\n", status=1),
+    Row(
+        "--cubes second_over.cubes --out pieces tie.opb",
+        err="pbcube_pieces: second_over.cubes: BadVariable at line 2\n",
+        status=1,
+    ),
+    Row(
+        "--split 4 --out pieces tie.opb",
+        err="pbcube_pieces: the split is over more variables than there are\n",
+        status=1,
+    ),
+    Row("--format cnf --out pieces tie.opb", err="pbcube_pieces: tie.opb: BadHeader at line 1\n", status=1),
+    # folders and files that cannot be made or written
+    Row("--out product.opb tie.opb", err="pbcube_pieces: cannot use product.opb\n", status=1),
+    Row("--out with_index tie.opb", err="pbcube_pieces: with_index holds an index already\n", status=1),
+    Row(
+        "--split 1 --out with_piece tie.opb",
+        err="pbcube_pieces: cannot write with_piece/0.opb\n",
+        status=1,
+        files={"with_piece/0.opb": "kept\n"},
+    ),
+    Row("--out unwritten tie.opb", err="pbcube_pieces: cannot write unwritten/0.opb\n", status=1, may_write_files=False),
+    Row("--help", err="pbcube_pieces: cannot write\n", status=1, out_to=FULL),
+    refused("tie.opb", "error: the following required arguments were not provided"),
+]
+
+
+def states(pieces, cut=()):
+    """What is said of so many pieces of which these were cut and no other has a report."""
+    said = {number: "was not solved to its end" if number in cut else "has no report" for number in pieces}
+    return "".join(f"pbcube_join: piece {number} {it}\n" for number, it in said.items())
+
+
+def number_row(name, number):
+    words = f"--pieces 12 tie.opb {name}"
+    if number is None:
+        return rejected(words, f"{name}: the name has no number of a piece before its last dot")
+    return Row(words, "s UNKNOWN\n", states(range(12), [number]))
+
+
+def rejected(words, why):
+    return Row(words, err=f"pbcube_join: {why}\n", status=1)
+
+
+JOIN = [
+    Row("--pieces 3 tie.opb 2 out/0.out piece-001.out", SECOND, status=30),
+    Row(
+        "--pieces 3 tie.opb out/0.out cut-1.out",
+        "o 3\ns SATISFIABLE\nv x1 -x2 x3\n",
+        states([1, 2], [1]),
+        10,
+    ),
+    Row("--format cnf --pieces 1 clause.cnf clause-0.out", "s SATISFIABLE\nv -1 2 0\n", status=10),
+    Row("--pieces 1 tie.opb", "s UNKNOWN\n", states([0])),
+    # folders
+    Row("--pieces 3 tie.opb 2 reports", SECOND, status=30),
+    Row("--pieces 1 tie.opb empty", "s UNKNOWN\n", states([0])),
+    rejected("--pieces 1 tie.opb none", "cannot read none"),
+    # reports that are rejected
+    rejected("--pieces 3 tie.opb out/0.out again-0.out", "again-0.out: there are two reports of this piece"),
+    rejected("--pieces 3 tie.opb torn-1.out", "torn-1.out: Unfinished at line 3"),
+    rejected("--pieces 3 tie.opb wrong-1.out", "wrong-1.out: the o line is not the cost of the assignment"),
+    rejected("--pieces 3 tie.opb report.out", "report.out: the name has no number of a piece before its last dot"),
+    rejected(f"--pieces 3 tie.opb {SOCKET}", f"{SOCKET}: cannot be read"),
+    rejected("--pieces 1 none.opb", "cannot read none.opb"),
+    rejected("--pieces 3 product.opb", "product.opb: NonLinear at line 1"),
+    Row("--pieces 1 tie.opb", err="pbcube_join: cannot write\n", status=1, out_to=FULL),
+    Row("--help", err="pbcube_join: cannot write\n", status=1, out_to=FULL),
+    refused("tie.opb", "--pieces <N>"),
+    refused("--pieces 0 tie.opb", "0 is not in 1..="),
+    refused("--format wcnf --pieces 1 tie.opb", "opb, cnf and icnf"),
+    *(number_row(name, number) for name, number in NUMBERS.items()),
+]
+ROWS = {"pbcube": PBCUBE, "pbcube_pieces": PIECES, "pbcube_join": JOIN}
+
+
+def name_of(program):
+    """Which program it is, by what its file's name ends with before a dot; pbcube where that says nothing."""
+    return next((name for name in ROWS if program.name.split(".")[0].endswith(name)), "pbcube")
+
+
+def make_files(room):
+    for name, text in {**FILES, **dict.fromkeys(NUMBERS, "s UNKNOWN\n")}.items():
+        (room / name).parent.mkdir(parents=True, exist_ok=True)
+        (room / name).write_text(text)
+    for name in UNREADABLE:
+        (room / name).mkdir()
+    os.mknod(room / SOCKET, stat.S_IFSOCK | 0o600)
+
+
+def run(program, row, room):
+    """Standard output, standard error and the exit status. What goes elsewhere is empty here."""
+    words = [program, *row.words.split()]
+    if not row.may_write_files:
+        words = ["sh", "-c", "trap '' XFSZ; ulimit -f 0; exec \"$0\" \"$@\"", *words]
+    with open(row.out_to or os.devnull, "w") as out, open(row.err_to or os.devnull, "w") as err:
+        ran = subprocess.run(
+            words,
+            cwd=room,
+            stdin=subprocess.DEVNULL,
+            stdout=out if row.out_to else subprocess.PIPE,
+            stderr=err if row.err_to else subprocess.PIPE,
+            timeout=SECONDS,
+        )
+    return (ran.stdout or b"").decode(), (ran.stderr or b"").decode(), ran.returncode
+
+
+def is_as_expected(text, expected):
+    return text == expected if isinstance(expected, str) else all(part in text for part in expected)
+
+
+def complaints(program, row, room):
+    """What is wrong with the run on one row."""
+    out, err, status = run(program, row, room)
+    found = [f"{name}: {text!r}" for name, text, it in (("out", out, row.out), ("err", err, row.err)) if not is_as_expected(text, it)]
+    if status != row.status:
+        found.append(f"status {status} and not {row.status}")
+    for name, text in row.files.items():
+        file = room / name
+        if not file.is_file() or file.read_text() != text:
+            found.append(f"{name} is not there, or not as it should be")
+    return found
+
+
+def judge(program):
+    """How many rows of the program went well, and how many did not."""
+    rows = ROWS[name_of(program)]
+    with tempfile.TemporaryDirectory(prefix="pbcube-commands-") as room:
+        make_files(Path(room))
+        answers = side_by_side(lambda row: complaints(program, row, Path(room)), rows)
+    for row, found in zip(rows, answers):
+        if found:
+            print(f"commands: {program.name} {row.words}", *found, sep="\n  ")
+    failed = sum(map(bool, answers))
+    return len(rows) - failed, failed
+
+
+def main(programs):
+    counts = [judge(Path(it).resolve()) for it in programs or built(ROWS)]
+    passed, failed = sum(it[0] for it in counts), sum(it[1] for it in counts)
+    print(f"commands: {passed} passed, {failed} failed")
+    return 1 if failed else 0
+
+
+if __name__ == "__main__":
+    sys.exit(main(sys.argv[1:]))
