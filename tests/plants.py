@@ -14,7 +14,7 @@ the form of a must-fail edit. The guards are
     none             nothing refuses it, and the plant says why that is right
 
 With no names all are planted: hours, so this is no part of the gate. `rt check` of each crate beforehand saves most of that. The
-programs want a C compiler.
+scripts for faults, threads and memory want a C compiler.
 """
 import os
 import re
