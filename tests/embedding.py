@@ -6,7 +6,7 @@
 With --as-built it takes the library that stands in c/out/. The header must compile without a warning as C11 and as C++17. The
 calls of tests/calls.c and the planner of examples/c must run clean under AddressSanitizer and under valgrind, where there is one,
 with no memory left. With each request for memory refused (tests/refusing.c) so must both under AddressSanitizer, also with all
-that follow, and the planner under valgrind. The examples must print what stands beside them, the blocks of README.md one answer,
+that follow, and the planner under valgrind. The examples must print what stands beside them, the blocks of docs/EMBEDDING.md one answer,
 and the documentation of the bindings what it shows. What ./install puts in place must serve a caller, and be taken away again.
 What has no compiler here is left out, with a word.
 """
@@ -148,13 +148,14 @@ def from_rust(folder):
 
 
 def shown_ways(folder):
-    """The blocks of the README that solve one instance in four ways, each with what it prints."""
-    section = (TOP / "README.md").read_text().split("\n## From C, Rust and Python\n")[1].split("\n## ")[0]
+    """The blocks of docs/EMBEDDING.md that solve one instance in four ways, each with what it prints; README.md has one of them."""
+    section = (TOP / "docs/EMBEDDING.md").read_text().split("\n## One instance, four ways\n")[1].split("\n## ")[0]
     block = dict(re.findall(r"^```(\w+)\n(.*?)^```$", section, re.M | re.S))
+    bad = [] if f"```python\n{block['python']}```\n" in (TOP / "README.md").read_text() else ["README.md: another block for Python"]
     for suffix, text in ((".c", C_AROUND % block["c"]), (".rs", RUST_AROUND % block["rust"]), (".py", block["python"])):
         (folder / f"shown{suffix}").write_text(text)
     words = ["bash", "-c", block["sh"].replace("pbcube", str(PROGRAM), 1)]
-    bad = differs(words, "o 3\ns OPTIMUM FOUND\nv -x1 x2 -x3\n", status=30)
+    bad += differs(words, "o 3\ns OPTIMUM FOUND\nv -x1 x2 -x3\n", status=30)
     bad += differs([link(folder / "shown", folder / "shown.c", [])], "0 1 0\n")
     bad += differs([sys.executable, folder / "shown.py"], "Status.OPTIMUM 3 (False, True, False)\n")
     if shutil.which("cargo"):
@@ -164,7 +165,7 @@ def shown_ways(folder):
         shutil.copy(folder / "shown.rs", crate / "src" / "main.rs")
         words = ["cargo", "run", "--offline", "--quiet", "--manifest-path", crate / "Cargo.toml"]
         bad += differs(words, "Optimum Some(3) Some([false, true, false])\n", CARGO_TARGET_DIR=str(folder / "cargo"))
-    say("the ways that README.md shows")
+    say("the ways that docs/EMBEDDING.md and README.md show")
     return bad
 
 

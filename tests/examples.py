@@ -1,6 +1,6 @@
 #!/usr/bin/env python3
-"""Runs the built program on the examples, on the commands that README.md shows, on words that are no text and on those that ask
-for its version, and prints what differs, and which manifest or page has another version.
+"""Runs the built program on the examples, on the commands that README.md and docs/COMMANDS.md show, on words that are no text and on
+those that ask for its version, and prints what differs, and which manifest or page has another version.
 
     tests/examples.py [PROGRAM ..]
 
@@ -42,11 +42,13 @@ def example_rows():
             yield words, out, "", status
 
 
-def readme_rows():
-    """The same for each row `command`, what it prints, status of the tables of README.md."""
-    rows = re.findall(r"^\| `pbcube (.+?)` \| (.+) \| (\d+) \|$", (TOP / "README.md").read_text(), re.M)
-    if not rows:
-        sys.exit("examples: README.md has no table of commands")
+def command_rows():
+    """The same for each row `command`, what it prints, status of the tables of README.md and docs/COMMANDS.md."""
+    pages = [(TOP / page).read_text() for page in ("README.md", "docs/COMMANDS.md")]
+    tables = [re.findall(r"^\| `pbcube (.+?)` \| (.+) \| (\d+) \|$", page, re.M) for page in pages]
+    if not all(tables):
+        sys.exit("examples: README.md or docs/COMMANDS.md has no table of commands")
+    rows = dict.fromkeys(row for table in tables for row in table)
     for words, printed, status in rows:
         written, _, said = printed.partition("on standard error")
         lines, complaints = (re.findall(r"`([^`]+)`", it) for it in (written, said))
@@ -100,7 +102,7 @@ def differences(program, words, out, complaint, status, text=b""):
 
 
 def main(programs):
-    rows = [*example_rows(), *readme_rows(), *word_rows(), *version_rows(), *piped_rows()]
+    rows = [*example_rows(), *command_rows(), *word_rows(), *version_rows(), *piped_rows()]
     stale = list(other_versions())
     runs = list(itertools.product(programs or built(), rows))
     found = side_by_side(lambda run: differences(run[0], *run[1]), runs)
