@@ -76,7 +76,8 @@ def main():
     passed = run_side_by_side([it for it in STEPS if not it.is_alone])
     passed |= {it.name: run(it) for it in STEPS if it.is_alone}
     failed = [name for name, is_passed in passed.items() if not is_passed]
-    print(*[f"{name}: FAILED" for name in failed], f"{len(passed) - len(failed)} steps passed, {len(failed)} failed, in {time.monotonic() - begun:.0f} seconds", sep="\n")
+    print(*[f"{name}: FAILED" for name in failed], sep="\n", end="\n" if failed else "")
+    print(f"scripts: {len(passed) - len(failed)} passed, {len(failed)} failed, in {time.monotonic() - begun:.0f} seconds")
     return 1 if failed else 0
 
 

@@ -13,8 +13,9 @@ the form of a must-fail edit. Nothing is proved: a plant is a bug that no contra
     program SCRIPT   the program, built without proof, fails in tests/SCRIPT.py: examples, commands, texts, budgets, faults, threads
                      or memory; a plant in another program than pbcube is tried in that one
 
-With no names all are planted: an hour or more, so this is no part of the gate. The programs want a C compiler. With --check
-nothing is planted: it looks only whether each plant still can be, and whether its guard is there, which the gate asks.
+With no names all are planted: an hour or more, so this is no part of the gate. The scripts for faults, threads and memory want a
+C compiler. With --check nothing is planted: it looks only whether each plant still can be, and whether its guard is there, which
+the gate asks.
 """
 import os
 import re

@@ -134,7 +134,7 @@ impl<'a, C: Count> Player<'a, C> {
 
     /// Whether the row has just these literals, in this order.
     pub fn row_has_lits(&self, rt: &impl Abort, row: usize, expected: &[i32]) -> bool {
-        assert!(rt; row < self.rows());
+        assert!(rt; row < self.propagator.slacks().rows());
         has_lits(self.propagator.row_terms(row), expected)
     }
 

@@ -42,7 +42,8 @@ fn course<C: Count>(
 ) -> Vec<Look> {
     let mut looks = Vec::new(alloc);
     for var in 1..=player.vars() {
-        step(rt, player, sign.wrapping_mul(var as i32));
+        let number = i32::try_from(var).expect(rt, "a number");
+        step(rt, player, sign.wrapping_mul(number));
         looks.push(look(rt, alloc, player)).expect(rt, "memory");
     }
     player.undo_to(rt, 0);
