@@ -16,7 +16,7 @@ from dataclasses import dataclass, field
 from pathlib import Path
 
 sys.dont_write_bytecode = True
-from lib import built, side_by_side
+from lib import built, side_by_side, version
 SECONDS = 60
 FULL = "/dev/full"  # takes no byte
 
@@ -94,6 +94,11 @@ def refused(words, *parts):
 
 def helped(words, *parts):
     return Row(words, out=parts)
+
+
+def told_version(name):
+    told = f"{name} {version()}\n"
+    return [Row("--version", told), Row("-V", told), Row("--version", err=f"{name}: cannot write\n", status=1, out_to=FULL)]
 
 
 UNSUPPORTED = "s UNSUPPORTED\n"
@@ -183,6 +188,7 @@ PBCUBE = [
         " 1  a file cannot be opened",
         " 2  the command line is refused",
     ),
+    *told_version("pbcube"),
 ]
 
 
@@ -226,6 +232,7 @@ PIECES = [
     Row("--out unwritten tie.opb", err="pbcube_pieces: cannot write unwritten/0.opb\n", status=1, may_write_files=False),
     Row("--help", err="pbcube_pieces: cannot write\n", status=1, out_to=FULL),
     refused("tie.opb", "error: the following required arguments were not provided"),
+    *told_version("pbcube_pieces"),
 ]
 
 
@@ -274,6 +281,7 @@ JOIN = [
     refused("--pieces 0 tie.opb", "0 is not in 1..="),
     refused("--format wcnf --pieces 1 tie.opb", "opb, cnf and icnf"),
     *(number_row(name, number) for name, number in NUMBERS.items()),
+    *told_version("pbcube_join"),
 ]
 ROWS = {"pbcube": PBCUBE, "pbcube_pieces": PIECES, "pbcube_join": JOIN}
 

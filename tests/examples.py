@@ -14,7 +14,7 @@ import re
 import sys
 
 sys.dont_write_bytecode = True
-from lib import STATUSES, TOP, built, examples, ran, side_by_side
+from lib import STATUSES, TOP, built, examples, ran, side_by_side, version
 
 WORKERS = (1, 2, 3, 64)
 
@@ -61,11 +61,6 @@ def word_rows():
     yield ["examples/tie.opb", b"\xff"], "", "", 2
 
 
-def version():
-    """The version of the programs, as their sources have it."""
-    return re.search(r'VERSION: &str = "(.+)";', (TOP / "crates/pb_line/src/version.rt").read_text())[1]
-
-
 def version_rows():
     """The same for the words that ask for the version."""
     for word in ("--version", "-V"):
@@ -73,7 +68,7 @@ def version_rows():
 
 
 def other_versions():
-    """The files in which another version stands, with what they should have."""
+    """The files that tell another version, each with the line that it should have."""
     for file, line in (
         ("bindings/rust/Cargo.toml", f'version = "{version()}"'),
         ("bindings/python/pyproject.toml", f'version = "{version()}"'),

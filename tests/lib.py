@@ -1,5 +1,6 @@
 """What the scripts of tests/ have in common."""
 import os
+import re
 import shutil
 import subprocess
 from concurrent.futures import ThreadPoolExecutor
@@ -39,6 +40,11 @@ def program(name):
 def built(names=("pbcube",)):
     """The programs of these crates, as the merge gate built them: by LLVM, and by Rattle's own compiler where that compiles them."""
     return [it for name in names for it in (program(name), *program(name).parent.glob(f"{name}.by-rattle"))]
+
+
+def version():
+    """The version of the programs, as their sources have it."""
+    return re.search(r'VERSION: &str = "(.+)";', (TOP / "crates/pb_line/src/version.rt").read_text())[1]
 
 
 def examples():
