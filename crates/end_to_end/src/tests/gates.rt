@@ -65,8 +65,8 @@ impl Passes {
 
     /// How many pieces the first two workers passed.
     pub fn shares(&self) -> (u64, u64) {
-        let [first, second, ..] = &self.workers;
-        (first.load(Ordering::SeqCst), second.load(Ordering::SeqCst))
+        let first = self.workers[0].load(Ordering::SeqCst);
+        (first, self.workers[1].load(Ordering::SeqCst))
     }
 
     /// Waits until the counter is no longer 0.
