@@ -79,7 +79,7 @@ fn told_by_searches(rt: &impl Abort, alloc: Global, count: u32) -> InTurn {
     let pieces = Pieces::new(3, Vec::new(alloc)).expect(rt, "pieces");
     let mut share = InTurn::new(Vec::new(alloc));
     let mut best = nothing(rt, alloc, &tied);
-    for _ in 0..count {
+    for _turn in 0..count {
         search_pieces(rt, alloc, &tied, &pieces, 0, 1, &mut best, &mut share);
     }
     share

@@ -87,8 +87,9 @@ fn help_says_what_was_given(rt: HostRuntime) -> Result<(), Fail> {
         "{long}"
     );
     assert!(rt;
-        long.trim_end()
-            .ends_with("(see a summary with '-h')\n\nan example"),
+        long.trim_end().ends_with(
+            "(see a summary with '-h')\n\n  -V, --version\n          Print version\n\nan example"
+        ),
         "{long}"
     );
     Ok(())
