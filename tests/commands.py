@@ -302,13 +302,12 @@ def make_files(room):
 
 def run(program, row, room):
     """Standard output, standard error and the exit status. What goes elsewhere is empty here."""
-    words = [name_of(program), *row.words.split()]  # help tells the name by which a program is called
-    if not row.may_write_files:
-        words = ["sh", "-c", "trap '' XFSZ; ulimit -f 0; exec \"$0\" \"$@\"", *words]
+    # help tells the name by which a program is called, which is not that of each file
+    call = "exec -a \"$0\" \"$@\"" if row.may_write_files else "trap '' XFSZ; ulimit -f 0; exec -a \"$0\" \"$@\""
+    words = ["bash", "-c", call, name_of(program), program, *row.words.split()]
     with open(row.out_to or os.devnull, "w") as out, open(row.err_to or os.devnull, "w") as err:
         ran = subprocess.run(
             words,
-            executable=program,
             cwd=room,
             stdin=subprocess.DEVNULL,
             stdout=out if row.out_to else subprocess.PIPE,
