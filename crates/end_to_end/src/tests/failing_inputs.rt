@@ -41,6 +41,20 @@ fn reads_of(text: &[u8], step: usize) -> usize {
     text.len().div_ceil(step.max(1)).saturating_add(1)
 }
 
+/// Runs the case with an input that gives so many bytes a read and fails after so many reads.
+fn assert_input<R: Abort + Threads + Sync>(
+    rt: &R,
+    alloc: Global,
+    case: &Case,
+    (step, workers): (usize, u32),
+    calls_left: usize,
+    fault: Option<RunFault>,
+) {
+    let options = options(rt, case.format, workers, 0);
+    let readers = (failing(case.text, step, calls_left), None::<Empty>);
+    assert_read(rt, alloc, case, options, readers, fault, calls_left);
+}
+
 /// Runs the case with an input that gives so many bytes a read and fails after each number of reads.
 fn assert_inputs<R: Abort + Threads + Sync>(
     rt: &R,
@@ -48,12 +62,10 @@ fn assert_inputs<R: Abort + Threads + Sync>(
     case: &Case,
     (step, workers): (usize, u32),
 ) {
-    let options = options(rt, case.format, workers, 0);
     let reads = reads_of(case.text, step);
     for calls_left in 0..reads.saturating_add(2) {
-        let readers = (failing(case.text, step, calls_left), None::<Empty>);
         let fault = (calls_left < reads).then_some(RunFault::ReadInput);
-        assert_read(rt, alloc, case, options, readers, fault, calls_left);
+        assert_input(rt, alloc, case, (step, workers), calls_left, fault);
     }
 }
 
@@ -106,6 +118,20 @@ fn a_long_input_that_fails_at_any_read(rt: HostRuntime) {
 
 const CUBE_FILE: &[u8] = b"c a note\na 1 0\na -1 2 0\n";
 
+/// Runs the case with a cube file that gives so many bytes a read and fails after so many reads.
+fn assert_cube_file<R: Abort + Threads + Sync>(
+    rt: &R,
+    alloc: Global,
+    case: &Case,
+    (step, workers, split): (usize, u32, u32),
+    calls_left: usize,
+    fault: Option<RunFault>,
+) {
+    let options = options(rt, case.format, workers, split);
+    let readers = (case.text, Some(failing(CUBE_FILE, step, calls_left)));
+    assert_read(rt, alloc, case, options, readers, fault, calls_left);
+}
+
 /// Runs the case with a cube file that gives so many bytes a read and fails after each number of reads.
 fn assert_cube_files<R: Abort + Threads + Sync>(
     rt: &R,
@@ -113,12 +139,10 @@ fn assert_cube_files<R: Abort + Threads + Sync>(
     case: &Case,
     (step, workers, split): (usize, u32, u32),
 ) {
-    let options = options(rt, case.format, workers, split);
     let reads = reads_of(CUBE_FILE, step);
     for calls_left in 0..reads.saturating_add(2) {
-        let readers = (case.text, Some(failing(CUBE_FILE, step, calls_left)));
         let fault = (calls_left < reads).then_some(RunFault::ReadCubes);
-        assert_read(rt, alloc, case, options, readers, fault, calls_left);
+        assert_cube_file(rt, alloc, case, (step, workers, split), calls_left, fault);
     }
 }
 
@@ -131,24 +155,27 @@ fn cube_files_that_fail_at_any_read(rt: HostRuntime) {
     }
 }
 
+/// Runs over these readers, of which one fails: then nothing was written. The number tells which run differs.
+fn assert_fault<R: Abort + Threads + Sync, I: Read + Drop, C: Read + Drop>(
+    rt: &R,
+    alloc: Global,
+    input: I,
+    cubes: Option<C>,
+    fault: RunFault,
+    number: usize,
+) {
+    let options = options(rt, COVER.format, 2, 0);
+    let expected = (Ended::failed(fault), b"".as_slice());
+    assert_run(rt, alloc, input, cubes, options, expected, number);
+}
+
 /// Runs with a fault of this kind in the input alone, in both, of which the input's is the first, and in the cube file alone.
 fn assert_faults<R: Abort + Threads + Sync>(rt: &R, alloc: Global, kind: ErrorKind) {
-    let options = options(rt, COVER.format, 2, 0);
-    let input = Some(RunFault::ReadInput);
-    let readers = (Broken(kind), None::<Empty>);
-    assert_read(rt, alloc, &COVER, options, readers, input, 0);
-    let readers = (Broken(kind), Some(Broken(kind)));
-    assert_read(rt, alloc, &COVER, options, readers, input, 1);
-    let readers = (COVER.text, Some(Broken(kind)));
-    assert_read(
-        rt,
-        alloc,
-        &COVER,
-        options,
-        readers,
-        Some(RunFault::ReadCubes),
-        2,
-    );
+    let fault = RunFault::ReadInput;
+    assert_fault(rt, alloc, Broken(kind), None::<Empty>, fault, 0);
+    assert_fault(rt, alloc, Broken(kind), Some(Broken(kind)), fault, 1);
+    let fault = RunFault::ReadCubes;
+    assert_fault(rt, alloc, COVER.text, Some(Broken(kind)), fault, 2);
 }
 
 #[test]

@@ -63,10 +63,17 @@ impl Passes {
         !self.late.load(Ordering::SeqCst)
     }
 
+    /// How many pieces the worker passed.
+    fn share(&self, worker: usize) -> u64 {
+        let Some(passes) = self.workers.get(worker) else {
+            return 0;
+        };
+        passes.load(Ordering::SeqCst)
+    }
+
     /// How many pieces the first two workers passed.
     pub fn shares(&self) -> (u64, u64) {
-        let first = self.workers[0].load(Ordering::SeqCst);
-        (first, self.workers[1].load(Ordering::SeqCst))
+        (self.share(0), self.share(1))
     }
 
     /// Waits until the counter is no longer 0.

@@ -7,7 +7,7 @@ use pb_cubes::Pieces;
 use pb_inst::{Best, Instance, Number, Workers};
 use pb_normal::normalise;
 use pb_read::{read_cubes, read_opb};
-use pb_solve::{OpenGate, solve, work};
+use pb_solve::{OpenGate, Part, solve, work};
 use std::alloc::Global;
 use std::process::Abort;
 use std::thread::Threads;
@@ -87,8 +87,14 @@ fn assert_alone(rt: &impl Abort, alloc: Global, alone: &Alone) {
         alloc, &instance, &normal, &pieces, &board, seat, 0, &OpenGate, nodes,
     )
     .expect(rt, "a part");
-    assert!(rt; seat.claims() == 4);
+    let claims = seat.claims();
     board.close(seat);
+    assert_part(rt, &part, alone);
+    assert!(rt; claims == 4);
+}
+
+/// Compares what a part names and holds with this.
+fn assert_part(rt: &impl Abort, part: &Part<'_>, alone: &Alone) {
     assert!(rt; part.pieces() == alone.done);
     assert!(rt; part.cut() == alone.cut);
     assert!(rt; held(part.best()) == Some(alone.held));
