@@ -85,9 +85,9 @@ def unchanged():
 
 def longest():
     for part, times, end, report in LONG:
-        yield Case("opb", times * part + end, report, divisions(workers=[2]))
+        yield Case("opb", times * part + end, report, divisions())
     for times, split, report in MANY_CUBES:
-        yield Case("opb", COVER, report, divisions([split], [2]), times * b"a 0\n")
+        yield Case("opb", COVER, report, divisions([split]), times * b"a 0\n")
 
 
 def owed(format, text, cubes, split):

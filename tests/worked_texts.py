@@ -30,6 +30,10 @@ WORKED = [
     ("opb", b"85070591730234615865843651857942052863 x1 >= 1 ;\n", "c refused: TooLarge at line 1\ns UNSUPPORTED\n"),
     # a variable beside its negation
     ("opb", b"2 x1 3 ~x1 >= 3 ;\n", "s SATISFIABLE\nv -x1\n"),
+    # a variable beside its negation, with one coefficient, that always gives enough
+    ("opb", b"4611686018427387903 x1 4611686018427387903 ~x1 >= 1 ;\n", "s SATISFIABLE\nv -x1\n"),
+    # a negative coefficient whose negation 63 bits hold, which x1 = 0 alone meets
+    ("opb", b"-9223372036854775807 x1 >= 0 ;\n", "s SATISFIABLE\nv -x1\n"),
     # an equality between two sums
     ("opb", b"2 x1 2 x2 = 3 ;\n", "s UNSATISFIABLE\n"),
     # a product
@@ -42,6 +46,8 @@ WORKED = [
     ("opb", b"1 x1 >= 1 ;\nmin: 1 x1 ;\n", "c refused: LateObjective at line 2\ns UNSUPPORTED\n"),
     # the variable 0
     ("opb", b"1 x0 >= 1 ;\n", "c refused: BadVariable at line 1\ns UNSUPPORTED\n"),
+    # the variable 0 beside a coefficient that 63 bits hold
+    ("opb", b"9223372036854775807 x0 >= 1 ;\n", "c refused: BadVariable at line 1\ns UNSUPPORTED\n"),
     # a comment inside a statement
     ("opb", b"1 x1\n* a note\n1 x2 >= 2 ;\n", "s SATISFIABLE\nv x1 x2\n"),
     # the greatest cost that 63 bits hold
