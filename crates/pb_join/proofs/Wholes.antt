@@ -61,6 +61,8 @@ part_of p cubes r = record {
   pieces = record { vars = p.vars; cubes = cubes };
   named = cond (is_final (is_some p.objective) r.claim) (r.number ∷ []) [];
   cut = [];
+  decisions = [];
+  cut_decisions = [];
   best = record { problem = p; held = found_in p r.claim };
 }
 

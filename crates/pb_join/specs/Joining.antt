@@ -7,8 +7,7 @@ use Rattle.pb_inst.specs.Meaning.{IsFeasible, cost}
 use Rattle.pb_inst.specs.Incumbent.{Solution, IsSolution}
 use Rattle.pb_read.specs.declared.format.Format.{Format}
 use Rattle.pb_report.specs.declared.statuses.Status.{Status}
-use Rattle.pb_solve.specs.Budgeted as budgeted
-use Rattle.pb_solve.specs.Budgeted.{Found, found_report, found_status}
+use Rattle.pb_solve.specs.Budgeted.{found_of, found_report, found_status}
 use Rattle.pb_solve.specs.Parts.{IsFirst}
 use Rattle.pb_solve.specs.Report.{report, status_of}
 use Rattle.pb_report.specs.Claims.{witness_of, is_final}
@@ -80,11 +79,6 @@ abbrev pub IsJoinFault : Problem → ℕ → List PieceReport → JoinFault → 
 IsJoinFault p pieces reports Memory = ⊤
 IsJoinFault p pieces reports Write = ⊤
 IsJoinFault p pieces reports (Report place why) = (report : PieceReport) × (place < length reports) × (slice_index_or reports place report ≡ report) × IsRejected p pieces (take place reports) report why
-
--- what is held, as what was found
-abbrev pub found_of : Problem → Option Solution → Found
-found_of p None = budgeted.Nothing
-found_of p (Some s) = if is_some p.objective then budgeted.Costing s.cost s.assignment else budgeted.Feasible s.assignment
 
 -- the report of what is held: as the answer, or as what was found
 abbrev pub joined_report : Format → Problem → Bool → Option Solution → List ℕ

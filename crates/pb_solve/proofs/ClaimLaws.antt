@@ -1,64 +1,71 @@
 -- What several workers claimed and named together.
-use Rattle.std.proofs.Common.{◌≡◌, ◌≢◌, Option, None, Some, ℕ, zero, suc, ◌+◌, ◌<◌, ◌≤◌, List, [], ◌∷◌, ◌++◌, ◌⊎◌, Bool, true, false, cond, length, sym, ◌∙◌, ap, subst, inl, inr, arith, length-append}
-use Rattle.std.specs.Prelude.{All, Any, Contains, IfNone, filter, min, nat_lt, if◌then◌else◌}
+use Rattle.std.proofs.Common.{◌≡◌, ◌≢◌, ◌↔◌, IsTrue, map, Option, None, Some, ℕ, suc, ◌+◌, ◌<◌, ◌≤◌, List, [], ◌∷◌, ◌++◌, ◌⊎◌, Bool, true, false, cond, length, refl, sym, ◌∙◌, ap, subst, inl, inr, arith, length-append}
+use Rattle.std.specs.Prelude.{All, Any, Contains, IfNone, flat_map, min, nat_lt, if◌then◌else◌}
+use mathlib.Core.Logic.{dite}
+use native.Mathlib.Decide.{ℕ_discrete}
 use Rattle.std.proofs.lemmas.Bool.{false≢true}
 use Rattle.std.proofs.lemmas.Bool.Decides.{nat_tests}
 use Rattle.std.proofs.lemmas.List.{get_or_append_left}
-use Rattle.std.proofs.lemmas.List.Elements.{All-append, All-push, All-nil, Contains-append_cases, Contains-append_right}
+use Rattle.std.proofs.lemmas.List.Concat.{flat_map-append}
+use Rattle.std.proofs.lemmas.List.Elements.{All-append, All-push, All-nil, Contains-append_cases, filter-append}
 use Rattle.std.proofs.lemmas.List.Quantifiers.{Any-push}
+use Rattle.std.specs.Option.{IfSome}
 use Rattle.pb_inst.specs.Problem.{Problem}
+use Rattle.pb_inst.specs.Incumbent.{Solution}
 use Rattle.pb_cubes.specs.Pieces.{CubeList}
 use Rattle.pb_board.specs.Seats.{BoardView, SeatView}
 use Rattle.pb_board.specs.Numbers.{IsEachOnceBelow, times}
-use Rattle.pb_board.proofs.Counts.{counted, found}
-use Rattle.pb_solve.specs.Parts.{PartView, AreWhole}
+use Rattle.pb_board.proofs.Counts.{counted, found, mark, none_here, times-append, times-cons}
+use Rattle.pb_solve.specs.Parts.{PartView, AreDone, AreWhole, IsAnswerOf, KeepsBudget, IsFirst, all_numbers}
 use Rattle.pb_solve.specs.Claims.{piece_count, pieces_among, AreDealt, EndsPast, GoesPast, IsWholeWork, AreWholeWork}
-use Rattle.pb_solve.proofs.WorkLaws.{is_piece}
 
 Any-append_left : {X : Type 0} (P : X → Type 0) (xs ys : List X) → Any P xs → Any P (xs ++ ys)
 Any-append_left P xs ys h =
     let within : h.0 < length xs = h.2 in
     (h.0, h.1, omega (arith, length-append xs ys), get_or_append_left xs ys h.1 h.0 within ∙ h.3, h.4)
 
-Any-append_right : {X : Type 0} (P : X → Type 0) (xs ys : List X) → Any P ys → Any P (xs ++ ys)
-Any-append_right P xs ys h =
-    let there = Contains-append_right xs ys h.1 (h.0, h.2, h.3) in
-    (there.0, h.1, there.1, there.2, h.4)
+-- what stands in one of the lists that are joined stands in some of them
+contained_in_some : {X : Type 0} (f : X → List ℕ) (xs : List X) (i : ℕ) → Contains (flat_map f xs) i → Any (λ x. Contains (f x) i) xs
+contained_in_some f [] i (k, within, is) = absurd (omega arith)
+contained_in_some f (x ∷ xs) i h = elim (Contains-append_cases (f x) (flat_map f xs) i h) [
+  | inl here ↦ (0, x, omega arith, refl, here)
+  | inr there ↦ (let some = contained_in_some f xs i there in (suc some.0, some.1, (let within : some.0 < length xs = some.2 in omega arith), some.3, some.4))
+]
 
-kept_here : {X : Type 0} (b : Bool) (y x : X) (ys : List X) → b ≡ true → y ≡ x → Contains (cond b (y ∷ ys) ys) x
-kept_here true y x ys passes same = (0, omega arith, same)
-kept_here false y x ys passes same = absurd (false≢true passes)
-
-kept_later : {X : Type 0} (b : Bool) (y x : X) (ys : List X) → Contains ys x → Contains (cond b (y ∷ ys) ys) x
-kept_later true y x ys h = let within : h.0 < length ys = h.1 in (suc h.0, omega arith, h.2)
-kept_later false y x ys h = h
-
--- what passes the test is among what the filter keeps
-Contains-filter : {X : Type 0} (p : X → Bool) (xs : List X) (x : X) → p x ≡ true → Contains xs x → Contains (filter p xs) x
-Contains-filter p [] x passes (k, within, is) = absurd (omega arith)
-Contains-filter p (y ∷ xs) x passes (zero, within, is) = kept_here (p y) y x (filter p xs) (ap p is ∙ passes) is
-Contains-filter p (y ∷ xs) x passes (suc k, within, is) = kept_later (p y) y x (filter p xs) (Contains-filter p xs x passes (k, omega arith, is))
-
-later : (m : ℕ) (l : List ℕ) (i : ℕ) → Contains l i → Contains (m ∷ l) i
-later m l i (k, within, is) = (suc k, omega arith, is)
-
-holds_some : (l : List ℕ) (i : ℕ) → Contains l i → l ≢ []
+pub holds_some : (l : List ℕ) (i : ℕ) → Contains l i → l ≢ []
 holds_some [] i (k, within, is) = absurd (omega arith)
 holds_some (m ∷ l) i here = λ empty. cc
 
--- what is named as done or as cut, of what is dealt into the two
-dealt_contains : (all some others : List ℕ) (i : ℕ) → AreDealt all some others → Contains all i → Contains some i ⊎ Contains others i
-dealt_contains [] some others i dealt (k, within, is) = absurd (omega arith)
-dealt_contains (m ∷ all) some others i (inl h) (zero, within, is) = inl (subst (λ (l : List ℕ). Contains l i) (sym h.1) (zero, omega arith, is))
-dealt_contains (m ∷ all) some others i (inl h) (suc k, within, is) = elim (dealt_contains all h.0 others i h.2 (k, omega arith, is)) [
-  | inl here ↦ inl (subst (λ (l : List ℕ). Contains l i) (sym h.1) (later m h.0 i here))
-  | inr there ↦ inr there
-]
-dealt_contains (m ∷ all) some others i (inr h) (zero, within, is) = inr (subst (λ (l : List ℕ). Contains l i) (sym h.1) (zero, omega arith, is))
-dealt_contains (m ∷ all) some others i (inr h) (suc k, within, is) = elim (dealt_contains all some h.0 i h.2 (k, omega arith, is)) [
-  | inl here ↦ inl here
-  | inr there ↦ inr (subst (λ (l : List ℕ). Contains l i) (sym h.1) (later m h.0 i there))
-]
+-- how often a number stands in a list that is dealt into two
+dealt_times : (all some others : List ℕ) (i : ℕ) → AreDealt all some others → times i all ≡ times i some + times i others
+dealt_times [] some others i dealt = omega (arith, ap (times i) dealt.0, ap (times i) dealt.1)
+dealt_times (m ∷ all) some others i (inl h) = omega (arith, times-cons i m all, times-cons i m h.0, ap (times i) h.1, dealt_times all h.0 others i h.2)
+dealt_times (m ∷ all) some others i (inr h) = omega (arith, times-cons i m all, times-cons i m h.0, ap (times i) h.1, dealt_times all some h.0 i h.2)
+
+times_kept : (b : Bool) (i m : ℕ) (kept : List ℕ) → times i (cond b (m ∷ kept) kept) ≡ cond b (mark i m) 0 + times i kept
+times_kept true i m kept = times-cons i m kept
+times_kept false i m kept = omega arith
+
+kept_alike : (b c : Bool) (m n : ℕ) → (b ≡ c) ⊎ (m ≡ 0) → cond b m 0 + cond c n 0 ≡ cond c (m + n) 0
+kept_alike true true m n alike = refl
+kept_alike false false m n alike = omega arith
+kept_alike true false m n (inl alike) = absurd (false≢true (sym alike))
+kept_alike true false m n (inr none) = omega (arith, none)
+kept_alike false true m n (inl alike) = absurd (false≢true alike)
+kept_alike false true m n (inr none) = omega (arith, none)
+
+-- how often a number is claimed as a piece
+pub times_among : (count : ℕ) (claimed : List ℕ) (i : ℕ) → times i (pieces_among count claimed) ≡ cond (nat_lt i count) (times i claimed) 0
+times_among count [] i = none (nat_lt i count)
+  where
+    none : (b : Bool) → times i [] ≡ cond b (times i []) 0
+    none true = refl
+    none false = refl
+times_among count (m ∷ claimed) i =
+    times_kept (nat_lt m count) i m (pieces_among count claimed)
+    ∙ ap (λ n. cond (nat_lt m count) (mark i m) 0 + n) (times_among count claimed i)
+    ∙ kept_alike (nat_lt m count) (nat_lt i count) (mark i m) (times i claimed) (dite (ℕ_discrete m i) (λ same. inl (ap (λ n. nat_lt n count) same)) (λ differs. inr (none_here i m differs)))
+    ∙ ap (λ n. cond (nat_lt i count) n 0) (sym (times-cons i m claimed))
 
 -- without a budget none of them, and none of those more, has a cut piece
 uncut_of_one : (nodes : Option ℕ) (part : PartView) → IfNone nodes (part.cut ≡ []) → IfNone nodes (All (λ (x : PartView). x.cut ≡ []) (part ∷ []))
@@ -69,6 +76,14 @@ uncut_of_all : (nodes : Option ℕ) (some others : List PartView) → IfNone nod
 uncut_of_all None some others h k = All-append (λ (x : PartView). x.cut ≡ []) some others h k
 uncut_of_all (Some budget) some others h k = tt
 
+pub budget_of_one : (nodes : Option ℕ) (part : PartView) → IfSome nodes (λ budget. KeepsBudget budget part) → IfSome nodes (λ budget. All (KeepsBudget budget) (part ∷ []))
+budget_of_one None part kept = tt
+budget_of_one (Some budget) part kept = All-push (KeepsBudget budget) [] part (All-nil (KeepsBudget budget)) kept
+
+budget_of_all : (nodes : Option ℕ) (some others : List PartView) → IfSome nodes (λ budget. All (KeepsBudget budget) some) → IfSome nodes (λ budget. All (KeepsBudget budget) others) → IfSome nodes (λ budget. All (KeepsBudget budget) (some ++ others))
+budget_of_all None some others h k = tt
+budget_of_all (Some budget) some others h k = All-append (KeepsBudget budget) some others h k
+
 -- one worker's work, as the work of one
 pub work_of_one : (p : Problem) (pieces : CubeList) (nodes : Option ℕ) (part : PartView) (parts none : List PartView) (claimed : List ℕ) → parts ≡ none ++ part ∷ [] → none ≡ [] → IsWholeWork p pieces nodes part claimed → AreWholeWork p pieces nodes parts claimed
 work_of_one p pieces nodes part parts none claimed pushed empty h =
@@ -76,10 +91,9 @@ work_of_one p pieces nodes part parts none claimed pushed empty h =
     subst (λ (l : List PartView). AreWholeWork p pieces nodes l claimed) (sym is) (record {
       of_instance = All-push (λ (x : PartView). x.best.problem ≡ p) [] part (All-nil (λ (x : PartView). x.best.problem ≡ p)) h.of_instance;
       of_pieces = All-push (λ (x : PartView). x.pieces ≡ pieces) [] part (All-nil (λ (x : PartView). x.pieces ≡ pieces)) h.of_pieces;
-      named = λ i below claims.
-          (let among : Contains (pieces_among (piece_count pieces) claimed) i = Contains-filter (λ n. nat_lt n (piece_count pieces)) claimed i (is_piece i (piece_count pieces) below) claims in
-          Any-push (λ (x : PartView). Contains x.named i ⊎ Contains x.cut i) [] part (dealt_contains (pieces_among (piece_count pieces) claimed) part.named part.cut i h.named among));
+      named = λ i. omega (arith, times-append i (part.named ++ part.cut) [], times-append i part.named part.cut, dealt_times (pieces_among (piece_count pieces) claimed) part.named part.cut i h.named);
       uncut = uncut_of_one nodes part h.uncut;
+      budget = budget_of_one nodes part h.budget;
       past = past h.ends;
     })
   where
@@ -97,13 +111,20 @@ work_of_all p pieces nodes some others all claimed more both parts_are claims_ar
     subst (λ (l : List PartView). AreWholeWork p pieces nodes l both) (sym parts_are) (subst (λ (l : List ℕ). AreWholeWork p pieces nodes (some ++ others) l) (sym claims_are) (record {
       of_instance = All-append (λ (x : PartView). x.best.problem ≡ p) some others h.of_instance k.of_instance;
       of_pieces = All-append (λ (x : PartView). x.pieces ≡ pieces) some others h.of_pieces k.of_pieces;
-      named = λ i below claims. elim (Contains-append_cases claimed more i claims) [
-        | inl first ↦ Any-append_left (λ (x : PartView). Contains x.named i ⊎ Contains x.cut i) some others (h.named i below first)
-        | inr second ↦ Any-append_right (λ (x : PartView). Contains x.named i ⊎ Contains x.cut i) some others (k.named i below second)
-      ];
+      named = λ i. named_of_all i;
       uncut = uncut_of_all nodes some others h.uncut k.uncut;
+      budget = budget_of_all nodes some others h.budget k.budget;
       past = goes_past_more (piece_count pieces) claimed more h.past;
     }))
+  where
+    named_of_all : (i : ℕ) → times i (all_numbers (some ++ others)) ≡ times i (pieces_among (piece_count pieces) (claimed ++ more))
+    named_of_all i =
+        ap (times i) (flat_map-append (λ (x : PartView). x.named ++ x.cut) some others)
+        ∙ times-append i (all_numbers some) (all_numbers others)
+        ∙ ap (λ n. n + times i (all_numbers others)) (h.named i)
+        ∙ ap (λ n. times i (pieces_among (piece_count pieces) claimed) + n) (k.named i)
+        ∙ sym (times-append i (pieces_among (piece_count pieces) claimed) (pieces_among (piece_count pieces) more))
+        ∙ ap (times i) (sym (filter-append (λ n. nat_lt n (piece_count pieces)) claimed more))
 
 -- two seats as one
 abbrev joined : BoardView → SeatView → SeatView → SeatView
@@ -118,8 +139,12 @@ work_of_both p pieces nodes some others all board low high both parts_are is h k
 counted_below : (n total count : ℕ) → count ≡ (if nat_lt n total then 1 else 0) → 0 < count → n < total
 counted_below n total count is some = grind (arith, nat_tests)
 
-counted_once : (n total count : ℕ) → count ≡ (if nat_lt n total then 1 else 0) → n < total → 0 < count
+pub counted_once : (n total count : ℕ) → count ≡ (if nat_lt n total then 1 else 0) → n < total → 0 < count
 counted_once n total count is below = grind (arith, nat_tests)
+
+-- the same below a lesser total, where those that are not below it are left out
+once_below : (n count total k : ℕ) → k ≡ (if nat_lt n total then 1 else 0) → count ≤ total → cond (nat_lt n count) k 0 ≡ (if nat_lt n count then 1 else 0)
+once_below n count total k is fewer = grind (arith, nat_tests)
 
 -- claims that are the numbers below their number, each once, and go past the pieces
 passes_pieces : (count total : ℕ) (claimed : List ℕ) → total ≡ length claimed → IsEachOnceBelow total claimed → GoesPast count claimed → count ≤ total
@@ -130,20 +155,42 @@ passes_pieces count total claimed number once (inl some) =
     let past : count ≤ some.1 = some.4 in
     omega arith
 
--- each piece is among them
-each_claimed : (count total : ℕ) (claimed : List ℕ) → total ≡ length claimed → IsEachOnceBelow total claimed → GoesPast count claimed → (i : ℕ) → i < count → Contains claimed i
-each_claimed count total claimed number once past i below =
+-- each piece is among them once
+each_claimed : (count total : ℕ) (claimed : List ℕ) → total ≡ length claimed → IsEachOnceBelow total claimed → GoesPast count claimed → IsEachOnceBelow count (pieces_among count claimed)
+each_claimed count total claimed number once past i =
     let all : count ≤ total = passes_pieces count total claimed number once past in
-    found claimed i (counted_once i total (times i claimed) (once i) (omega arith))
+    times_among count claimed i ∙ once_below i count total (times i claimed) (once i) all
 
--- where no part has a cut piece, what some part names it names as done
-named_as_done : (parts : List PartView) (i : ℕ) → (Any (λ (x : PartView). x.cut ≢ []) parts → ⊥) → Any (λ (x : PartView). Contains x.named i ⊎ Contains x.cut i) parts → Any (λ (x : PartView). Contains x.named i) parts
-named_as_done parts i none (k, part, within, is, inl done) = (k, part, within, is, done)
-named_as_done parts i none (k, part, within, is, inr cut) = absurd (none (k, part, within, is, holds_some part.cut i cut))
+-- the joined claims of all workers leave no piece out, so the parts name each piece once
+pub each_named : (p : Problem) (pieces : CubeList) (nodes : Option ℕ) (parts : List PartView) (claimed : List ℕ) (total : ℕ) → AreWholeWork p pieces nodes parts claimed → total ≡ length claimed → IsEachOnceBelow total claimed → IsEachOnceBelow (piece_count pieces) (all_numbers parts)
+each_named p pieces nodes parts claimed total h number once = λ i. h.named i ∙ each_claimed (piece_count pieces) total claimed number once h.past i
 
--- the joined claims of all workers leave no piece out, and where nothing was cut each piece is done
-pub all_named : (p : Problem) (pieces : CubeList) (nodes : Option ℕ) (parts : List PartView) (claimed : List ℕ) (total : ℕ) → AreWholeWork p pieces nodes parts claimed → total ≡ length claimed → IsEachOnceBelow total claimed → (Any (λ (x : PartView). x.cut ≢ []) parts → ⊥) → AreWhole pieces parts
-all_named p pieces nodes parts claimed total h number once none = record {
-  of_list = h.of_pieces;
-  all_named = λ i within. named_as_done parts i none (h.named i (omega arith) (each_claimed (piece_count pieces) total claimed number once h.past i (omega arith)));
+-- what some part names, where no part has a cut piece, it names as done
+named_as_done : (parts : List PartView) (i : ℕ) → (Any (λ (x : PartView). x.cut ≢ []) parts → ⊥) → Any (λ (x : PartView). Contains (x.named ++ x.cut) i) parts → Any (λ (x : PartView). Contains x.named i) parts
+named_as_done parts i none (k, part, within, is, names) = elim (Contains-append_cases part.named part.cut i names) [
+  | inl done ↦ (k, part, within, is, done)
+  | inr cut ↦ absurd (none (k, part, within, is, holds_some part.cut i cut))
+]
+
+-- where each piece is named and nothing was cut each piece is done
+pub all_named : (pieces : CubeList) (parts : List PartView) → All (λ (x : PartView). x.pieces ≡ pieces) parts → IsEachOnceBelow (piece_count pieces) (all_numbers parts) → (Any (λ (x : PartView). x.cut ≢ []) parts → ⊥) → AreWhole pieces parts
+all_named pieces parts of_pieces once none = record {
+  of_list = of_pieces;
+  all_named = λ i within. named_as_done parts i none (contained_in_some (λ (x : PartView). x.named ++ x.cut) parts i
+      (found (all_numbers parts) i (counted_once i (piece_count pieces) (times i (all_numbers parts)) (once i) (omega arith))));
 }
+
+-- the answer of the parts, where they did all work and what they hold was gathered
+pub answer_of_parts : (p q : Problem) (pieces list : CubeList) (nodes : Option ℕ) (parts seen : List PartView) (claimed : List ℕ) (total : ℕ) (before held : Option Solution) (some_cut : Bool)
+    → q ≡ p → list ≡ pieces → AreWholeWork q list nodes parts claimed → total ≡ length claimed → IsEachOnceBelow total claimed
+    → seen ≡ parts → before ≡ None → All AreDone seen → IsFirst (before ∷ map (λ part. part.best.held) seen) held → (IsTrue some_cut ↔ Any (λ (x : PartView). x.cut ≢ []) seen)
+    → IsAnswerOf p pieces parts held some_cut
+answer_of_parts p q pieces list nodes parts seen claimed total before held some_cut same_instance same_list work number once same none done first told =
+    subst (λ (x : Problem). IsAnswerOf x pieces parts held some_cut) same_instance (subst (λ (l : CubeList). IsAnswerOf q l parts held some_cut) same_list (record {
+      of_instance = work.of_instance;
+      of_pieces = work.of_pieces;
+      each_once = each_named q list nodes parts claimed total work number once;
+      done = subst (λ (l : List PartView). All AreDone l) same done;
+      first = subst (λ (l : List PartView). IsFirst (None ∷ map (λ part. part.best.held) l) held) same (subst (λ (o : Option Solution). IsFirst (o ∷ map (λ part. part.best.held) seen) held) none first);
+      told = subst (λ (l : List PartView). IsTrue some_cut ↔ Any (λ (x : PartView). x.cut ≢ []) l) same told;
+    }))

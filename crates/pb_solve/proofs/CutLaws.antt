@@ -40,7 +40,7 @@ is_some (n ∷ cut) seen empty is told =
     ((λ some none. cc), (λ differs. ap not no))
 
 -- what is known of some parts and of one more
-known_more : (P Q : Type 0) (known more : Bool) → (IsTrue known ↔ P) → (IsTrue more ↔ Q) → IsTrue (known || more) ↔ (P ⊎ Q)
+pub known_more : (P Q : Type 0) (known more : Bool) → (IsTrue known ↔ P) → (IsTrue more ↔ Q) → IsTrue (known || more) ↔ (P ⊎ Q)
 known_more P Q true more h k = ((λ yes. inl (h.0 refl)), (λ some. refl))
 known_more P Q false more h k = ((λ yes. inr (k.0 yes)), (λ some. elim some [ inl p ↦ absurd (false≢true (h.1 p)) | inr q ↦ k.1 q ]))
 

@@ -1,6 +1,7 @@
 -- How the first of some solutions becomes the first of one more.
-use Rattle.std.proofs.Common.{◌≡◌, ◌↔◌, ℕ, ◌+◌, ◌<◌, Bool, true, false, cond, List, [], ◌∷◌, ◌++◌, map, take, length, get_or, Option, Some, None, refl, sym, ◌∙◌, ap, subst, IsTrue, ℤ}
+use Rattle.std.proofs.Common.{◌≡◌, ◌↔◌, ℕ, ◌+◌, ◌<◌, Bool, true, false, cond, List, [], ◌∷◌, ◌++◌, map, take, length, get_or, Option, Some, None, refl, sym, ◌∙◌, ap, subst, inl, inr, arith, IsTrue, ℤ}
 use Rattle.std.proofs.lemmas.Bool.{false≢true}
+use Rattle.std.proofs.lemmas.Int.{ints}
 use Rattle.std.proofs.lemmas.List.Elements.{All-push, Contains-push, Contains-append_left}
 use Rattle.std.proofs.lemmas.List.{take_more, map-append}
 use Rattle.std.specs.Option.{IfSome, option_map}
@@ -8,7 +9,7 @@ use Rattle.pb_inst.specs.Problem.{Problem}
 use Rattle.pb_inst.specs.Meaning.{IsFeasible, cost}
 use Rattle.pb_inst.specs.Order.{Precedes, IsBefore}
 use Rattle.pb_inst.specs.Incumbent.{Solution, IsSolution, Improves, solution_of}
-use Rattle.pb_inst.proofs.OrderProofs.{none_before_itself, before_is_transitive}
+use Rattle.pb_inst.proofs.OrderProofs.{before_is_transitive}
 use Rattle.pb_solve.specs.Parts.{IsFirst, IsNotBefore, AreSolutions}
 
 -- what is not before the old first is not before an earlier one
@@ -26,8 +27,13 @@ improved p found None s all h_is s_is better None o_is not = tt
 improved p found None s all h_is s_is better (Some o) o_is not = absurd not
 improved p found (Some h) s all h_is s_is better o o_is not = stays p o h s o_is h_is s_is better not
 
-not_before_itself : (p : Problem) (s : Solution) → IsSolution p s → IsNotBefore (Some s) (Some s)
-not_before_itself p s s_is = λ before. none_before_itself p s.assignment (subst (λ (c : ℤ). Precedes c s.assignment c s.assignment) s_is.cost_is before)
+pub not_before_itself : (o : Option Solution) → IsNotBefore o o
+not_before_itself None = tt
+not_before_itself (Some s) = never
+  where
+    never : Precedes s.cost s.assignment s.cost s.assignment → ⊥
+    never (inl less) = omega (arith, ints)
+    never (inr h) = false≢true (sym h.1.first_has_zero ∙ h.1.second_has_one)
 
 no_better : (s : Solution) (h : Option Solution) → (IfSome h (λ t. Precedes s.cost s.assignment t.cost t.assignment) → ⊥) → IsNotBefore (Some s) h
 no_better s None not = not tt
@@ -39,7 +45,7 @@ first_more p found h after s true all h_is s_is first decides is = subst (λ o. 
   one_of_them = Contains-push found (Some s);
   none_before = All-push (λ o. IsNotBefore o (Some s)) found (Some s)
       (λ k d lt. improved p found h s all h_is s_is (decides.0 refl) (get_or found k d) (all k d lt) (first.none_before k d lt))
-      (not_before_itself p s s_is);
+      (not_before_itself (Some s));
 })
 first_more p found h after s false all h_is s_is first decides is = subst (λ o. IsFirst (found ++ Some s ∷ []) o) (sym is) (record {
   one_of_them = Contains-append_left found (Some s ∷ []) h first.one_of_them;

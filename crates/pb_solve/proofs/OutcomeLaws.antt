@@ -1,12 +1,13 @@
 -- How the steps of a run make its outcome.
-use Rattle.std.proofs.Common.{◌≡◌, ◌≢◌, ℕ, ℤ, Bool, true, false, List, Option, Some, None, is_some, length, Result, Ok, Err, OnOk, refl, ◌∙◌, ap, subst, inr}
-use Rattle.std.specs.Prelude.{IfOk}
+use Rattle.std.proofs.Common.{◌≡◌, ◌≢◌, ℕ, ℤ, Bool, true, false, List, Option, Some, None, is_some, length, Result, Ok, Err, OnOk, refl, sym, ◌∙◌, ap, subst, inr}
+use Rattle.std.specs.Prelude.{All, IfOk, if◌then◌else◌}
 use Rattle.std.specs.Option.{IfSome, option_map}
 use Rattle.std.specs.Io.KnownBytes.{Appends}
 use Rattle.pb_inst.specs.Problem.{Problem}
 use Rattle.pb_inst.specs.Meaning.{IsFeasible, cost}
 use Rattle.pb_inst.specs.Order.{IsLeast}
 use Rattle.pb_inst.specs.Incumbent.{Solution, IsSolution}
+use Rattle.pb_cubes.specs.Pieces.{CubeList}
 use Rattle.pb_solve.specs.declared.prepare.Prepared.{Prepared}
 use Rattle.pb_read.specs.declared.format.Format.{Format}
 use Rattle.pb_solve.specs.declared.options.Ran.{Ran}
@@ -17,8 +18,10 @@ use Rattle.pb_solve.specs.Solving.{HoldsLeast}
 use Rattle.pb_solve.specs.Outcome.{Refused, Feasible, Optimal, IsOutcome}
 use Rattle.pb_report.specs.Written.{attained_report, satisfiable_report, optimum_report, refusal_report, unknown_report}
 use Rattle.pb_solve.specs.Budgeted as budgeted
-use Rattle.pb_solve.specs.Budgeted.{Nothing, Costing, IsFoundIn}
-use Rattle.pb_solve.specs.Run.{WhereTold, Reports, ReportsFound, Answers, AnswersFound, IsAccepted}
+use Rattle.pb_solve.specs.Budgeted.{Found, Nothing, Costing, IsFound, IsFoundIn, found_of, found_report, found_status}
+use Rattle.pb_solve.specs.Parts.{PartView, IsAnswerOf, KeepsBudget}
+use Rattle.pb_solve.specs.declared.workers.solve.Answer.{Answer}
+use Rattle.pb_solve.specs.Run.{WhereTold, Reports, ReportsFound, Answers, AnswersFound, AnswersHeld, IsAccepted}
 
 -- ---- facts about what readers tell
 
@@ -68,9 +71,9 @@ answer_optimum format p held old new status a z least is_a is_z some is written 
 -- ---- what was found before a piece was cut
 
 -- what is held is a solution, by its assignment and its cost
-found_of : (p : Problem) (held : Option Solution) (a : List Bool) → IfSome held (IsSolution p) → Some a ≡ option_map (λ s. s.assignment) held → (length a ≡ p.vars) × IsFeasible p a
-found_of p None a sound e = cc
-found_of p (Some s) a sound e =
+found_of_held : (p : Problem) (held : Option Solution) (a : List Bool) → IfSome held (IsSolution p) → Some a ≡ option_map (λ s. s.assignment) held → (length a ≡ p.vars) × IsFeasible p a
+found_of_held p None a sound e = cc
+found_of_held p (Some s) a sound e =
     let same : s.assignment ≡ a = cc in subst (λ (x : List Bool). (length x ≡ p.vars) × IsFeasible p x) same (sound.for_all_variables, sound.feasible)
 
 found_cost_of : (p : Problem) (held : Option Solution) (a : List Bool) (z : ℤ) → IfSome held (IsSolution p) → Some a ≡ option_map (λ s. s.assignment) held → Some z ≡ option_map (λ s. s.cost) held → z ≡ cost p a
@@ -80,32 +83,71 @@ found_cost_of p (Some s) a z sound e f =
     let price : z ≡ s.cost = cc in
     price ∙ sound.cost_is ∙ ap (λ (x : List Bool). cost p x) same
 
-pub nothing_found : {E : Type 0} (r : Result Status E) (format : Format) (p : Problem) (old new : Option (List ℕ)) → IfOk r (λ status. status ≡ Unknown) → OnOk r (Appends old new unknown_report) → IfOk r (AnswersFound format p old new)
-nothing_found (Ok status) format p old new is written = record { found = Nothing; ends = is; writes = written; right = tt }
-nothing_found (Err e) format p old new is written = tt
+-- what is held, by the assignment and the cost that are answered
+found_satisfiable : (p : Problem) (held : Option Solution) (a : List Bool) → Some a ≡ option_map (λ s. s.assignment) held → is_some p.objective ≡ false → found_of p held ≡ budgeted.Feasible a
+found_satisfiable p None a e none = cc
+found_satisfiable p (Some s) a e none =
+    let same : s.assignment ≡ a = cc in
+    ap (λ (b : Bool). if b then Costing s.cost s.assignment else budgeted.Feasible s.assignment) none ∙ ap budgeted.Feasible same
 
-pub satisfiable_found : {E : Type 0} (r : Result Status E) (format : Format) (p : Problem) (held : Option Solution) (old new : Option (List ℕ)) (a : List Bool) → IfSome held (IsSolution p) → Some a ≡ option_map (λ s. s.assignment) held → is_some p.objective ≡ false → IfOk r (λ status. status ≡ Satisfiable) → OnOk r (Appends old new (satisfiable_report format a)) → IfOk r (AnswersFound format p old new)
+found_attained : (p : Problem) (held : Option Solution) (a : List Bool) (z : ℤ) → Some a ≡ option_map (λ s. s.assignment) held → Some z ≡ option_map (λ s. s.cost) held → is_some p.objective ≡ true → found_of p held ≡ Costing z a
+found_attained p None a z e f some = cc
+found_attained p (Some s) a z e f some =
+    let same : s.assignment ≡ a = cc in
+    let price : s.cost ≡ z = cc in
+    ap (λ (b : Bool). if b then Costing s.cost s.assignment else budgeted.Feasible s.assignment) some ∙ (ap (λ (y : ℤ). Costing y s.assignment) price ∙ ap (Costing z) same)
+
+-- the report of what was found is that of what is held
+held_reported : (format : Format) (p : Problem) (held : Option Solution) (found : Found) (old new : Option (List ℕ)) (status : Status) → found_of p held ≡ found → status ≡ found_status found → Appends old new (found_report format found) → IsFound p found → AnswersHeld format p held old new status
+held_reported format p held found old new status same is written right = record {
+  ends = is ∙ ap found_status (sym same);
+  writes = subst (λ (f : Found). Appends old new (found_report format f)) (sym same) written;
+  right = subst (IsFound p) (sym same) right;
+}
+
+pub satisfiable_found : {E : Type 0} (r : Result Status E) (format : Format) (p : Problem) (held : Option Solution) (old new : Option (List ℕ)) (a : List Bool) → IfSome held (IsSolution p) → Some a ≡ option_map (λ s. s.assignment) held → is_some p.objective ≡ false → IfOk r (λ status. status ≡ Satisfiable) → OnOk r (Appends old new (satisfiable_report format a)) → IfOk r (AnswersHeld format p held old new)
 satisfiable_found (Ok status) format p held old new a sound is_a none is written =
-    let found = found_of p held a sound is_a in
-    record { found = budgeted.Feasible a; ends = is; writes = written; right = (no_objective p.objective none, found.0, found.1) }
+    let found = found_of_held p held a sound is_a in
+    held_reported format p held (budgeted.Feasible a) old new status (found_satisfiable p held a is_a none) is written (no_objective p.objective none, found.0, found.1)
 satisfiable_found (Err e) format p held old new a sound is_a none is written = tt
 
-pub attained_found : {E : Type 0} (r : Result Status E) (format : Format) (p : Problem) (held : Option Solution) (old new : Option (List ℕ)) (a : List Bool) (z : ℤ) → IfSome held (IsSolution p) → Some a ≡ option_map (λ s. s.assignment) held → Some z ≡ option_map (λ s. s.cost) held → is_some p.objective ≡ true → IfOk r (λ status. status ≡ Satisfiable) → OnOk r (Appends old new (attained_report format z a)) → IfOk r (AnswersFound format p old new)
+pub attained_found : {E : Type 0} (r : Result Status E) (format : Format) (p : Problem) (held : Option Solution) (old new : Option (List ℕ)) (a : List Bool) (z : ℤ) → IfSome held (IsSolution p) → Some a ≡ option_map (λ s. s.assignment) held → Some z ≡ option_map (λ s. s.cost) held → is_some p.objective ≡ true → IfOk r (λ status. status ≡ Satisfiable) → OnOk r (Appends old new (attained_report format z a)) → IfOk r (AnswersHeld format p held old new)
 attained_found (Ok status) format p held old new a z sound is_a is_z some is written =
-    let found = found_of p held a sound is_a in
-    record { found = Costing z a; ends = is; writes = written; right = (some, found.0, found.1, found_cost_of p held a z sound is_a is_z) }
+    let found = found_of_held p held a sound is_a in
+    held_reported format p held (Costing z a) old new status (found_attained p held a z is_a is_z some) is written (some, found.0, found.1, found_cost_of p held a z sound is_a is_z)
 attained_found (Err e) format p held old new a z sound is_a is_z some is written = tt
 
-pub found_reported : (format : Format) (prepared : Prepared) (input : Option (List ℕ)) (cubes : Option (Option (List ℕ))) (split : ℕ) (old new : Option (List ℕ)) (status : Status) → WhereTold input cubes (λ text cube_text. IsAccepted format text cube_text split prepared) → AnswersFound format prepared.instance old new status → ReportsFound format input cubes split old new status
+-- nothing is reported where nothing is held
+pub nothing_found : {E : Type 0} (r : Result Status E) (format : Format) (p : Problem) (held : Option Solution) (old new : Option (List ℕ)) → held ≡ None → IfOk r (λ status. status ≡ Unknown) → OnOk r (Appends old new unknown_report) → IfOk r (AnswersHeld format p held old new)
+nothing_found (Ok status) format p held old new none is written = held_reported format p held Nothing old new status (ap (found_of p) none) is written tt
+nothing_found (Err e) format p held old new none is written = tt
+
+-- what is held was found by the parts whose answer it is
+pub found_by_parts : {E : Type 0} (r : Result Status E) (format : Format) (p : Problem) (pieces : CubeList) (held : Option Solution) (some_cut : Bool) (old new : Option (List ℕ)) → some_cut ≡ true → (parts : List PartView) × IsAnswerOf p pieces parts held some_cut → IfOk r (AnswersHeld format p held old new) → IfOk r (AnswersFound format p pieces old new)
+found_by_parts (Ok status) format p pieces held some_cut old new cut answer h = record {
+  found = found_of p held;
+  ends = h.ends;
+  writes = h.writes;
+  right = (answer.0, held, subst (IsAnswerOf p pieces answer.0 held) cut answer.1, refl, h.right);
+}
+found_by_parts (Err e) format p pieces held some_cut old new cut answer h = tt
+
+-- the same answer, whatever is told of the budget
+pub answered_by_parts : {E : Type 0} (r : Result Answer E) (p : Problem) (pieces : CubeList) (nodes : Option ℕ) → IfOk r (λ answer. (parts : List PartView) × IsAnswerOf p pieces parts answer.best.held answer.cut × IfSome nodes (λ budget. All (KeepsBudget budget) parts))
+    → IfOk r (λ answer. (parts : List PartView) × IsAnswerOf p pieces parts answer.best.held answer.cut)
+answered_by_parts (Ok answer) p pieces nodes h = (h.0, h.1)
+answered_by_parts (Err e) p pieces nodes h = tt
+
+pub found_reported : (format : Format) (prepared : Prepared) (input : Option (List ℕ)) (cubes : Option (Option (List ℕ))) (split : ℕ) (old new : Option (List ℕ)) (status : Status) → WhereTold input cubes (λ text cube_text. IsAccepted format text cube_text split prepared) → AnswersFound format prepared.instance prepared.pieces old new status → ReportsFound format input cubes split old new status
 found_reported format prepared input cubes split old new status told h = record {
   found = h.found;
   ends = h.ends;
   writes = h.writes;
   right = told_weaker input cubes (λ text cube_text. IsAccepted format text cube_text split prepared) (λ text cube_text. IsFoundIn format text cube_text split h.found)
-      (λ text cube_text accepted. (prepared.instance, accepted.0, accepted.1, accepted.2.0, h.right)) told;
+      (λ text cube_text accepted. (prepared.instance, accepted.0, prepared.pieces, accepted.1, accepted.2, h.right)) told;
 }
 
-pub found_report_of : {E : Type 0} (r : Result Ran E) (format : Format) (prepared : Prepared) (input : Option (List ℕ)) (cubes : Option (Option (List ℕ))) (split : ℕ) (old new : Option (List ℕ)) → WhereTold input cubes (λ text cube_text. IsAccepted format text cube_text split prepared) → IfOk r (λ ran. ran.cut ≡ true → AnswersFound format prepared.instance old new ran.status) → IfOk r (λ ran. ran.cut ≡ true → ReportsFound format input cubes split old new ran.status)
+pub found_report_of : {E : Type 0} (r : Result Ran E) (format : Format) (prepared : Prepared) (input : Option (List ℕ)) (cubes : Option (Option (List ℕ))) (split : ℕ) (old new : Option (List ℕ)) → WhereTold input cubes (λ text cube_text. IsAccepted format text cube_text split prepared) → IfOk r (λ ran. ran.cut ≡ true → AnswersFound format prepared.instance prepared.pieces old new ran.status) → IfOk r (λ ran. ran.cut ≡ true → ReportsFound format input cubes split old new ran.status)
 found_report_of (Ok ran) format prepared input cubes split old new told h = λ cut. found_reported format prepared input cubes split old new ran.status told (h cut)
 found_report_of (Err e) format prepared input cubes split old new told h = tt
 
@@ -127,6 +169,10 @@ refusal_reported format input cubes split old new status refusal told is written
   writes = written;
   right = told;
 }
+
+pub both_told : {E : Type 0} (r : Result Ran E) (P Q : Ran → Type 0) → IfOk r P → IfOk r Q → IfOk r (λ ran. P ran × Q ran)
+both_told (Ok ran) P Q p q = (p, q)
+both_told (Err e) P Q p q = tt
 
 -- ---- the same of what a call answers
 

@@ -1,5 +1,5 @@
 -- A text spells one instance or has a refusal, by its format; and a cube file likewise.
-use Rattle.std.proofs.Common.{◌≡◌, ℕ, List, Option, None, Some, sym, ◌∙◌}
+use Rattle.std.proofs.Common.{◌≡◌, ℕ, List, Option, None, Some, Result, Err, ap, sym, ◌∙◌}
 use Rattle.std.specs.Prelude.{IfSome}
 use Rattle.pb_inst.specs.Literal.{Literal}
 use Rattle.pb_inst.specs.Problem.{Problem}
@@ -11,6 +11,11 @@ use Rattle.pb_read.proofs.CubeLaws as cube
 use Rattle.pb_read.specs.declared.format.Format.{Format}
 use Rattle.pb_read.specs.declared.format.Format.TheVariants.{Opb, Cnf, Icnf}
 use Rattle.pb_read.specs.Format.{Spells, text_refusal}
+use Rattle.pb_report.specs.declared.ends.Refusal.TheVariants as refusal
+use Rattle.pb_solve.specs.declared.prepare.Halt.{Halt}
+use Rattle.pb_solve.specs.declared.prepare.Halt.TheVariants.{ReadInput, ReadCubes, Memory, Refused}
+use Rattle.pb_solve.specs.declared.prepare.Prepared.{Prepared}
+use Rattle.pb_solve.specs.Run.{HaltsInput, StopsAtFault}
 use Rattle.pb_solve.specs.Texts.{SpellsCubes, cube_text_refusal}
 
 not_refused : (format : Format) (text : List ℕ) (p : Problem) (input_cubes : List (List Literal)) → Spells format text p input_cubes → text_refusal format text ≡ None
@@ -24,7 +29,7 @@ not_both format text p input_cubes fault h refused =
     let both : None ≡ Some fault = sym (not_refused format text p input_cubes h) ∙ refused in cc
 
 -- the same where it is known what was read
-pub spelled_not_refused : (X : Type 0) (format : Format) (input : Option (List ℕ)) (p : Problem) (input_cubes : List (List Literal)) → IfSome input (λ t. Spells format t p input_cubes) → IfSome input (λ t. (fault : ReadFault) → text_refusal format t ≡ Some fault → X)
+pub spelled_not_refused : (X : ReadFault → Type 0) (format : Format) (input : Option (List ℕ)) (p : Problem) (input_cubes : List (List Literal)) → IfSome input (λ t. Spells format t p input_cubes) → IfSome input (λ t. (fault : ReadFault) → text_refusal format t ≡ Some fault → X fault)
 spelled_not_refused X format None p input_cubes spells = tt
 spelled_not_refused X format (Some ts) p input_cubes spells = λ fault refused. absurd (not_both format ts p input_cubes fault spells refused)
 
@@ -35,6 +40,23 @@ one_spelling Icnf text p q input_cubes input_cubes' h k = icnf.one text p q inpu
 
 pub same_fault : (o : Option ReadFault) (f g : ReadFault) → o ≡ Some f → o ≡ Some g → f ≡ g
 same_fault o f g h k = let both : Some f ≡ Some g = sym h ∙ k in cc
+
+-- what stops at an input that is refused stops at its fault
+pub stops_at_fault : (format : Format) (input : Option (List ℕ)) (halt : Halt) → HaltsInput format input halt → IfSome input (λ t. (fault : ReadFault) → text_refusal format t ≡ Some fault → StopsAtFault fault (Err halt))
+stops_at_fault format None halt halts = tt
+stops_at_fault format (Some ts) ReadInput halts = λ fault refused. tt
+stops_at_fault format (Some ts) ReadCubes halts = absurd halts
+stops_at_fault format (Some ts) Memory halts = λ fault refused. tt
+stops_at_fault format (Some ts) (Refused (refusal.Input found)) halts = λ fault refused. ap refusal.Input (same_fault (text_refusal format ts) found fault halts refused)
+stops_at_fault format (Some ts) (Refused (refusal.Cubes found)) halts = absurd halts
+stops_at_fault format (Some ts) (Refused refusal.Split) halts = absurd halts
+stops_at_fault format (Some ts) (Refused refusal.TooManyCubes) halts = absurd halts
+
+-- what holds where a run stops at the fault holds where the input is refused for it
+pub where_refused : (X : ReadFault → Type 0) (format : Format) (input : Option (List ℕ)) (found : Result Prepared Halt) → IfSome input (λ t. (fault : ReadFault) → text_refusal format t ≡ Some fault → StopsAtFault fault found) → ((fault : ReadFault) → StopsAtFault fault found → X fault)
+    → IfSome input (λ t. (fault : ReadFault) → text_refusal format t ≡ Some fault → X fault)
+where_refused X format None found stops h = tt
+where_refused X format (Some ts) found stops h = λ fault refused. h fault (stops fault refused)
 
 -- the same of a cube file
 pub cubes_not_both : (vars : ℕ) (text : List ℕ) (cubes : List (List Literal)) (fault : ReadFault) → SpellsCubes vars text cubes → cube_text_refusal vars text ≡ Some fault → ⊥

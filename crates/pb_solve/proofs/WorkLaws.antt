@@ -1,15 +1,15 @@
 -- How the pieces that a worker claims are done one by one.
-use Rattle.std.proofs.Common.{◌≡◌, ℕ, ◌+◌, ◌<◌, ◌≤◌, List, [], ◌∷◌, ◌++◌, ◌⊎◌, inl, inr, true, cond, length, Option, None, Some, refl, sym, ◌∙◌, ap, subst, rules, tests}
+use Rattle.std.proofs.Common.{◌≡◌, ℕ, ◌+◌, ◌<◌, ◌≤◌, List, [], ◌∷◌, ◌++◌, ◌⊎◌, inl, inr, true, cond, length, Option, None, Some, refl, sym, ◌∙◌, ap, subst, arith, rules, tests, length-append}
 use Rattle.std.specs.Prelude.{All, nat_lt, IfNone}
-use Rattle.std.specs.Option.{IfSome}
-use Rattle.std.proofs.lemmas.List.Elements.{All-push, All-weaker, filter-append}
+use Rattle.std.specs.Option.{IfSome, option_map}
+use Rattle.std.proofs.lemmas.List.Elements.{All-nil, All-push, All-weaker, filter-append}
 use Rattle.pb_inst.specs.Problem.{Problem}
 use Rattle.pb_inst.specs.Incumbent.{Incumbent, Solution, IsSolution}
 use Rattle.pb_cubes.specs.Pieces.{CubeList}
 use Rattle.pb_search.specs.Done.{Division, IsDone}
 use Rattle.pb_search.specs.Held.{IsNotAfter}
 use Rattle.pb_search.proofs.HeldLemmas.{improvement_on_earlier}
-use Rattle.pb_solve.specs.Parts.{PartView, AreDone}
+use Rattle.pb_solve.specs.Parts.{PartView, AreCounted, AreDone}
 use Rattle.pb_search.specs.declared.outcome.Outcome.{Outcome}
 use Rattle.pb_search.specs.declared.outcome.Outcome.TheVariants.{Whole, Cut}
 use Rattle.pb_solve.specs.Claims.{piece_count, pieces_among, AreDealt, EndsPast, IsWholeWork, NamesOneMore}
@@ -106,21 +106,79 @@ none_cut (Some budget) cut is = tt
 pub is_piece : (n count : ℕ) → n < count → nat_lt n count ≡ true
 is_piece n count h = search (rules, tests)
 
+-- nothing is counted yet
+pub none_counted : (nodes : Option ℕ) (done decisions cut cut_decisions : List ℕ) → done ≡ [] → decisions ≡ [] → cut ≡ [] → cut_decisions ≡ [] → IfSome nodes (λ budget. AreCounted budget done decisions cut cut_decisions)
+none_counted None done decisions cut cut_decisions no_done no_decisions no_cut no_cut_decisions = tt
+none_counted (Some budget) done decisions cut cut_decisions no_done no_decisions no_cut no_cut_decisions = record {
+  counted = ap length no_decisions ∙ sym (ap length no_done);
+  within = subst (λ (l : List ℕ). All (λ n. n ≤ budget) l) (sym no_decisions) (All-nil (λ n. n ≤ budget));
+  cut_counted = ap length no_cut_decisions ∙ sym (ap length no_cut);
+  used_up = subst (λ (l : List ℕ). All (λ n. n ≡ budget) l) (sym no_cut_decisions) (All-nil (λ n. n ≡ budget));
+}
+
+same_lengths : (l m l' m' : List ℕ) (i j : ℕ) → l' ≡ l ++ i ∷ [] → m' ≡ m ++ j ∷ [] → length l ≡ length m → length l' ≡ length m'
+same_lengths l m l' m' i j more more' same = omega (arith, ap length more, ap length more', length-append l (i ∷ []), length-append m (j ∷ []))
+
+-- the decisions of one more search are counted
+counted_of_more : (budget : ℕ) (outcome : Outcome) (i n : ℕ) (done decisions cut cut_decisions done' decisions' cut' cut_decisions' : List ℕ)
+    → NamesOneMore outcome i done cut done' cut' → NamesOneMore outcome n decisions cut_decisions decisions' cut_decisions'
+    → n ≤ budget → (outcome ≡ Cut → budget ≡ n) → AreCounted budget done decisions cut cut_decisions → AreCounted budget done' decisions' cut' cut_decisions'
+counted_of_more budget Whole i n done decisions cut cut_decisions done' decisions' cut' cut_decisions' names counts within used_up h = record {
+  counted = same_lengths decisions done decisions' done' n i counts.0 names.0 h.counted;
+  within = subst (λ (l : List ℕ). All (λ k. k ≤ budget) l) (sym counts.0) (All-push (λ k. k ≤ budget) decisions n h.within within);
+  cut_counted = ap length counts.1 ∙ h.cut_counted ∙ sym (ap length names.1);
+  used_up = subst (λ (l : List ℕ). All (λ k. k ≡ budget) l) (sym counts.1) h.used_up;
+}
+counted_of_more budget Cut i n done decisions cut cut_decisions done' decisions' cut' cut_decisions' names counts within used_up h = record {
+  counted = ap length counts.0 ∙ h.counted ∙ sym (ap length names.0);
+  within = subst (λ (l : List ℕ). All (λ k. k ≤ budget) l) (sym counts.0) h.within;
+  cut_counted = same_lengths cut_decisions cut cut_decisions' cut' n i counts.1 names.1 h.cut_counted;
+  used_up = subst (λ (l : List ℕ). All (λ k. k ≡ budget) l) (sym counts.1) (All-push (λ k. k ≡ budget) cut_decisions n h.used_up (sym (used_up refl)));
+}
+
+-- the same where there is a budget
+pub counted_where : (nodes : Option ℕ) (outcome : Outcome) (i n : ℕ) (done decisions cut cut_decisions done' decisions' cut' cut_decisions' : List ℕ)
+    → NamesOneMore outcome i done cut done' cut' → NamesOneMore outcome n decisions cut_decisions decisions' cut_decisions'
+    → IfSome nodes (λ budget. n ≤ budget) → (outcome ≡ Cut → nodes ≡ Some n)
+    → IfSome nodes (λ budget. AreCounted budget done decisions cut cut_decisions) → IfSome nodes (λ budget. AreCounted budget done' decisions' cut' cut_decisions')
+counted_where None outcome i n done decisions cut cut_decisions done' decisions' cut' cut_decisions' names counts within used_up h = tt
+counted_where (Some budget) outcome i n done decisions cut cut_decisions done' decisions' cut' cut_decisions' names counts within used_up h =
+    counted_of_more budget outcome i n done decisions cut cut_decisions done' decisions' cut' cut_decisions' names counts within (λ is_cut. let same : Some budget ≡ Some n = used_up is_cut in cc) h
+
+-- the same, by what is told of the search
+pub counted_more : (nodes told : Option ℕ) (outcome : Outcome) (i n : ℕ) (done decisions cut cut_decisions done' decisions' cut' cut_decisions' : List ℕ)
+    → told ≡ option_map (λ _. n) nodes → NamesOneMore outcome i done cut done' cut' → IfSome told (λ k. NamesOneMore outcome k decisions cut_decisions decisions' cut_decisions')
+    → IfSome nodes (λ budget. n ≤ budget) → (outcome ≡ Cut → nodes ≡ Some n)
+    → IfSome nodes (λ budget. AreCounted budget done decisions cut cut_decisions) → IfSome nodes (λ budget. AreCounted budget done' decisions' cut' cut_decisions')
+counted_more None told outcome i n done decisions cut cut_decisions done' decisions' cut' cut_decisions' is names counts within used_up h = tt
+counted_more (Some budget) told outcome i n done decisions cut cut_decisions done' decisions' cut' cut_decisions' is names counts within used_up h =
+    counted_where (Some budget) outcome i n done decisions cut cut_decisions done' decisions' cut' cut_decisions' names
+    (subst (λ (o : Option ℕ). IfSome o (λ k. NamesOneMore outcome k decisions cut_decisions decisions' cut_decisions')) is counts)
+    within used_up h
+
+-- room for the decisions of one more search
+pub room_told : (X : Type 0) (nodes told : Option ℕ) (n : ℕ) → told ≡ option_map (λ _. n) nodes → IfSome nodes (λ _. X) → IfSome told (λ _. X)
+room_told X None told n is room = subst (λ (o : Option ℕ). IfSome o (λ _. X)) (sym is) tt
+room_told X (Some budget) told n is room = subst (λ (o : Option ℕ). IfSome o (λ _. X)) (sym is) room
+
 -- what a worker did, from what it claimed and named
-pub whole_work : (p : Problem) (pieces : CubeList) (nodes : Option ℕ) (part : PartView) (claimed after named cut : List ℕ) (count : ℕ) (best : Incumbent)
-    → part ≡ record { pieces = pieces; named = named; cut = cut; best = best } → claimed ≡ after → count ≡ piece_count pieces → best.problem ≡ p
-    → AreDealt (pieces_among count after) named cut → IfNone nodes (cut ≡ []) → length after ≤ count + 1 → EndsPast count after ⊎ (length after ≡ count + 1) → IsWholeWork p pieces nodes part claimed
-whole_work p pieces nodes part claimed after named cut count best is same number of_instance names uncut most ends =
+pub whole_work : (p : Problem) (pieces : CubeList) (nodes : Option ℕ) (part : PartView) (claimed after named cut decisions cut_decisions : List ℕ) (count : ℕ) (best : Incumbent)
+    → part ≡ record { pieces = pieces; named = named; cut = cut; decisions = decisions; cut_decisions = cut_decisions; best = best } → claimed ≡ after → count ≡ piece_count pieces → best.problem ≡ p
+    → AreDealt (pieces_among count after) named cut → IfNone nodes (cut ≡ []) → IfSome nodes (λ budget. AreCounted budget named decisions cut cut_decisions)
+    → length after ≤ count + 1 → EndsPast count after ⊎ (length after ≡ count + 1) → IsWholeWork p pieces nodes part claimed
+whole_work p pieces nodes part claimed after named cut decisions cut_decisions count best is same number of_instance names uncut budget most ends =
     subst (λ (x : PartView). IsWholeWork p pieces nodes x claimed) (sym is)
-    (subst (λ (l : List ℕ). IsWholeWork p pieces nodes (record { pieces = pieces; named = named; cut = cut; best = best }) l) (sym same) (record {
+    (subst (λ (l : List ℕ). IsWholeWork p pieces nodes (record { pieces = pieces; named = named; cut = cut; decisions = decisions; cut_decisions = cut_decisions; best = best }) l) (sym same) (record {
       of_instance = of_instance;
       of_pieces = refl;
       named = subst (λ (n : ℕ). AreDealt (pieces_among n after) named cut) number names;
       uncut = uncut;
+      budget = budget;
       most = subst (λ (n : ℕ). length after ≤ n + 1) number most;
       ends = subst (λ (n : ℕ). EndsPast n after ⊎ (length after ≡ n + 1)) number ends;
     }))
 
 -- the named pieces are done in the part's own words
-pub part_done : (d : Division) (pieces : CubeList) (named cut : List ℕ) (best : Incumbent) → d ≡ record { problem = best.problem; cubes = pieces.cubes } → All (λ i. IsDone d i best.held) named → AreDone (record { pieces = pieces; named = named; cut = cut; best = best })
-part_done d pieces named cut best is done = subst (λ (x : Division). All (λ i. IsDone x i best.held) named) is done
+pub part_done : (d : Division) (pieces : CubeList) (named cut decisions cut_decisions : List ℕ) (best : Incumbent) → d ≡ record { problem = best.problem; cubes = pieces.cubes } → All (λ i. IsDone d i best.held) named
+    → AreDone (record { pieces = pieces; named = named; cut = cut; decisions = decisions; cut_decisions = cut_decisions; best = best })
+part_done d pieces named cut decisions cut_decisions best is done = subst (λ (x : Division). All (λ i. IsDone x i best.held) named) is done

@@ -1,10 +1,11 @@
 -- What workers claim of the pieces, and which of it their parts name.
-use Rattle.std.specs.Prelude.{◌≡◌, ℕ, ◌+◌, ◌<◌, ◌≤◌, ◌⊎◌, List, [], ◌∷◌, ◌++◌, length, filter, nat_lt, All, Any, Contains, Option, IfNone}
+use Rattle.std.specs.Prelude.{◌≡◌, ℕ, ◌+◌, ◌<◌, ◌≤◌, ◌⊎◌, List, [], ◌∷◌, ◌++◌, length, filter, nat_lt, All, Any, Option, IfNone, IfSome}
 use Rattle.pb_inst.specs.Problem.{Problem}
 use Rattle.pb_cubes.specs.Pieces.{CubeList}
 use Rattle.pb_search.specs.declared.outcome.Outcome.{Outcome}
 use Rattle.pb_search.specs.declared.outcome.Outcome.TheVariants.{Whole, Cut}
-use Rattle.pb_solve.specs.Parts.{PartView}
+use Rattle.pb_board.specs.Numbers.{times}
+use Rattle.pb_solve.specs.Parts.{PartView, KeepsBudget, all_numbers}
 
 -- how many pieces the cubes make
 abbrev pub piece_count : CubeList → ℕ
@@ -33,12 +34,13 @@ NamesOneMore Whole piece done cut done' cut' = (done' ≡ done ++ piece ∷ []) 
 NamesOneMore Cut piece done cut done' cut' = (done' ≡ done) × (cut' ≡ cut ++ piece ∷ [])
 
 -- One worker's whole work: its part names those of its claims that are pieces, in order, some as done and, where there is a
--- budget, others as cut. It has at most one claim more than there are pieces, and its last claim is no piece, or it has that many.
+-- budget, others as cut, each within the budget. It has at most one claim more than there are pieces, and its last claim is no piece, or it has that many.
 pub record IsWholeWork (p : Problem) (pieces : CubeList) (nodes : Option ℕ) (part : PartView) (claimed : List ℕ) : Type 0 where
   pub of_instance : part.best.problem ≡ p
   pub of_pieces : part.pieces ≡ pieces
   pub named : AreDealt (pieces_among (piece_count pieces) claimed) part.named part.cut
   pub uncut : IfNone nodes (part.cut ≡ [])
+  pub budget : IfSome nodes (λ budget. KeepsBudget budget part)
   pub most : length claimed ≤ piece_count pieces + 1
   pub ends : EndsPast (piece_count pieces) claimed ⊎ (length claimed ≡ piece_count pieces + 1)
 
@@ -46,11 +48,12 @@ pub record IsWholeWork (p : Problem) (pieces : CubeList) (nodes : Option ℕ) (p
 abbrev pub GoesPast : ℕ → List ℕ → Type 0
 GoesPast count claimed = Any (λ n. count ≤ n) claimed ⊎ (count < length claimed)
 
--- The work of several workers: each claim that is a piece is named by some part, as done or, where there is a budget, as cut,
--- and the claims go past the pieces.
+-- The work of several workers: the parts name each number as often as it was claimed, where it is a piece, as done or, where
+-- there is a budget, as cut, and no other number; and the claims go past the pieces.
 pub record AreWholeWork (p : Problem) (pieces : CubeList) (nodes : Option ℕ) (parts : List PartView) (claimed : List ℕ) : Type 0 where
   pub of_instance : All (λ part. part.best.problem ≡ p) parts
   pub of_pieces : All (λ part. part.pieces ≡ pieces) parts
-  pub named : (i : ℕ) → i < piece_count pieces → Contains claimed i → Any (λ part. Contains part.named i ⊎ Contains part.cut i) parts
+  pub named : (i : ℕ) → times i (all_numbers parts) ≡ times i (pieces_among (piece_count pieces) claimed)
   pub uncut : IfNone nodes (All (λ part. part.cut ≡ []) parts)
+  pub budget : IfSome nodes (λ budget. All (KeepsBudget budget) parts)
   pub past : GoesPast (piece_count pieces) claimed

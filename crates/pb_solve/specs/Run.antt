@@ -5,8 +5,13 @@ use Rattle.std.specs.Borrow.{MutBor}
 use Rattle.std.specs.Io.KnownBytes.{Appends}
 use Rattle.pb_inst.specs.Literal.{Literal}
 use Rattle.pb_inst.specs.Problem.{Problem}
+use Rattle.pb_inst.specs.Incumbent.{Solution}
+use Rattle.pb_cubes.specs.Pieces.{CubeList}
 use Rattle.pb_read.specs.declared.format.Format.{Format}
+use Rattle.pb_read.specs.declared.fault.ReadFault.{ReadFault}
 use Rattle.pb_report.specs.declared.statuses.Status.{Status}
+use Rattle.pb_report.specs.declared.statuses.Status.TheVariants.{Unsupported}
+use Rattle.pb_report.specs.Written.{refusal_report}
 use Rattle.pb_solve.specs.declared.prepare.Prepared.{Prepared}
 use Rattle.pb_solve.specs.declared.prepare.Halt.{Halt}
 use Rattle.pb_solve.specs.declared.prepare.Halt.TheVariants.{ReadInput, ReadCubes, Memory, Refused}
@@ -15,7 +20,7 @@ use Rattle.pb_report.specs.declared.ends.Refusal.TheVariants as refusal
 use Rattle.pb_read.specs.Format.{Spells, text_refusal}
 use Rattle.pb_solve.specs.Outcome as outcome
 use Rattle.pb_solve.specs.Outcome.{Outcome, IsOutcome, IsAnswer, IsDivisionRefused}
-use Rattle.pb_solve.specs.Budgeted.{Found, IsFound, IsFoundIn, found_report, found_status}
+use Rattle.pb_solve.specs.Budgeted.{Found, IsFound, IsFoundIn, IsFoundOf, found_of, found_report, found_status}
 use Rattle.pb_solve.specs.Division.{IsDivided}
 use Rattle.pb_solve.specs.Report.{report, status_of}
 
@@ -62,6 +67,11 @@ pub record ReportsFound (format : Format) (input : Option (List ℕ)) (cubes : O
   pub writes : Appends old new (found_report format found)
   pub right : WhereTold input cubes (λ text cube_text. IsFoundIn format text cube_text split found)
 
+-- a run ended with this status, and all that it wrote is the report that the input is refused for this
+pub record ReportsRefusal (fault : ReadFault) (old new : Option (List ℕ)) (ended : Status) : Type 0 where
+  pub ends : ended ≡ Unsupported
+  pub writes : Appends old new (refusal_report (refusal.Input fault))
+
 -- a run ended with this status, and all that it wrote is the report of the answer on the instance
 pub record Answers (format : Format) (p : Problem) (old new : Option (List ℕ)) (ended : Status) : Type 0 where
   pub outcome : Outcome
@@ -69,12 +79,18 @@ pub record Answers (format : Format) (p : Problem) (old new : Option (List ℕ))
   pub writes : Appends old new (report format outcome)
   pub right : IsAnswer p outcome
 
--- a run that was cut ended with this status, and all that it wrote is the report of what was found of the instance
-pub record AnswersFound (format : Format) (p : Problem) (old new : Option (List ℕ)) (ended : Status) : Type 0 where
+-- a run that was cut ended with this status, and all that it wrote is the report of what is held, as what was found
+pub record AnswersHeld (format : Format) (p : Problem) (held : Option Solution) (old new : Option (List ℕ)) (ended : Status) : Type 0 where
+  pub ends : ended ≡ found_status (found_of p held)
+  pub writes : Appends old new (found_report format (found_of p held))
+  pub right : IsFound p (found_of p held)
+
+-- a run that was cut ended with this status, and all that it wrote is the report of what was found of the instance and its pieces
+pub record AnswersFound (format : Format) (p : Problem) (pieces : CubeList) (old new : Option (List ℕ)) (ended : Status) : Type 0 where
   pub found : Found
   pub ends : ended ≡ found_status found
   pub writes : Appends old new (found_report format found)
-  pub right : IsFound p found
+  pub right : IsFoundOf p pieces found
 
 -- the input spells the instance, with cubes of its own, and the cubes and the split are accepted and make the pieces
 abbrev pub IsAccepted : Format → List ℕ → Option (List ℕ) → ℕ → Prepared → Type 0
@@ -97,6 +113,14 @@ HaltsInput format input (Refused (refusal.Input fault)) = IfSome input (λ text.
 HaltsInput format input (Refused (refusal.Cubes fault)) = ⊥
 HaltsInput format input (Refused refusal.Split) = ⊥
 HaltsInput format input (Refused refusal.TooManyCubes) = ⊥
+
+-- of an input that is refused for this nothing is prepared: it could not be read, or memory ran out, or that is the refusal
+abbrev pub StopsAtFault : ReadFault → Result Prepared Halt → Type 0
+StopsAtFault fault (Ok found) = ⊥
+StopsAtFault fault (Err ReadInput) = ⊤
+StopsAtFault fault (Err ReadCubes) = ⊥
+StopsAtFault fault (Err Memory) = ⊤
+StopsAtFault fault (Err (Refused why)) = why ≡ refusal.Input fault
 
 -- a fact about the cube file's text, if there is a file, where the reader tells it
 abbrev pub CubesTold : Option (Option (List ℕ)) → (Option (List ℕ) → Type 0) → Type 0

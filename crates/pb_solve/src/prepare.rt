@@ -2,7 +2,7 @@
 ghost use Rattle.std.specs.Prelude.{◌≡◌, false, Some, IfOk, IfErr, IfSome};
 ghost use Rattle.pb_cubes.specs.Pieces.{AreWithin};
 ghost use Rattle.pb_read.specs.Format.{Spells, text_refusal};
-ghost use Rattle.pb_solve.specs.Run.{IsPrepared, HaltsInput, stops_at_input, stops_at_cubes};
+ghost use Rattle.pb_solve.specs.Run.{IsPrepared, HaltsInput, StopsAtFault, stops_at_input, stops_at_cubes};
 
 mod division;
 pub(crate) mod reading;
@@ -47,6 +47,7 @@ pub(crate) fn prepare<I: Read, C: CubeFile>(
     ensures same_variables { IfOk result (λ found. found.pieces.vars ≡ found.instance.vars) }
     ensures input { input.new.failed ≡ stops_at_input result }
     ensures cubes { C.has_failed cubes.new ≡ stops_at_cubes result }
+    ensures refused_input { IfSome (I.remaining input.old.held) (λ text. (fault : ReadFault) → text_refusal format text ≡ Some fault → StopsAtFault fault result) }
     ensures unread { IfSome (I.remaining input.old.held) (λ text. (fault : ReadFault) → text_refusal format text ≡ Some fault → cubes.new ≡ cubes.old) }
 {
     let (instance, input_cubes) = match read_instance(alloc, input, format) {

@@ -5,7 +5,9 @@ ghost use Rattle.pb_read.specs.declared.fault.ReadFault.{ReadFault};
 ghost use Rattle.pb_solve.specs.Solving.{HoldsLeast};
 ghost use Rattle.pb_report.specs.Written.{memory_report};
 ghost use Rattle.pb_read.specs.Format.{text_refusal};
-ghost use Rattle.pb_solve.specs.Run.{Reports, ReportsFound, Answers, AnswersFound, IsPrepared, IsUnfailed, IsUnread, failed_after, stops_at_cubes, stops_at_input, text_left};
+ghost use Rattle.pb_cubes.specs.Pieces.{CubeList};
+ghost use Rattle.pb_solve.specs.Parts.{IsAnswerOf, PartView};
+ghost use Rattle.pb_solve.specs.Run.{Reports, ReportsFound, Answers, AnswersFound, AnswersHeld, IsPrepared, IsUnfailed, IsUnread, ReportsRefusal, StopsAtFault, failed_after, stops_at_cubes, stops_at_input, text_left};
 
 use crate::options::{Options, Ran};
 use crate::prepare::reading::NoCubeFile;
@@ -60,6 +62,11 @@ pub fn run<R: Threads + Sync, I: Read, C: Read, W: Write>(
     ensures read_cubes { IsTrue (failed_after cubes.exit) ↔ IsErrOf result RunFault.ReadCubes }
     ensures write { IsTrue out.new.failed ↔ IsErrOf result RunFault.Write }
     ensures unwritten { IfErr result (λ fault. fault ≢ RunFault.Write → out.new ≡ out.old) }
+
+    // An input that is refused is reported, whatever the cube file's reader tells.
+    ensures refused_input { IfSome (I.remaining input.old.held) (λ text. (fault : ReadFault) → text_refusal options.format text ≡ Some fault
+        → IfOk result (λ ran. (ran.cut ≡ false) × (ran.status ≢ Status.Unknown
+        → ReportsRefusal fault (W.contents out.old.held) (W.contents out.new.held) ran.status))) }
 
     // Where the input is refused the cube file is not read.
     ensures unread { IfSome (I.remaining input.old.held) (λ text. (fault : ReadFault) → text_refusal options.format text ≡ Some fault
@@ -127,6 +134,8 @@ fn conclude<R: Threads + Sync, W: Write>(
         → IfOk result (λ ran. ran.cut ≡ true
         → ReportsFound options.format input cubes options.split (W.contents out.old.held) (W.contents out.new.held) ran.status) }
     ensures no_budget { IfNone options.nodes (IfOk result (λ ran. ran.cut ≡ false)) }
+    ensures refused_input { (fault : ReadFault) → StopsAtFault fault found → IfOk result (λ ran. (ran.cut ≡ false) × (ran.status ≢ Status.Unknown
+        → ReportsRefusal fault (W.contents out.old.held) (W.contents out.new.held) ran.status)) }
     ensures memory { IfOk result (λ ran. ran.cut ≡ false → ran.status ≡ Status.Unknown → Appends (W.contents out.old.held) (W.contents out.new.held) memory_report) }
     ensures read_input { IsTrue (stops_at_input found) ↔ IsErrOf result RunFault.ReadInput }
     ensures read_cubes { IsTrue (stops_at_cubes found) ↔ IsErrOf result RunFault.ReadCubes }
@@ -146,6 +155,8 @@ fn report_halt<W: Write>(out: &mut Device<W>, halt: Halt) -> Result<Ran, RunFaul
         → IfOk result (λ ran. ran.cut ≡ false → ran.status ≢ Status.Unknown
         → Reports format input cubes split (W.contents out.old.held) (W.contents out.new.held) ran.status) }
     ensures uncut { IfOk result (λ ran. ran.cut ≡ false) }
+    ensures refused_input { (fault : ReadFault) → StopsAtFault fault (Err halt) → IfOk result (λ ran. ran.status ≢ Status.Unknown
+        → ReportsRefusal fault (W.contents out.old.held) (W.contents out.new.held) ran.status) }
     ensures memory { IfOk result (λ ran. ran.status ≡ Status.Unknown → Appends (W.contents out.old.held) (W.contents out.new.held) memory_report) }
     ensures read_input { (halt ≡ Halt.ReadInput) ↔ IsErrOf result RunFault.ReadInput }
     ensures read_cubes { (halt ≡ Halt.ReadCubes) ↔ IsErrOf result RunFault.ReadCubes }
@@ -173,7 +184,7 @@ fn answer<R: Threads + Sync, W: Write>(
     ensures answers { IfOk result (λ ran. ran.cut ≡ false → ran.status ≢ Status.Unknown
         → Answers options.format found.now.instance (W.contents out.old.held) (W.contents out.new.held) ran.status) }
     ensures budgeted { IfOk result (λ ran. ran.cut ≡ true
-        → AnswersFound options.format found.now.instance (W.contents out.old.held) (W.contents out.new.held) ran.status) }
+        → AnswersFound options.format found.now.instance found.now.pieces (W.contents out.old.held) (W.contents out.new.held) ran.status) }
     ensures no_budget { IfNone options.nodes (IfOk result (λ ran. ran.cut ≡ false)) }
     ensures memory { IfOk result (λ ran. ran.cut ≡ false → ran.status ≡ Status.Unknown → Appends (W.contents out.old.held) (W.contents out.new.held) memory_report) }
     ensures fault { IfErr result (λ fault. fault ≡ RunFault.Write) }
@@ -197,8 +208,9 @@ fn report_answered<W: Write>(
     requires least { IfOk answered (λ answer. answer.cut ≡ false → HoldsLeast instance.now answer.best.held) }
     ensures answers { IfOk result (λ ran. ran.cut ≡ false → ran.status ≢ Status.Unknown
         → Answers format instance.now (W.contents out.old.held) (W.contents out.new.held) ran.status) }
-    ensures budgeted { IfOk result (λ ran. ran.cut ≡ true
-        → AnswersFound format instance.now (W.contents out.old.held) (W.contents out.new.held) ran.status) }
+    ensures budgeted { (pieces : CubeList) → IfOk answered.entry (λ answer. (parts : List PartView) × IsAnswerOf instance.now pieces parts answer.best.held answer.cut)
+        → IfOk result (λ ran. ran.cut ≡ true
+        → AnswersFound format instance.now pieces (W.contents out.old.held) (W.contents out.new.held) ran.status) }
     ensures uncut { IfOk answered.entry (λ answer. answer.cut ≡ false) → IfOk result (λ ran. ran.cut ≡ false) }
     ensures memory { IfOk result (λ ran. ran.cut ≡ false → ran.status ≡ Status.Unknown → Appends (W.contents out.old.held) (W.contents out.new.held) memory_report) }
     ensures fault { IfErr result (λ fault. fault ≡ RunFault.Write) }
@@ -249,7 +261,7 @@ fn report_found<W: Write>(
     best: &Best<'_>,
 ) -> Result<Status, RunFault>
     requires same_instance { best.now.problem ≡ instance.now }
-    ensures answers { IfOk result (AnswersFound format instance.now (W.contents out.old.held) (W.contents out.new.held)) }
+    ensures answers { IfOk result (AnswersHeld format instance.now best.now.held (W.contents out.old.held) (W.contents out.new.held)) }
     ensures fault { IfErr result (λ fault. fault ≡ RunFault.Write) }
     ensures failed { out.new.failed ≡ is_err result }
 {

@@ -5,6 +5,7 @@ pub(crate) mod crew;
 pub(crate) mod fork;
 pub(crate) mod gate;
 pub(crate) mod gather;
+pub(crate) mod named;
 pub(crate) mod part;
 pub(crate) mod solve;
 pub(crate) mod work;

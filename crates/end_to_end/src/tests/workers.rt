@@ -47,15 +47,20 @@ struct Alone {
     nodes: Option<u64>,
     done: &'static [u32],
     cut: &'static [u32],
+    decisions: &'static [u64],
+    cut_decisions: &'static [u64],
     held: (Number, u64),
 }
 
+// A cube of either value of x1 leaves no decision: x2 follows.
 const ALONE: [Alone; 3] = [
     Alone {
         cubes: TWO_CUBES,
         nodes: None,
         done: &[0, 1, 2],
         cut: &[],
+        decisions: &[],
+        cut_decisions: &[],
         held: (0, 2),
     },
     Alone {
@@ -63,6 +68,8 @@ const ALONE: [Alone; 3] = [
         nodes: Some(1000),
         done: &[0, 1, 2],
         cut: &[],
+        decisions: &[0, 0, 0],
+        cut_decisions: &[],
         held: (0, 2),
     },
     // Without a decision the piece of the empty cube can't be ended. That of x1 can, by propagation, and nothing remains.
@@ -71,6 +78,8 @@ const ALONE: [Alone; 3] = [
         nodes: Some(0),
         done: &[1, 2],
         cut: &[0],
+        decisions: &[0, 0],
+        cut_decisions: &[0],
         held: (0, 3),
     },
 ];
@@ -97,6 +106,8 @@ fn assert_alone(rt: &impl Abort, alloc: Global, alone: &Alone) {
 fn assert_part(rt: &impl Abort, part: &Part<'_>, alone: &Alone) {
     assert!(rt; part.pieces() == alone.done);
     assert!(rt; part.cut() == alone.cut);
+    assert!(rt; part.decisions() == alone.decisions);
+    assert!(rt; part.cut_decisions() == alone.cut_decisions);
     assert!(rt; held(part.best()) == Some(alone.held));
 }
 

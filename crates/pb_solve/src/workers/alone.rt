@@ -1,5 +1,6 @@
 //! Solving by one search, on the caller's own thread.
-ghost use Rattle.std.specs.Prelude.{◌≡◌, ◌+◌, false, length, IfOk, IfNone};
+ghost use Rattle.std.specs.Prelude.{◌≡◌, ◌+◌, List, false, length, All, IfOk, IfNone, IfSome};
+ghost use Rattle.pb_solve.specs.Parts.{AreSearched, IsAnswerOf, KeepsBudget, PartView};
 ghost use Rattle.pb_solve.specs.Solving.{HoldsLeast};
 
 use crate::workers::solve::{Answer, SolveFault};
@@ -22,6 +23,7 @@ pub fn solve_alone<'i>(
     ensures same_instance { IfOk result (λ answer. answer.best.problem ≡ inst.now) }
     ensures least { IfOk result (λ answer. answer.cut ≡ false → HoldsLeast inst.now answer.best.held) }
     ensures no_budget { IfNone nodes (IfOk result (λ answer. answer.cut ≡ false)) }
+    ensures parts { IfOk result (λ answer. (parts : List PartView) × IsAnswerOf inst.now pieces.now parts answer.best.held answer.cut × IfSome nodes (λ budget. All (KeepsBudget budget) parts)) }
 {
     let mut best = Best::none(alloc, inst)?;
     let normal = normalise(alloc, inst)?;
@@ -36,6 +38,7 @@ fn search_all(search: &mut Search<'_>, count: u32, best: &mut Best<'_>, nodes: O
     requires same_instance { best.old.problem ≡ search.old.division.problem }
     ensures same_instance { best.new.problem ≡ best.old.problem }
     ensures least { result ≡ false → HoldsLeast best.old.problem best.new.held }
+    ensures searched { AreSearched search.old.division count nodes best.new.held result }
     ensures no_budget { IfNone nodes (result ≡ false) }
 {
     let mut cut = false;

@@ -3,7 +3,7 @@ ghost use Rattle.std.specs.Prelude.{◌≡◌, ◌≢◌, ◌↔◌, ◌∷◌, 
 ghost use Rattle.std.specs.Option.{IfSome};
 ghost use Rattle.pb_inst.specs.Incumbent.{Solution, IsSolution};
 ghost use Rattle.pb_cubes.specs.Pieces.{CubeList};
-ghost use Rattle.pb_solve.specs.Parts.{AreSolutions, AreWhole, IsFirst};
+ghost use Rattle.pb_solve.specs.Parts.{AreDone, AreSolutions, AreWhole, IsFirst};
 ghost use Rattle.pb_solve.specs.Solving.{HoldsLeast};
 
 use crate::workers::part::Part;
@@ -17,6 +17,7 @@ pub fn gather(into: &mut Best<'_>, parts: &[Part<'_>]) -> bool
     ensures same_instance { into.new.problem ≡ into.old.problem }
     ensures first { IsFirst (into.old.held ∷ map (λ part. part.best.held) parts.now) into.new.held }
     ensures cut { IsTrue result ↔ Any (λ part. part.cut ≢ []) parts.now }
+    ensures done { All AreDone parts.now }
     ensures least { (list : CubeList) → AreWhole list parts.now → HoldsLeast into.old.problem into.new.held }
 {
     // A call tells that what is held is a solution.

@@ -1,6 +1,7 @@
 //! Solving with many workers, which claim pieces and lend each other what they found.
-ghost use Rattle.std.specs.Prelude.{◌≡◌, ◌≤◌, false, min, IfOk, IfNone};
+ghost use Rattle.std.specs.Prelude.{◌≡◌, ◌≤◌, List, false, min, All, IfOk, IfNone, IfSome};
 ghost use Rattle.pb_inst.specs.declared.TheConstants.{MAX_WORKERS};
+ghost use Rattle.pb_solve.specs.Parts.{IsAnswerOf, KeepsBudget, PartView};
 ghost use Rattle.pb_solve.specs.Solving.{HoldsLeast};
 
 use crate::workers::crew::SearchCrew;
@@ -57,6 +58,7 @@ pub fn solve<'i, R: Threads + Sync, G: Gate + Sync>(
     ensures same_instance { IfOk result (λ answer. answer.best.problem ≡ inst.now) }
     ensures least { IfOk result (λ answer. answer.cut ≡ false → HoldsLeast inst.now answer.best.held) }
     ensures no_budget { IfNone nodes (IfOk result (λ answer. answer.cut ≡ false)) }
+    ensures parts { IfOk result (λ answer. (parts : List PartView) × IsAnswerOf inst.now pieces.now parts answer.best.held answer.cut × IfSome nodes (λ budget. All (KeepsBudget budget) parts)) }
 {
     let mut best = Best::none(alloc, inst)?;
     let normal = normalise(alloc, inst)?;

@@ -3,9 +3,12 @@ ghost use Rattle.std.specs.Prelude.{◌≡◌, ◌<◌, ◌≤◌, ◌⊎◌, �
 ghost use Rattle.pb_normal.specs.NormalForm.{KeepsCost, KeepsFeasible};
 ghost use Rattle.pb_search.specs.Done.{IsDone};
 ghost use Rattle.pb_solve.specs.Claims.{AreDealt, EndsPast, IsWholeWork, NamesOneMore, pieces_among};
+ghost use Rattle.std.specs.Option.{option_map};
+ghost use Rattle.pb_solve.specs.Parts.{AreCounted};
 ghost use Rattle.pb_share.specs.Sharing.{SameSeat};
 
 use crate::workers::gate::Gate;
+use crate::workers::named::Named;
 use crate::workers::part::Part;
 use pb_board::{Board, Seat};
 use pb_cubes::Pieces;
@@ -17,7 +20,8 @@ use std::alloc::Global;
 
 /// The whole work of one worker: it claims numbers from the board until it gets one that is no piece, and searches each
 /// piece that it got with at most `nodes` decisions, where there is such a budget, of which it tells the gate before. The part
-/// names exactly the claims of the answered seat that are pieces, as done or as cut by the budget, either in order. The worker
+/// names exactly the claims of the answered seat that are pieces, as done or as cut by the budget, either in order, and with a
+/// budget it tells the decisions of each search: no more than the budget, and all of it where the piece was cut. The worker
 /// builds the tables of its searches for itself; where many share them, `solve` lends them.
 ///
 /// Asks for a normal form of the instance, pieces over its variables, a seat of this board without claims, a board for the
@@ -76,7 +80,7 @@ pub(crate) fn work_over<'i, G: Gate>(
     let mut best = Best::none(alloc, inst)?;
     let mut search = Search::over(alloc, tables)?;
     let mut share = BoardShare::new(board, seat, worker);
-    let Named { done, cut } = search_claimed(
+    let named = search_claimed(
         alloc,
         &mut search,
         pieces.len(),
@@ -85,39 +89,7 @@ pub(crate) fn work_over<'i, G: Gate>(
         gate,
         nodes,
     )?;
-    Ok((Part::new(pieces, done, cut, best), share.into_seat()))
-}
-
-/// The numbers of the pieces that a worker got: those that are done, and those whose search was cut.
-#[derive(Drop)]
-struct Named {
-    done: Vec<u32>,
-    cut: Vec<u32>,
-}
-
-impl Named {
-    /// Makes room for one number more, however the search of its piece ends.
-    fn reserve(&mut self) -> Result<(), Memory>
-        ensures same_done { self.new.done.items ≡ self.old.done.items }
-        ensures same_cut { self.new.cut.items ≡ self.old.cut.items }
-        ensures room { IfOk result (λ _. (length self.new.done.items < vec_capacity self.new.done) × (length self.new.cut.items < vec_capacity self.new.cut)) }
-    {
-        self.done.reserve(1)?;
-        self.cut.reserve(1)?;
-        Ok(())
-    }
-
-    /// Names the piece by how its search ended.
-    fn push_reserved(&mut self, piece: u32, outcome: Outcome)
-        requires done { length self.old.done.items < vec_capacity self.old.done }
-        requires cut { length self.old.cut.items < vec_capacity self.old.cut }
-        ensures { NamesOneMore outcome piece self.old.done.items self.old.cut.items self.new.done.items self.new.cut.items }
-    {
-        match outcome {
-            Outcome::Whole => self.done.push_reserved(piece),
-            Outcome::Cut => self.cut.push_reserved(piece),
-        }
-    }
+    Ok((Part::new(pieces, named, best), share.into_seat()))
 }
 
 /// Searches the pieces that the share claims, each within the budget, and answers their numbers.
@@ -137,27 +109,35 @@ fn search_claimed<G: Gate>(
     ensures done { IfOk result (λ named. All (λ i. IsDone search.old.division i best.new.held) named.done.items) }
     ensures named { IfOk result (λ named. AreDealt (pieces_among count share.new.seat.claimed) named.done.items named.cut.items) }
     ensures uncut { IfOk result (λ named. IfNone nodes (named.cut.items ≡ [])) }
+    ensures budget { IfOk result (λ named. IfSome nodes (λ budget. AreCounted budget named.done.items named.decisions.items named.cut.items named.cut_decisions.items)) }
     ensures most { IfOk result (λ named. length share.new.seat.claimed ≤ count + 1) }
     ensures ends { IfOk result (λ named. EndsPast count share.new.seat.claimed ⊎ (length share.new.seat.claimed ≡ count + 1)) }
     ensures seat { SameSeat share.old share.new }
 {
-    let mut named = Named {
-        done: Vec::new(alloc),
-        cut: Vec::new(alloc),
-    };
+    let mut named = Named::new(alloc);
     for _turn in 0..u64::from(count) + 1 {
         let Some(piece) = claim_piece(share, count) else {
             return Ok(named);
         };
         // What is refused here is refused before the piece is searched, so that no finished work is lost for it.
-        named.reserve()?;
+        named.reserve(nodes)?;
         gate.pass(share.worker(), piece);
         let outcome = search.run(piece, best, share, nodes);
         // A call tells that what is held is a solution, by which what is done stays done.
         let _ = best.cost();
-        named.push_reserved(piece, outcome);
+        named.push_reserved(piece, outcome, decisions_of(search, nodes));
     }
     Ok(named)
+}
+
+/// How many decisions the last search made, where it had a budget.
+fn decisions_of(search: &Search<'_>, nodes: Option<u64>) -> Option<u64>
+    ensures { result ≡ option_map (λ _. search.now.decisions) nodes }
+{
+    match nodes {
+        Some(_) => Some(search.decisions()),
+        None => None,
+    }
 }
 
 /// Claims the next number, and answers it where it is a piece's.

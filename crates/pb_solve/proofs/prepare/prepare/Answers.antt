@@ -7,3 +7,9 @@ returns-in-Ok-divide-clause-unread g c = spelled_not_refused _ _ _ _ _ c.in-Ok.e
 pub returns-in-Err-divide-clause-unread :
     goal.returns-in-Err-divide-clause-unread
 returns-in-Err-divide-clause-unread g c = spelled_not_refused _ _ _ _ _ c.in-Ok.ensures.found
+
+pub returns-in-Ok-divide-clause-refused_input : goal.returns-in-Ok-divide-clause-refused_input
+returns-in-Ok-divide-clause-refused_input g c = spelled_not_refused _ _ _ _ _ c.in-Ok.ensures.found
+
+pub returns-in-Err-divide-clause-refused_input : goal.returns-in-Err-divide-clause-refused_input
+returns-in-Err-divide-clause-refused_input g c = spelled_not_refused _ _ _ _ _ c.in-Ok.ensures.found

@@ -2,6 +2,7 @@ use Rattle.std.proofs.Common.{◌∙◌, Bool, ap, rules, subst, sym}
 use Rattle.std.specs.Prelude.{◌↔◌, IsErrOf, IsTrue}
 use Rattle.pb_report.specs.declared.ends.RunFault.TheVariants as fault
 use Rattle.pb_solve.specs.Run.{stops_at_cubes}
+use Rattle.pb_solve.proofs.TextLaws.{where_refused}
 use Rattle.pb_solve.proofs.running.run.Goals as goal
 use Rattle.pb_solve.proofs.running.run.Goals.{in-None, in-Some}
 
@@ -27,4 +28,10 @@ pub returns-clause-unread : goal.returns-clause-unread
 returns-clause-unread g c = elim c.match-cubes.branch [
   | in-None w ↦ rw w.in-None.is (search rules)
   | in-Some w ↦ rw (w.in-Some.is, w.cubes-is) w.prepare-found-in-Some.ensures.unread
+]
+
+pub returns-clause-refused_input : goal.returns-clause-refused_input
+returns-clause-refused_input g c = elim c.match-cubes.branch [
+  | in-None w ↦ where_refused _ _ _ _ w.prepare-found.ensures.refused_input (λ fault stops. c.conclude.ensures.refused_input fault (rw w.found-is stops))
+  | in-Some w ↦ where_refused _ _ _ _ w.prepare-found-in-Some.ensures.refused_input (λ fault stops. c.conclude.ensures.refused_input fault (rw w.found-is stops))
 ]

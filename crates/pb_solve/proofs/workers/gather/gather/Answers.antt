@@ -43,6 +43,10 @@ returns-clause-least c = λ list whole.
       is_first = subst (λ (parts : List PartView). IsFirst (c.args.into.now.held ∷ map (λ part. part.best.held) parts) c.loop-part.into.held) all c.loop-part.invariant.first;
     }) whole
 
+pub returns-clause-done : goal.returns-clause-done
+returns-clause-done c =
+    subst (λ (parts : List PartView). All AreDone parts) (take_all c.loop-part.part-index c.args.parts.now c.loop-part-test.false) c.loop-part.invariant.done
+
 pub returns-clause-cut : goal.returns-clause-cut
 returns-clause-cut c =
     subst (λ (parts : List PartView). IsTrue c.loop-part.cut ↔ Any HasCut parts) (take_all c.loop-part.part-index c.args.parts.now c.loop-part-test.false) c.loop-part.invariant.cut

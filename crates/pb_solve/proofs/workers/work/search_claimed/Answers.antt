@@ -1,9 +1,10 @@
 use Rattle.std.proofs.Common.{◌≡◌, ◌++◌, ◌∷◌, [], List, ℕ, length, ap, arith, ◌∙◌, refl, sym, subst, inr}
 use Rattle.std.specs.Prelude.{All}
+use Rattle.std.specs.Option.{IfSome}
 use Rattle.std.proofs.lemmas.List.Elements.{All-nil}
 use Rattle.pb_search.specs.Held.{IsNotAfter}
 use Rattle.pb_search.specs.Done.{Division, IsDone}
-use Rattle.pb_solve.proofs.WorkLaws.{dealt_more, done_more, none_cut, none_named, uncut_more, whole_by, is_piece, same_seat_itself, same_seat_onward, same_seat_kept}
+use Rattle.pb_solve.proofs.WorkLaws.{counted_more, dealt_more, done_more, none_counted, none_cut, none_named, room_told, uncut_more, whole_by, is_piece, same_seat_itself, same_seat_onward, same_seat_kept}
 use Rattle.pb_solve.specs.Claims.{AreDealt, NamesOneMore}
 use Rattle.pb_solve.proofs.workers.work.search_claimed.Goals as goal
 
@@ -12,9 +13,11 @@ loop-turn-init g c = record {
   same_instance = refl;
   same_search = refl;
   count = ap length c.requires.unclaimed;
-  named = none_named c.args.count c.new.result.items c.new-2.result.items c.args.share.now.seat.claimed c.new.ensures.items c.new-2.ensures.items c.requires.unclaimed;
-  uncut = none_cut c.args.nodes c.new-2.result.items c.new-2.ensures.items;
-  done = subst (λ (ns : List ℕ). All (λ i. IsDone c.args.search.now.division i c.args.best.now.held) ns) (sym c.new.ensures.items) (All-nil (λ i. IsDone c.args.search.now.division i c.args.best.now.held));
+  named = none_named c.args.count c.new-named.result.done.items c.new-named.result.cut.items c.args.share.now.seat.claimed c.new-named.ensures.pieces.0 c.new-named.ensures.pieces.1 c.requires.unclaimed;
+  uncut = none_cut c.args.nodes c.new-named.result.cut.items c.new-named.ensures.pieces.1;
+  budget = none_counted c.args.nodes c.new-named.result.done.items c.new-named.result.decisions.items c.new-named.result.cut.items c.new-named.result.cut_decisions.items
+      c.new-named.ensures.pieces.0 c.new-named.ensures.decisions.0 c.new-named.ensures.pieces.1 c.new-named.ensures.decisions.1;
+  done = subst (λ (ns : List ℕ). All (λ i. IsDone c.args.search.now.division i c.args.best.now.held) ns) (sym c.new-named.ensures.pieces.0) (All-nil (λ i. IsDone c.args.search.now.division i c.args.best.now.held));
   seat = same_seat_itself c.args.share.now;
 }
 
@@ -31,6 +34,9 @@ pub run-outcome-requires-clause-same_instance : goal.run-outcome-requires-clause
 run-outcome-requires-clause-same_instance g c =
     c.loop-turn.invariant.same_instance ∙ c.requires.same_instance ∙ sym (ap (λ (d : Division). d.problem) c.loop-turn.invariant.same_search)
 
+pub push_reserved-requires-clause-counts : goal.push_reserved-requires-clause-counts
+push_reserved-requires-clause-counts g c = room_told _ c.args.nodes c.decisions_of.result c.run-outcome.new.self.decisions c.decisions_of.ensures c.in_ok-reserve.ensures.counts
+
 pub loop-turn-preserved : goal.loop-turn-preserved
 loop-turn-preserved g c =
     let ran = c.run-outcome in
@@ -43,7 +49,10 @@ loop-turn-preserved g c =
     let before = c.loop-turn.invariant.count in
     let names : NamesOneMore ran.result c.in-Some.piece c.loop-turn.named.done.items c.loop-turn.named.cut.items c.push_reserved.new.self.done.items c.push_reserved.new.self.cut.items =
     subst (λ (cut : List ℕ). NamesOneMore ran.result c.in-Some.piece c.loop-turn.named.done.items cut c.push_reserved.new.self.done.items c.push_reserved.new.self.cut.items) c.reserve.ensures.same_cut
-    (subst (λ (done : List ℕ). NamesOneMore ran.result c.in-Some.piece done c.reserve.new.self.cut.items c.push_reserved.new.self.done.items c.push_reserved.new.self.cut.items) c.reserve.ensures.same_done c.push_reserved.ensures) in
+    (subst (λ (done : List ℕ). NamesOneMore ran.result c.in-Some.piece done c.reserve.new.self.cut.items c.push_reserved.new.self.done.items c.push_reserved.new.self.cut.items) c.reserve.ensures.same_done c.push_reserved.ensures.named) in
+    let counts : IfSome c.decisions_of.result (λ n. NamesOneMore ran.result n c.loop-turn.named.decisions.items c.loop-turn.named.cut_decisions.items c.push_reserved.new.self.decisions.items c.push_reserved.new.self.cut_decisions.items) =
+    subst (λ (cut : List ℕ). IfSome c.decisions_of.result (λ n. NamesOneMore ran.result n c.loop-turn.named.decisions.items cut c.push_reserved.new.self.decisions.items c.push_reserved.new.self.cut_decisions.items)) c.reserve.ensures.same_cut_decisions
+    (subst (λ (done : List ℕ). IfSome c.decisions_of.result (λ n. NamesOneMore ran.result n done c.reserve.new.self.cut_decisions.items c.push_reserved.new.self.decisions.items c.push_reserved.new.self.cut_decisions.items)) c.reserve.ensures.same_decisions c.push_reserved.ensures.counted) in
     let of_problem : ran.new.best.problem ≡ d.problem = ran.ensures.same_instance ∙ c.loop-turn.invariant.same_instance ∙ c.requires.same_instance in
     record {
       same_instance = ran.ensures.same_instance ∙ c.loop-turn.invariant.same_instance;
@@ -52,6 +61,10 @@ loop-turn-preserved g c =
       named = dealt_more c.args.count ran.result c.loop-turn.named.done.items c.loop-turn.named.cut.items c.push_reserved.new.self.done.items c.push_reserved.new.self.cut.items c.loop-turn.share.seat.claimed ran.new.share.seat.claimed c.in-Some.piece
           c.loop-turn.invariant.named names claim (is_piece c.in-Some.piece c.args.count c.in-Some.ensures.piece.0);
       uncut = uncut_more c.args.nodes ran.result c.in-Some.piece c.loop-turn.named.done.items c.loop-turn.named.cut.items c.push_reserved.new.self.done.items c.push_reserved.new.self.cut.items names (whole_by _ c.args.nodes ran.result ran.ensures.no_budget) c.loop-turn.invariant.uncut;
+      budget = counted_more c.args.nodes c.decisions_of.result ran.result c.in-Some.piece ran.new.self.decisions
+          c.loop-turn.named.done.items c.loop-turn.named.decisions.items c.loop-turn.named.cut.items c.loop-turn.named.cut_decisions.items
+          c.push_reserved.new.self.done.items c.push_reserved.new.self.decisions.items c.push_reserved.new.self.cut.items c.push_reserved.new.self.cut_decisions.items
+          c.decisions_of.ensures names counts ran.ensures.within ran.ensures.cut c.loop-turn.invariant.budget;
       done = done_more d ran.result c.loop-turn.named.done.items c.loop-turn.named.cut.items c.push_reserved.new.self.done.items c.push_reserved.new.self.cut.items c.in-Some.piece c.loop-turn.best.held ran.new.best names
           (subst (λ (e : Division). IsNotAfter e.problem c.loop-turn.best.held ran.new.best.held) same_search ran.ensures.not_after)
           of_problem c.cost.ensures.sound
@@ -72,6 +85,9 @@ returns-in_default-clause-named g c = subst (λ (l : List ℕ). AreDealt l c.loo
 
 pub returns-in_default-clause-uncut : goal.returns-in_default-clause-uncut
 returns-in_default-clause-uncut g c = c.loop-turn.invariant.uncut
+
+pub returns-in_default-clause-budget : goal.returns-in_default-clause-budget
+returns-in_default-clause-budget g c = c.loop-turn.invariant.budget
 
 pub returns-in_default-clause-most : goal.returns-in_default-clause-most
 returns-in_default-clause-most g c = omega arith
@@ -96,6 +112,9 @@ returns-clause-named g c = c.loop-turn.invariant.named
 
 pub returns-clause-uncut : goal.returns-clause-uncut
 returns-clause-uncut g c = c.loop-turn.invariant.uncut
+
+pub returns-clause-budget : goal.returns-clause-budget
+returns-clause-budget g c = c.loop-turn.invariant.budget
 
 pub returns-clause-most : goal.returns-clause-most
 returns-clause-most g c = omega arith

@@ -1,5 +1,7 @@
 use Rattle.std.proofs.Common.{◌≡◌, [], length}
 use Rattle.std.specs.Prelude.{All, IfNone}
+use Rattle.std.specs.Option.{IfSome}
+use Rattle.pb_solve.specs.Parts.{AreCounted}
 use Rattle.pb_search.specs.Done.{IsDone}
 use Rattle.pb_solve.specs.Claims.{AreDealt, pieces_among}
 use Rattle.pb_share.specs.Sharing.{SameSeat}
@@ -13,6 +15,7 @@ invariant-loop-turn g l = record {
   count : length l.share.seat.claimed ≡ l._turn;
   named : AreDealt (pieces_among l.count l.share.seat.claimed) l.named.done.items l.named.cut.items;
   uncut : IfNone l.nodes (l.named.cut.items ≡ []);
+  budget : IfSome l.nodes (λ budget. AreCounted budget l.named.done.items l.named.decisions.items l.named.cut.items l.named.cut_decisions.items);
   done : All (λ i. IsDone l.initial.search.division i l.best.held) l.named.done.items;
   seat : SameSeat l.initial.share l.share;
 }
