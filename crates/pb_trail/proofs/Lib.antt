@@ -1,4 +1,5 @@
 pub mod TrailLemmas
+pub mod LookLemmas
 pub mod TrackedLemmas
 pub mod CompletionLemmas
 pub mod SoundLemmas

@@ -8,7 +8,7 @@ use Rattle.pb_normal.specs.NormalForm.{PositiveRow}
 use Rattle.pb_rows.specs.Constraints.{Constraints, row_at}
 use Rattle.pb_normal.specs.Literals.{negation, weight_of}
 use Rattle.pb_trail.specs.Trail.{value_on, reachable}
-use Rattle.pb_trail.specs.Tracked.{TrailState, IsUpToDate}
+use Rattle.pb_trail.specs.Tracked.{TrailState, HasNothingOver, IsUpToDate}
 use Rattle.pb_trail.specs.Completion.{IsForced}
 use Rattle.pb_trail.specs.Propagation.{AddsForced, nothing, one_more, IsSettledFrom}
 use Rattle.pb_trail.proofs.TrailLemmas.{value_on-before, value_on-same}
@@ -61,6 +61,10 @@ pub looked_at_all : (c : Constraints) (before now : TrailState) (row slack : ℕ
 looked_at_all c before now row slack is slack_is head low untouched =
     let same = reachable-untouched c.rows before.lits now.lits head (row_at c.rows row) low is.forced untouched in
     settled_by now.lits (row_at c.rows row) (omega arith) (λ k d h unset. omega (arith, is.passed k d h unset))
+
+-- and has nothing over the slack
+pub looked_at_nothing_over : (c : Constraints) (before now : TrailState) (row slack i : ℕ) → IsLookedAt c before now row slack i → i ≡ length (row_at c.rows row).terms → HasNothingOver slack now.lits (row_at c.rows row)
+looked_at_nothing_over c before now row slack i is all k d h unset = is.passed k d (omega arith) unset
 
 -- a row none of whose coefficients is above the slack is settled
 pub settled_by_widest : (trail : List Literal) (row : PositiveRow) (slack widest head : ℕ) → row.degree + slack ≡ reachable trail row.terms → widest ≤ slack → All (λ (t : PositiveTerm). t.coef ≤ widest) row.terms → IsSettledFrom head trail row

@@ -1,4 +1,5 @@
 pub mod Trail
+pub mod Looks
 pub mod Tracked
 pub mod Completion
 pub mod Propagation

@@ -1,6 +1,7 @@
 //! A trail with assumptions, the slack that it leaves each row, and what follows from it by single rows.
 #![tactic(auto)]
 
+mod looks;
 mod propagation;
 mod propagator;
 mod slacks;

@@ -4,16 +4,18 @@ ghost use Rattle.std.specs.Prelude.{◌≡◌, ℕ, ◌+◌, ◌<◌, ◌≤◌,
 ghost use Rattle.pb_rows.specs.Constraints.{row_at};
 ghost use Rattle.pb_rows.specs.Index.{total_by};
 ghost use Rattle.pb_normal.specs.Literals.{weight_of};
-ghost use Rattle.pb_trail.specs.Tracked.{IsUpToDate};
+ghost use Rattle.pb_trail.specs.Tracked.{HasNothingOver, IsUpToDate};
 ghost use Rattle.pb_trail.specs.Trail.{reachable};
 ghost use Rattle.pb_trail.specs.Completion.{IsSettled};
 ghost use Rattle.pb_trail.specs.Propagation.{AddsForced, IsBroken, IsSettledFrom};
 ghost use Rattle.std.specs.Option.{ForSome};
 ghost use Rattle.pb_trail.specs.Levels.{AllSettled, AllSettledFrom};
 
+use crate::looks::is_long;
 use crate::trail::Trail;
 use pb_count::{Count, Tally};
 use pb_inst::Lit;
+use pb_normal::FormTerm;
 use pb_rows::{Occurs, Tables};
 
 /// What a step of the engine found.
@@ -188,7 +190,8 @@ fn propagate_from<C: Count>(tables: &Tables<'_, '_, C>, trail: &mut Trail<C>, st
     Step::Fixed
 }
 
-/// Puts the literals of a row of the form that have no value and a coefficient greater than the slack on the trail.
+/// Puts the literals of a row of the form that have no value and a coefficient greater than the slack on the trail. A long row
+/// that was looked through at this slack, with nothing taken off since, has none and is passed over.
 #[inline(never)]
 fn add_forced<C: Count>(
     tables: &Tables<'_, '_, C>,
@@ -204,7 +207,37 @@ fn add_forced<C: Count>(
     ensures forced { AddsForced tables.now.rows trail.old.lits trail.new.lits }
     ensures settled { (head : ℕ) → head ≤ length trail.old.lits → IsSettledFrom head trail.new.lits (row_at tables.now.rows row) }
 {
-    for term in tables.form_terms(row) {
+    let terms = tables.form_terms(row);
+    let long = is_long(terms);
+    if long && trail.knows(row, slack) {
+        return;
+    }
+    add_over(tables, trail, row, terms, slack);
+    if long {
+        trail.note(row, slack);
+    }
+}
+
+/// Puts the row's literals without a value and with a coefficient greater than the slack on the trail.
+#[inline(always)]
+fn add_over<C: Count>(
+    tables: &Tables<'_, '_, C>,
+    trail: &mut Trail<C>,
+    row: usize,
+    terms: &[FormTerm<C>],
+    slack: Tally<C>,
+)
+    requires exists { row < length tables.now.rows }
+    requires terms { terms.now ≡ (row_at tables.now.rows row).terms }
+    requires variables { All (λ t. (1 ≤ t.lit.var) × (t.lit.var ≤ tables.now.vars)) terms.now }
+    requires slack { (row_at tables.now.rows row).degree + slack ≡ reachable trail.old.lits (row_at tables.now.rows row).terms }
+    requires up_to_date { IsUpToDate tables.now trail.old }
+    ensures up_to_date { IsUpToDate tables.now trail.new }
+    ensures forced { AddsForced tables.now.rows trail.old.lits trail.new.lits }
+    ensures settled { (head : ℕ) → head ≤ length trail.old.lits → IsSettledFrom head trail.new.lits (row_at tables.now.rows row) }
+    ensures nothing_over { HasNothingOver slack trail.new.lits (row_at tables.now.rows row) }
+{
+    for term in terms {
         let lit = term.lit();
         if slack.is_below(term.coef()) && trail.value(lit.var()).is_none() {
             trail.push(tables, lit);

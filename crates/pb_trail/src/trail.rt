@@ -1,13 +1,15 @@
 //! A trail, with what it leaves each row to reach.
 
-ghost use Rattle.std.specs.Prelude.{◌≡◌, ℕ, ◌+◌, ◌-◌, ◌*◌, ◌<◌, ◌≤◌, [], ◌∷◌, ◌++◌, length, take, All, None, slice_index, slice_index_or, IfOk, sum_by};
+ghost use Rattle.std.specs.Prelude.{◌≡◌, ℕ, ◌+◌, ◌-◌, ◌*◌, ◌<◌, ◌≤◌, [], ◌∷◌, ◌++◌, true, length, take, All, None, slice_index, slice_index_or, IfOk, sum_by};
 ghost use Rattle.pb_rows.specs.Constraints.{row_at};
 ghost use Rattle.pb_rows.specs.Index.{total_by};
 ghost use Rattle.pb_normal.specs.Literals.{weight_of};
+ghost use Rattle.pb_trail.specs.Looks.{IsKnown, KnowsNothing, NotesOnly};
 ghost use Rattle.pb_trail.specs.Soundness.{IsProperTrail};
 ghost use Rattle.pb_trail.specs.Tracked.{IsUpToDate};
 ghost use Rattle.pb_trail.specs.Trail.{value_on, reachable};
 
+use crate::looks::Looks;
 use pb_count::{Count, Tally};
 use pb_inst::{Lit, Memory};
 use pb_rows::{Occurs, Tables};
@@ -21,6 +23,7 @@ pub struct Trail<C: Count> {
     sums: Vec<Tally<C>>,
     values: Vec<Option<bool>>,
     lits: Vec<Lit>,
+    looks: Looks<C>,
     /// The row at which a conflict was found last. No more than a hint: the view leaves it out.
     blamed: usize,
 }
@@ -32,7 +35,7 @@ impl<C: Count> Model for Trail<C> {
 
     ghost Value = { TrailState };
 
-    ghost view = { λ t. record { vars = length t.values.items; lits = t.lits.items; sums = t.sums.items } };
+    ghost view = { λ t. record { vars = length t.values.items; lits = t.lits.items; sums = t.sums.items; looks = t.looks } };
 
     ghost invariant = { λ t. AreValues t.values.items t.lits.items (vec_capacity t.lits) };
 }
@@ -47,10 +50,12 @@ impl<C: Count> Trail<C> {
         let sums = totals(alloc, tables)?;
         let values = vec![in alloc; None; vars]?;
         let lits = Vec::with_capacity(alloc, vars)?;
+        let looks = Looks::new(alloc, tables.form())?;
         Ok(Trail {
             sums,
             values,
             lits,
+            looks,
             blamed: 0,
         })
     }
@@ -108,6 +113,22 @@ impl<C: Count> Trail<C> {
         self.blamed
     }
 
+    /// Whether the row was looked through at this slack or a lesser one, with nothing taken off since. Of short rows that is
+    /// not known.
+    pub fn knows(&self, row: usize, slack: Tally<C>) -> bool
+        ensures { result ≡ true → IsKnown self.now.looks row slack }
+    {
+        self.looks.knows(row, slack)
+    }
+
+    /// Notes that the row was looked through at the slack.
+    pub fn note(&mut self, row: usize, slack: Tally<C>)
+        ensures noted { NotesOnly self.old.looks self.new.looks row slack }
+        ensures rest { self.new ≡ record self.old { looks = self.new.looks } }
+    {
+        self.looks.note(row, slack);
+    }
+
     /// Puts a literal without a value on the trail.
     pub fn push(&mut self, tables: &Tables<'_, '_, C>, lit: Lit)
         requires up_to_date { IsUpToDate tables.now self.old }
@@ -129,6 +150,7 @@ impl<C: Count> Trail<C> {
         ensures up_to_date { IsUpToDate tables.now self.new }
         ensures left { self.new.lits ≡ take length self.old.lits }
     {
+        self.looks.forget();
         while self.len() > length {
             self.pop(tables);
         }
@@ -137,7 +159,9 @@ impl<C: Count> Trail<C> {
     /// Takes the last literal off.
     fn pop(&mut self, tables: &Tables<'_, '_, C>)
         requires up_to_date { IsUpToDate tables.now self.old }
+        requires nothing_known { KnowsNothing self.old.looks }
         ensures up_to_date { IsUpToDate tables.now self.new }
+        ensures nothing_known { KnowsNothing self.new.looks }
         ensures popped { self.new.lits ≡ take (length self.old.lits - 1) self.old.lits }
     {
         let _vars = tables.vars();
