@@ -1,23 +1,22 @@
 -- What one more report adds.
-use Rattle.std.proofs.Common.{◌≡◌, ◌≢◌, ◌↔◌, IsTrue, ℕ, zero, suc, ◌+◌, ◌<◌, ◌≤◌, Bool, true, false, cond, List, [], ◌∷◌, ◌++◌, ◌⊎◌, inl, inr, length, map, get_or, Option, None, Some, refl, sym, ◌∙◌, ap, subst, arith}
-use Rattle.std.specs.Prelude.{All, AllPairs, Any, is_some, slice_set}
+use Rattle.std.proofs.Common.{◌≡◌, ◌≢◌, ◌↔◌, IsTrue, ℕ, zero, suc, ◌<◌, Bool, true, false, cond, List, [], ◌∷◌, ◌++◌, inl, inr, length, get_or, Option, None, Some, refl, sym, ◌∙◌, ap, subst, arith}
+use Rattle.std.specs.Prelude.{All, Any, is_some, slice_set}
 use Rattle.std.specs.Option.{IfSome}
 use Rattle.std.proofs.lemmas.Bool.{cases_eq}
 use Rattle.std.proofs.lemmas.List.{get_or-set_other, get_or-set_same, length-set, map-append}
-use Rattle.std.proofs.lemmas.List.Elements.{All-nil, All-push, Contains-append_left}
+use Rattle.std.proofs.lemmas.List.Elements.{All-push, Contains-append_left}
 use Rattle.std.proofs.lemmas.List.Quantifiers.{Any-push, all_pairs_push}
 use Rattle.pb_inst.specs.Problem.{Problem}
 use Rattle.pb_inst.specs.Meaning.{IsFeasible}
 use Rattle.pb_inst.specs.Incumbent.{Improves, Incumbent, Solution, IsSolution, solution_of}
 use Rattle.pb_solve.specs.Parts.{AreSolutions, IsFirst, IsNotBefore}
 use Rattle.pb_solve.proofs.FirstLaws.{taken_more}
-use Rattle.pb_report.specs.declared.claims.Witness.{Witness}
 use Rattle.pb_report.specs.Claims.{is_final, witness_of}
 use Rattle.pb_join.specs.declared.reports.PieceReport.{PieceReport}
 use Rattle.pb_join.specs.declared.states.PieceState.{PieceState}
 use Rattle.pb_join.specs.declared.states.PieceState.TheVariants.{Missing, Cut, Done}
 use Rattle.pb_join.specs.Pieces.{found_in}
-use Rattle.pb_join.specs.Joining.{AreFit, AreGathered, AreStates, IsReported, IsStateOf, IsWitness, all_found}
+use Rattle.pb_join.specs.Joining.{AreGathered, AreStates, IsStateOf, IsWitness, all_found}
 
 any_still : {X : Type 0} (P : X → Type 0) (xs : List X) (y : X) → Any P xs → Any P (xs ++ y ∷ [])
 any_still P [] y (k, x, within, is, holds) = absurd (omega arith)

@@ -1,5 +1,5 @@
 -- Why what the reports of all pieces make is the report of the whole instance.
-use Rattle.std.proofs.Common.{◌≡◌, ℕ, ℤ, ◌+◌, ◌<◌, ◌≤◌, Bool, true, false, cond, List, [], ◌∷◌, length, map, get_or, Option, None, Some, pos, refl, sym, ◌∙◌, ap, subst, arith}
+use Rattle.std.proofs.Common.{◌≡◌, ℕ, ℤ, ◌+◌, ◌<◌, Bool, true, false, cond, List, [], ◌∷◌, length, map, get_or, Option, None, Some, pos, refl, sym, ◌∙◌, ap, subst, arith}
 use Rattle.std.specs.Prelude.{All, Any, Contains, is_some}
 use Rattle.std.specs.Option.{IfSome, option_map, option_map_or}
 use Rattle.std.specs.Io.KnownBytes.{Appends}
@@ -9,16 +9,15 @@ use Rattle.std.proofs.lemmas.List.Elements.{All-nil, All-cons, All-map, All-weak
 use Rattle.pb_inst.specs.declared.constraints.Term.{Term}
 use Rattle.pb_inst.specs.Literal.{Literal}
 use Rattle.pb_inst.specs.Problem.{Problem}
-use Rattle.pb_inst.specs.Meaning.{IsFeasible, cost, sum_value}
+use Rattle.pb_inst.specs.Meaning.{cost, sum_value}
 use Rattle.pb_inst.specs.Order.{IsBefore, IsLeast, Precedes}
 use Rattle.pb_inst.specs.Incumbent.{Solution, IsSolution, solution_of}
 use Rattle.pb_cubes.specs.Pieces.{CubeList}
 use Rattle.pb_read.specs.declared.format.Format.{Format}
-use Rattle.pb_search.specs.Done.{Division, IsCandidate, IsDone}
+use Rattle.pb_search.specs.Done.{IsDone}
 use Rattle.pb_report.specs.declared.statuses.Status.{Status}
-use Rattle.pb_solve.specs.Outcome.{Outcome, Feasible, Optimal, IsAnswer}
-use Rattle.pb_solve.specs.Parts.{PartView, AreDone, AreSolutions, AreWhole, IsFirst, IsNotBefore}
-use Rattle.pb_solve.specs.Report.{report, status_of}
+use Rattle.pb_solve.specs.Outcome.{Feasible, Optimal, IsAnswer}
+use Rattle.pb_solve.specs.Parts.{PartView, AreDone, AreSolutions, IsFirst}
 use Rattle.pb_solve.specs.Run.{Answers}
 use Rattle.pb_solve.specs.Solving.{HoldsLeast}
 use Rattle.pb_solve.proofs.LeastLaws.{holds_least}
@@ -26,13 +25,13 @@ use Rattle.pb_report.specs.declared.claims.Witness.{Witness}
 use Rattle.pb_report.specs.Claims.{is_final, witness_of}
 use Rattle.pb_join.specs.declared.reports.PieceReport.{PieceReport}
 use Rattle.pb_join.specs.declared.states.PieceState.{PieceState}
-use Rattle.pb_join.specs.declared.states.PieceState.TheVariants.{Missing, Cut, Done}
+use Rattle.pb_join.specs.declared.states.PieceState.TheVariants.{Missing, Done}
 use Rattle.pb_join.specs.Pieces.{AreOfPieces, IsOfPiece, IsPieceInstance, found_in, outcome_of}
-use Rattle.pb_join.specs.Joining.{AreFit, AreGathered, AreStates, IsReported, IsStateOf, IsWitness, TellsFirst, all_found, joined_report, joined_status}
+use Rattle.pb_join.specs.Joining.{AreFit, AreGathered, AreStates, IsReported, IsStateOf, IsWitness, all_found, joined_report, joined_status}
 
 -- ---- a report whose claim is right is a piece that is done
 
-same_cost : (p q : Problem) (a : List Bool) → q.objective ≡ p.objective → cost p a ≡ cost q a
+pub same_cost : (p q : Problem) (a : List Bool) → q.objective ≡ p.objective → cost p a ≡ cost q a
 same_cost p q a e = ap (λ (o : Option (List Term)). option_map_or (λ terms. sum_value a terms) o (pos 0)) (sym e)
 
 before_in : (p q : Problem) (a b : List Bool) → q.objective ≡ p.objective → IsBefore p a b → IsBefore q a b
@@ -79,7 +78,7 @@ pub solution_found : (p : Problem) (o : Option Witness) → IfSome o (IsWitness 
 solution_found p None h = tt
 solution_found p (Some w) h = record { for_all_variables = h.for_all_variables; feasible = h.feasible; cost_is = refl }
 
-all_solutions : (p : Problem) (pieces : ℕ) (reports : List PieceReport) → AreFit p pieces reports → All (λ (r : PieceReport). IfSome (found_in p r.claim) (IsSolution p)) reports
+pub all_solutions : (p : Problem) (pieces : ℕ) (reports : List PieceReport) → AreFit p pieces reports → All (λ (r : PieceReport). IfSome (found_in p r.claim) (IsSolution p)) reports
 all_solutions p pieces reports fit = All-weaker (λ (r : PieceReport). IfSome (witness_of r.claim) (IsWitness p)) (λ (r : PieceReport). IfSome (found_in p r.claim) (IsSolution p)) (λ r h. solution_found p (witness_of r.claim) h) reports fit.witnesses
 
 pub solutions : (p : Problem) (pieces : ℕ) (reports : List PieceReport) → AreFit p pieces reports → AreSolutions p (all_found p reports)
@@ -100,12 +99,16 @@ named_by p cubes i r h = subst (λ (named : List ℕ). Contains named i) (sym (a
 any_weaker : {X : Type 0} (P Q : X → Type 0) → ((x : X) → P x → Q x) → (xs : List X) → Any P xs → Any Q xs
 any_weaker P Q h xs (k, x, within, is, holds) = (k, x, within, is, h x holds)
 
+-- of a piece that is done there is a report that claims to be its answer
+pub reported_done : (p : Problem) (pieces : ℕ) (reports : List PieceReport) (states : List PieceState) (i : ℕ) → AreStates p pieces reports states → All (λ state. state ≡ Done) states → i < pieces → IsReported p reports i true
+reported_done p pieces reports states i h all within = subst (IsStateOf p reports i) (all i Missing (let count = h.count in omega arith)) (h.each i within)
+
 -- a piece that is done is named
 done_named : (p : Problem) (cubes : List (List Literal)) (pieces : ℕ) (reports : List PieceReport) (states : List PieceState) (i : ℕ) → AreStates p pieces reports states → All (λ state. state ≡ Done) states → i < pieces → Any (λ (part : PartView). Contains part.named i) (map (part_of p cubes) reports)
 done_named p cubes pieces reports states i h all within =
-    let reported : IsReported p reports i true = subst (IsStateOf p reports i) (all i Missing (let count = h.count in omega arith)) (h.each i within) in
     any_map (λ (part : PartView). Contains part.named i) (part_of p cubes) reports
-    (any_weaker (λ r. (r.number ≡ i) × (is_final (is_some p.objective) r.claim ≡ true)) (λ r. Contains (part_of p cubes r).named i) (named_by p cubes i) reports reported)
+    (any_weaker (λ r. (r.number ≡ i) × (is_final (is_some p.objective) r.claim ≡ true)) (λ r. Contains (part_of p cubes r).named i) (named_by p cubes i) reports
+    (reported_done p pieces reports states i h all within))
 
 held_by : (p : Problem) (cubes : List (List Literal)) (reports : List PieceReport) → all_found p reports ≡ None ∷ map (λ (part : PartView). part.best.held) (map (part_of p cubes) reports)
 held_by p cubes reports = ap (λ os. None ∷ os) (sym (map_map (part_of p cubes) (λ (part : PartView). part.best.held) reports))
@@ -128,7 +131,7 @@ whole_least p pieces reports held states cubes h all right =
 
 -- ---- what is held is the answer
 
-no_objective : {X : Type 0} (o : Option X) → is_some o ≡ false → o ≡ None
+pub no_objective : {X : Type 0} (o : Option X) → is_some o ≡ false → o ≡ None
 no_objective None e = refl
 no_objective (Some x) e = cc
 

@@ -4,6 +4,7 @@ ghost use Rattle.pb_inst.specs.Literal.{Literal};
 ghost use Rattle.pb_solve.specs.Run.{Answers};
 ghost use Rattle.pb_join.specs.Joining.{AreFit, AreStates, IsJoinFault, TellsFirst};
 ghost use Rattle.pb_join.specs.Pieces.{AreOfPieces};
+ghost use Rattle.pb_join.specs.Costs.{AreLeastOfPieces, AnswersLeastCost};
 
 use crate::faults::JoinFault;
 use crate::gathering::gather;
@@ -31,7 +32,8 @@ pub struct Joined {
 ///
 /// Where every piece has one report that claims to be its answer, the least assignment of them all is written as the answer:
 /// with `s OPTIMUM FOUND`, or `s SATISFIABLE` where there is no objective; `s UNSATISFIABLE` where no report has one. Where
-/// each claim is right this is, byte for byte, the report of the whole instance. Where a piece has no report, or one that does
+/// each claim is right this is, byte for byte, the report of the whole instance; where each has the least cost of its piece, but
+/// perhaps not the first assignment of that cost, the cost is that of the whole. Where a piece has no report, or one that does
 /// not claim to be its answer, the best assignment is written with `s SATISFIABLE` and its cost, or `s UNKNOWN` alone.
 /// Whatever is claimed, an assignment that is written is feasible, and its cost is its own.
 ///
@@ -51,6 +53,10 @@ pub fn join<W: Write>(
     ensures headline { (cubes : List (List Literal)) → AreOfPieces instance.now pieces reports.now cubes
         → IfOk result (λ joined. joined.whole ≡ true
         → Answers format instance.now (W.contents out.old.held) (W.contents out.new.held) joined.status) }
+
+    ensures least_cost { (cubes : List (List Literal)) → AreLeastOfPieces instance.now pieces reports.now cubes
+        → IfOk result (λ joined. joined.whole ≡ true
+        → AnswersLeastCost format instance.now (W.contents out.old.held) (W.contents out.new.held) joined.status) }
 
     ensures first { IfOk result (λ joined. TellsFirst format instance.now reports.now joined.whole
         (W.contents out.old.held) (W.contents out.new.held) joined.status) }

@@ -1,6 +1,6 @@
-use Rattle.std.proofs.Common.{◌++◌, ◌∷◌, [], Option, List, subst, sym}
+use Rattle.std.proofs.Common.{◌++◌, ◌∷◌, [], Option, subst}
 use Rattle.std.specs.Option.{option_map}
-use Rattle.pb_inst.specs.Incumbent.{Solution, solution_of}
+use Rattle.pb_inst.specs.Incumbent.{solution_of}
 use Rattle.pb_solve.specs.Parts.{IsFirst}
 use Rattle.pb_report.specs.declared.claims.Witness.{Witness}
 use Rattle.pb_join.proofs.Steps.{first_still}

@@ -1,6 +1,5 @@
-use Rattle.std.proofs.Common.{◌≡◌, ◌∙◌, length, rules, sym}
+use Rattle.std.proofs.Common.{◌≡◌, ◌∙◌, length, sym}
 use Rattle.pb_inst.specs.Meaning.{IsFeasible}
-use Rattle.pb_join.specs.Joining.{IsWitness}
 use Rattle.pb_join.proofs.Steps.{first_taken}
 use Rattle.pb_join.proofs.gathering.take_witness.Goals as goal
 
