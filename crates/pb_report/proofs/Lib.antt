@@ -2,3 +2,7 @@ pub mod Taking
 pub mod Lines
 mod SendingLaws
 mod WritingLaws
+mod PlainWords
+mod WrittenWords
+mod ReadBack
+mod ReadingLaws

@@ -49,7 +49,7 @@ all_costs : (lines : List (List (List ℕ))) (cost : Option ℤ) → IsLastCost 
 all_costs lines None none = subst (All (λ words. (y : ℤ) × IsCost words y)) (sym none) (All-nil (λ words. (y : ℤ) × IsCost words y))
 all_costs lines (Some z) (earlier, last, is, all, costs) = subst (All (λ words. (y : ℤ) × IsCost words y)) (sym is) (All-push (λ words. (y : ℤ) × IsCost words y) earlier last all (z, costs))
 
-no_push : {X : Type 0} (xs : List X) (x : X) → xs ++ x ∷ [] ≡ [] → ⊥
+pub no_push : {X : Type 0} (xs : List X) (x : X) → xs ++ x ∷ [] ≡ [] → ⊥
 no_push [] x e = cc
 no_push (y ∷ xs) x e = cc
 

@@ -1,6 +1,6 @@
 -- How one more word of the `v` lines is taken.
-use Rattle.std.proofs.Common.{◌≡◌, ◌≢◌, ℕ, ◌+◌, ◌-◌, ◌<◌, ◌≤◌, Bool, true, false, cond, List, [], ◌∷◌, ◌++◌, length, map, get_or, refl, sym, ◌∙◌, ap, subst, arith, length-append}
-use Rattle.std.specs.Prelude.{All, AllPairs, slice_set}
+use Rattle.std.proofs.Common.{◌≡◌, ◌≢◌, ℕ, ◌-◌, ◌<◌, ◌≤◌, Bool, true, false, cond, List, [], ◌∷◌, ◌++◌, length, map, get_or, refl, sym, ◌∙◌, ap, subst, arith, length-append}
+use Rattle.std.specs.Prelude.{slice_set}
 use Rattle.std.specs.List.{AllZip}
 use Rattle.std.proofs.lemmas.Bool.{false≢true}
 use Rattle.std.proofs.lemmas.List.{append-nil, get_or-set_other, get_or-set_same, length-set, map-append}
@@ -8,13 +8,12 @@ use Rattle.std.proofs.lemmas.List.Elements.{All-push}
 use Rattle.std.proofs.lemmas.List.Quantifiers.{all_pairs_push}
 use Rattle.pb_inst.specs.Literal.{Literal}
 use Rattle.pb_inst.specs.Meaning.{literal_value}
-use Rattle.pb_inst.specs.Cubes.{MakesTrue}
 use Rattle.pb_report.specs.declared.values.Values.{Values}
 use Rattle.pb_report.specs.declared.words.ValueWord.{ValueWord}
 use Rattle.pb_report.specs.declared.words.ValueWord.TheVariants as value
-use Rattle.pb_report.specs.Values.{AreOf, AreTaken, IsValueWord, written}
+use Rattle.pb_report.specs.Values.{AreTaken, IsValueWord, written}
 
-abbrev spelling : Literal → ValueWord
+abbrev pub spelling : Literal → ValueWord
 spelling l = value.Literal l.positive l.var
 
 zip_push : (R : List ℕ → ValueWord → Type 0) (xs : List (List ℕ)) (ys : List ValueWord) (x : List ℕ) (y : ValueWord) → AllZip R xs ys → R x y → AllZip R (xs ++ x ∷ []) (ys ++ y ∷ [])
@@ -34,10 +33,10 @@ written_end lits true before = absurd (false≢true (sym before))
 written_end lits false before = ap (λ ws. ws ++ value.End ∷ []) (sym (append-nil (map spelling lits)))
 
 -- the value of a literal is by that of its variable
-abbrev by_value : Bool → Bool → ℕ
+abbrev pub by_value : Bool → Bool → ℕ
 by_value sign b = cond sign (cond b 1 0) (1 - cond b 1 0)
 
-same_sign : (sign : Bool) → by_value sign sign ≡ 1
+pub same_sign : (sign : Bool) → by_value sign sign ≡ 1
 same_sign true = refl
 same_sign false = refl
 

@@ -8,3 +8,4 @@ pub mod Device
 pub mod Sending
 pub mod Statuses
 pub mod Written
+pub mod Laws

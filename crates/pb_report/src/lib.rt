@@ -7,6 +7,7 @@ mod draft;
 mod ends;
 mod faults;
 mod keys;
+mod laws;
 mod numbers;
 mod reading;
 mod statuses;
@@ -18,6 +19,7 @@ pub use claims::{Claim, Witness};
 pub use device::Device;
 pub use ends::{Refusal, RunFault};
 pub use faults::{ReportFault, ReportKind};
+pub use laws::reading_laws;
 pub use reading::read_report;
 pub use statuses::Status;
 pub use writing::{

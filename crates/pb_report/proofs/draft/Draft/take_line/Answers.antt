@@ -1,6 +1,5 @@
-use Rattle.std.proofs.Common.{◌∙◌, Some, arith, sym}
+use Rattle.std.proofs.Common.{◌∙◌, arith, sym}
 use Rattle.std.proofs.lemmas.Int.{ints, to_z-of_z}
-use Rattle.pb_report.specs.Draft.{IsDraft}
 use Rattle.pb_report.specs.Lines.{words}
 use Rattle.pb_report.proofs.Lines.{with_blank, with_comment, with_cost, with_status, with_values}
 use Rattle.pb_report.proofs.draft.Draft.take_line.Goals as goal
