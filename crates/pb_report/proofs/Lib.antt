@@ -6,3 +6,6 @@ mod PlainWords
 mod WrittenWords
 mod ReadBack
 mod ReadingLaws
+mod Numerals
+mod Following
+mod Accepting

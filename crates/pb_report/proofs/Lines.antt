@@ -25,7 +25,7 @@ pub record Begins (line : List (List ℕ)) (key : Key) (rest : List (List ℕ)) 
   pub is : line ≡ word ∷ rest
   pub key_is : key_of word ≡ key
 
-says : (test : Key → Bool) (line : List (List ℕ)) (key : Key) (rest : List (List ℕ)) → Begins line key rest → said_in test line ≡ cond (test key) (rest ∷ []) []
+pub says : (test : Key → Bool) (line : List (List ℕ)) (key : Key) (rest : List (List ℕ)) → Begins line key rest → said_in test line ≡ cond (test key) (rest ∷ []) []
 says test line key rest b = ap (said_in test) b.is ∙ ap (λ k. cond (test k) (rest ∷ []) []) b.key_is
 
 -- a line of another kind adds nothing, and one of the kind what it says
@@ -45,7 +45,7 @@ known_blank : (lines : List (List (List ℕ))) (line : List (List ℕ)) → line
 known_blank lines line none all = All-push IsKnown lines line all (subst IsKnown (sym none) tt)
 
 -- each line has a number, where the last one is known
-all_costs : (lines : List (List (List ℕ))) (cost : Option ℤ) → IsLastCost lines cost → All (λ words. (y : ℤ) × IsCost words y) lines
+pub all_costs : (lines : List (List (List ℕ))) (cost : Option ℤ) → IsLastCost lines cost → All (λ words. (y : ℤ) × IsCost words y) lines
 all_costs lines None none = subst (All (λ words. (y : ℤ) × IsCost words y)) (sym none) (All-nil (λ words. (y : ℤ) × IsCost words y))
 all_costs lines (Some z) (earlier, last, is, all, costs) = subst (All (λ words. (y : ℤ) × IsCost words y)) (sym is) (All-push (λ words. (y : ℤ) × IsCost words y) earlier last all (z, costs))
 

@@ -4,7 +4,7 @@ use Rattle.std.specs.Prelude.{All}
 use Rattle.std.specs.List.{AllZip, flat_map}
 use Rattle.std.specs.Option.{IfSome}
 use Rattle.std.specs.Str.Parse.{AllDigits, digits_value, signed_digits_value}
-use Rattle.std.proofs.lemmas.List.Elements.{All-nil}
+use Rattle.std.proofs.lemmas.List.Elements.{All-cons, All-nil}
 use Rattle.pb_inst.specs.Literal.{Literal}
 use Rattle.pb_inst.specs.Meaning.{literal_value}
 use Rattle.pb_inst.specs.Cubes.{MakesTrue}
@@ -21,7 +21,7 @@ use Rattle.pb_report.specs.declared.words.ValueWord.TheVariants as value
 use Rattle.pb_report.specs.Claims.{status_of, status_words, witness_of}
 use Rattle.pb_report.specs.Laws.{IsReadAs}
 use Rattle.pb_report.specs.Lines.{rows, said, is_cost, is_status, is_values, IsKnown}
-use Rattle.pb_report.specs.Numbers.{IsCount, IsNumber}
+use Rattle.pb_report.specs.Numbers.{Fits128, IsCount, IsNumber}
 use Rattle.pb_report.specs.Report.{AreValuesOf, Claims, IsCost, IsLastCost}
 use Rattle.pb_report.specs.Values.{AreOf, AreSpelled, IsDimacsWord, IsOpbWord, IsValueWord, has_end, written}
 use Rattle.pb_report.proofs.Lines.{no_push}
@@ -201,15 +201,29 @@ pub record Says (text : List ℕ) (said_status : Status) (costs values : List (L
   pub costs_are : said is_cost (rows text) ≡ costs
   pub values_are : said is_values (rows text) ≡ values
 
--- where the last cost of such lines is told, it is this
+-- each number of the words has 128 bits
+abbrev IsNarrow : List (List ℕ) → Type 0
+IsNarrow words = (z : ℤ) → IsCost words z → Fits128 z
+
+-- the last cost of such lines is this and no other, and each has 128 bits
 abbrev pub IsOnlyCost : List (List (List ℕ)) → Option ℤ → Type 0
-IsOnlyCost costs cost = IsLastCost costs cost × ((o : Option ℤ) → IsLastCost costs o → o ≡ cost)
+IsOnlyCost costs cost = IsLastCost costs cost × ((o : Option ℤ) → IsLastCost costs o → o ≡ cost) × All IsNarrow costs
 
 pub without_cost : IsOnlyCost [] None
-without_cost = (refl, no_cost)
+without_cost = (refl, no_cost, All-nil IsNarrow)
 
-pub with_cost : (word : List ℕ) (z : ℤ) → IsNumber word z → IsOnlyCost ((word ∷ []) ∷ []) (Some z)
-with_cost word z number = (([], word ∷ [], refl, All-nil (λ words. (y : ℤ) × IsCost words y), (word, refl, number)), λ o h. one_cost word z o number h)
+same_number : (word other : List ℕ) (y z : ℤ) → other ≡ word → IsNumber other y → IsNumber word z → z ≡ y
+same_number word other y z same number is = sym is.1 ∙ ap (signed_digits_value 10) (sym same) ∙ number.1
+
+narrow_word : (word : List ℕ) (z : ℤ) → Fits128 z → IsNumber word z → IsNarrow (word ∷ [])
+narrow_word word z fits number y (other, only, is) = let same : other ≡ word = cc in subst Fits128 (same_number word other y z same is number) fits
+
+pub with_cost : (word : List ℕ) (z : ℤ) → Fits128 z → IsNumber word z → IsOnlyCost ((word ∷ []) ∷ []) (Some z)
+with_cost word z fits number = (
+  ([], word ∷ [], refl, All-nil (λ words. (y : ℤ) × IsCost words y), (word, refl, number)),
+  λ o h. one_cost word z o number h,
+  All-cons IsNarrow (word ∷ []) [] (narrow_word word z fits number) (All-nil IsNarrow),
+)
 
 status_read : (format : Format) (n : ℕ) (text : List ℕ) (s : Status) (costs values : List (List (List ℕ))) (other : Claim) → Says text s costs values → Claims format n text other → status_of other ≡ s
 status_read format n text s costs values other says h = same_status (status_of other) s (sym h.status ∙ says.status_is)
@@ -247,6 +261,7 @@ pub read_optimum : (format : Format) (text : List ℕ) (costs : List (List (List
     → IsReadAs format (length values) text (Optimum (record { cost = cost; values = values }))
 read_optimum format text costs cost values small says only = record {
   claims = claims_values format text costs cost values (Optimum (record { cost = cost; values = values })) small says only refl;
+  narrow = subst (All IsNarrow) (sym says.costs_are) only.2;
   nothing_else = λ other h. by_claim other h (status_read format (length values) text status.Optimum costs (value_lines format values) other says h);
 }
   where
@@ -261,6 +276,7 @@ pub read_satisfiable : (format : Format) (text : List ℕ) (costs : List (List (
     → IsReadAs format (length values) text (Satisfiable (record { cost = cost; values = values }))
 read_satisfiable format text costs cost values small says only = record {
   claims = claims_values format text costs cost values (Satisfiable (record { cost = cost; values = values })) small says only refl;
+  narrow = subst (All IsNarrow) (sym says.costs_are) only.2;
   nothing_else = λ other h. by_claim other h (status_read format (length values) text status.Satisfiable costs (value_lines format values) other says h);
 }
   where
@@ -306,17 +322,20 @@ unsupported_alone Unsupported e = refl
 pub read_unsatisfiable : (format : Format) (n : ℕ) (text : List ℕ) → Says text status.Unsatisfiable [] [] → IsReadAs format n text Unsatisfiable
 read_unsatisfiable format n text says = record {
   claims = claims_none format n text Unsatisfiable says refl;
+  narrow = subst (All IsNarrow) (sym says.costs_are) (All-nil IsNarrow);
   nothing_else = λ other h. unsatisfiable_alone other (status_read format n text status.Unsatisfiable [] [] other says h);
 }
 
 pub read_unknown : (format : Format) (n : ℕ) (text : List ℕ) → Says text status.Unknown [] [] → IsReadAs format n text Unknown
 read_unknown format n text says = record {
   claims = claims_none format n text Unknown says refl;
+  narrow = subst (All IsNarrow) (sym says.costs_are) (All-nil IsNarrow);
   nothing_else = λ other h. unknown_alone other (status_read format n text status.Unknown [] [] other says h);
 }
 
 pub read_unsupported : (format : Format) (n : ℕ) (text : List ℕ) → Says text status.Unsupported [] [] → IsReadAs format n text Unsupported
 read_unsupported format n text says = record {
   claims = claims_none format n text Unsupported says refl;
+  narrow = subst (All IsNarrow) (sym says.costs_are) (All-nil IsNarrow);
   nothing_else = λ other h. unsupported_alone other (status_read format n text status.Unsupported [] [] other says h);
 }

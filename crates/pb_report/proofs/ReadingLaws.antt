@@ -1,5 +1,5 @@
 -- Each report that is written is read as what it was written of.
-use Rattle.std.proofs.Common.{◌≡◌, ℕ, ℤ, ◌^◌, ◌<◌, Bool, List, [], ◌∷◌, ◌++◌, length, None, Some, codes, decimal, unsigned_abs, refl, sym, ◌∙◌, ap, subst, arith, append_assoc, append-nil}
+use Rattle.std.proofs.Common.{◌≡◌, ℕ, ℤ, pos, negsuc, ◌^◌, ◌<◌, Bool, List, [], ◌∷◌, ◌++◌, length, None, Some, codes, decimal, unsigned_abs, refl, sym, ◌∙◌, ap, subst, arith, append_assoc, append-nil}
 use Rattle.std.specs.Prelude.{All}
 use Rattle.std.specs.Fmt.{signed_decimal}
 use Rattle.std.proofs.lemmas.List.Elements.{All-nil, All-cons}
@@ -14,6 +14,7 @@ use Rattle.pb_report.specs.declared.statuses.Status.TheVariants as status
 use Rattle.pb_report.specs.Claims.{status_words}
 use Rattle.pb_report.specs.Laws.{AttainedIsReadBack, InfeasibleIsReadBack, MemoryIsReadBack, OptimumIsReadBack, RefusalIsReadBack, SatisfiableIsReadBack, UnknownIsReadBack, line_of}
 use Rattle.pb_report.specs.Lines.{rows, said, is_cost, is_status, is_values, IsKnown}
+use Rattle.pb_report.specs.Numbers.{Fits128}
 use Rattle.pb_report.specs.Written.{attained_report, cost_line, fault_text, infeasible_report, kind_name, line, memory_report, optimum_report, refusal_report, refusal_text, satisfiable_report, unknown_report, value_line}
 use Rattle.pb_report.proofs.PlainWords.{ArePlain, ink_plain, no_rows, row_of, words_from}
 use Rattle.pb_report.proofs.ReadBack.{Says, read_optimum, read_satisfiable, read_unknown, read_unsatisfiable, read_unsupported, value_lines, with_cost, without_cost}
@@ -62,20 +63,21 @@ costly_says format cost text values s are =
     (All-cons IsKnown values_line [] (known_values (value_words format 1 values ++ end_words format)) (All-nil IsKnown))))
     refl refl refl
 
-wide : (z : ℤ) → unsigned_abs z < 2 ^ 128 → unsigned_abs z < 10 ^ 64
-wide z small = omega arith
+wide : (z : ℤ) → Fits128 z → unsigned_abs z < 10 ^ 64
+wide (pos n) fits = omega (arith, fits)
+wide (negsuc n) fits = omega (arith, fits)
 
 pub optimum_is_read_back : OptimumIsReadBack
 optimum_is_read_back format cost values range =
     read_optimum format (optimum_report format cost values) ((signed_decimal cost ∷ []) ∷ []) (Some cost) values range.0
     (costly_says format cost (optimum_report format cost values) values status.Optimum (costly_rows format cost (codes "s OPTIMUM FOUND") values range.0 (wide cost range.1) refl))
-    (with_cost (signed_decimal cost) cost (number_of cost (wide cost range.1)))
+    (with_cost (signed_decimal cost) cost range.1 (number_of cost (wide cost range.1)))
 
 pub attained_is_read_back : AttainedIsReadBack
 attained_is_read_back format cost values range =
     read_satisfiable format (attained_report format cost values) ((signed_decimal cost ∷ []) ∷ []) (Some cost) values range.0
     (costly_says format cost (attained_report format cost values) values status.Satisfiable (costly_rows format cost (codes "s SATISFIABLE") values range.0 (wide cost range.1) refl))
-    (with_cost (signed_decimal cost) cost (number_of cost (wide cost range.1)))
+    (with_cost (signed_decimal cost) cost range.1 (number_of cost (wide cost range.1)))
 
 pub satisfiable_is_read_back : SatisfiableIsReadBack
 satisfiable_is_read_back format values small =

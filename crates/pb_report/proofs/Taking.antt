@@ -44,7 +44,7 @@ same_sign false = refl
 differs : (seen : List Bool) (v w : ℕ) → get_or seen (v - 1) false ≡ true → get_or seen (w - 1) false ≡ false → v ≢ w
 differs seen v w is isnt e = false≢true (sym isnt ∙ ap (λ n. get_or seen (n - 1) false) (sym e) ∙ is)
 
-other_place : (v w : ℕ) → 1 ≤ v → 1 ≤ w → v ≢ w → (v - 1) ≢ (w - 1)
+pub other_place : (v w : ℕ) → 1 ≤ v → 1 ≤ w → v ≢ w → (v - 1) ≢ (w - 1)
 other_place v w low low' ne = λ e. ne (omega (arith, e))
 
 -- a value that is given leaves those of other variables

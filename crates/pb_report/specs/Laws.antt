@@ -1,21 +1,23 @@
 -- What a report that was written claims where it is read.
-use Rattle.std.specs.Prelude.{◌≡◌, ℕ, ℤ, ◌^◌, ◌<◌, Bool, List, length, None, Some, unsigned_abs}
+use Rattle.std.specs.Prelude.{◌≡◌, ℕ, ℤ, ◌^◌, ◌<◌, Bool, List, length, None, Some}
 use Rattle.pb_read.specs.declared.format.Format.{Format}
 use Rattle.pb_report.specs.declared.claims.Claim.{Claim}
 use Rattle.pb_report.specs.declared.claims.Claim.TheVariants.{Optimum, Satisfiable, Unsatisfiable, Unknown, Unsupported}
 use Rattle.pb_report.specs.declared.ends.Refusal.{Refusal}
 use Rattle.pb_report.specs.declared.ends.Refusal.TheVariants as refusal
-use Rattle.pb_report.specs.Report.{Claims}
+use Rattle.pb_report.specs.Numbers.{Fits128}
+use Rattle.pb_report.specs.Report.{AreNarrow, Claims}
 use Rattle.pb_report.specs.Written.{refusal_report, memory_report, infeasible_report, unknown_report, satisfiable_report, attained_report, optimum_report}
 
--- the text claims this of an instance of n variables, and nothing else
+-- the text claims this of an instance of n variables, and nothing else, and its `o` lines are such as are accepted
 pub record IsReadAs (format : Format) (n : ℕ) (text : List ℕ) (claim : Claim) : Type 0 where
   pub claims : Claims format n text claim
+  pub narrow : AreNarrow text
   pub nothing_else : (other : Claim) → Claims format n text other → other ≡ claim
 
--- the variables are counted in 32 bits, and the cost is a number of 128
+-- the variables are counted in 32 bits, and the cost is a number of 128 bits
 abbrev pub AreInRange : List Bool → ℤ → Type 0
-AreInRange values cost = (length values < 2 ^ 32) × (unsigned_abs cost < 2 ^ 128)
+AreInRange values cost = (length values < 2 ^ 32) × Fits128 cost
 
 -- the report of the least assignment claims that it is least, with its cost
 abbrev pub OptimumIsReadBack : Type 0

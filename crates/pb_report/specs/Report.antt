@@ -6,7 +6,7 @@ use Rattle.pb_read.specs.declared.format.Format.{Format}
 use Rattle.pb_report.specs.declared.claims.Witness.{Witness}
 use Rattle.pb_report.specs.declared.claims.Claim.{Claim}
 use Rattle.pb_report.specs.Claims.{witness_of, status_of, status_words}
-use Rattle.pb_report.specs.Numbers.{IsNumber}
+use Rattle.pb_report.specs.Numbers.{Fits128, IsNumber}
 use Rattle.pb_report.specs.Lines.{rows, said, is_cost, is_status, is_values, IsKnown}
 use Rattle.pb_report.specs.Values.{AreSpelled}
 
@@ -33,3 +33,7 @@ pub record Claims (format : Format) (n : ℕ) (text : List ℕ) (claim : Claim) 
   pub last_cost : IsLastCost (said is_cost (rows text)) cost
   pub cost_is : IfSome (witness_of claim) (λ w. w.cost ≡ cost)
   pub values : AreValuesOf format n (said is_values (rows text)) (witness_of claim)
+
+-- the number of each `o` line has at most 128 bits
+abbrev pub AreNarrow : List ℕ → Type 0
+AreNarrow text = All (λ words. (z : ℤ) → IsCost words z → Fits128 z) (said is_cost (rows text))

@@ -1,6 +1,7 @@
 -- The words of `v` lines, and the values that they spell.
-use Rattle.std.specs.Prelude.{◌≡◌, ◌≢◌, ◌⊎◌, ℕ, ◌+◌, ◌-◌, ◌≤◌, Bool, true, false, if◌then◌else◌, List, [], ◌∷◌, ◌++◌, length, map, slice_index_or, codes, All, AllPairs}
+use Rattle.std.specs.Prelude.{◌≡◌, ◌≢◌, ◌⊎◌, ℕ, ◌+◌, ◌-◌, ◌^◌, ◌<◌, ◌≤◌, ⊤, Bool, true, false, if◌then◌else◌, List, [], ◌∷◌, ◌++◌, length, map, slice_index_or, slice_set, codes, All, AllPairs}
 use Rattle.std.specs.List.{AllZip}
+use Rattle.std.proofs.Common.{replicate}
 use Rattle.pb_inst.specs.Literal.{Literal}
 use Rattle.pb_inst.specs.Cubes.{MakesTrue}
 use Rattle.pb_read.specs.declared.format.Format.{Format}
@@ -32,6 +33,11 @@ abbrev pub IsValueWord : Format → List ℕ → ValueWord → Type 0
 IsValueWord Opb word value = IsOpbWord word value
 IsValueWord Cnf word value = IsDimacsWord word value
 IsValueWord Icnf word value = IsDimacsWord word value
+
+-- a variable is numbered from 1 on, in 32 bits
+abbrev pub IsCounted : ValueWord → Type 0
+IsCounted (value.Literal positive var) = (1 ≤ var) × (var < 2 ^ 32)
+IsCounted value.End = ⊤
 
 -- whether the literals have an end
 abbrev pub has_end : Format → Bool
@@ -65,3 +71,25 @@ pub record AreTaken (n : ℕ) (words : List (List ℕ)) (values : Values) : Type
   pub are_of : AreOf n lits values.given
   pub seen_count : length values.seen ≡ n
   pub seen : All (λ l. slice_index_or values.seen (l.var - 1) false ≡ true) lits
+
+-- no variable of n has a value
+abbrev pub fresh_values : Format → ℕ → Values
+fresh_values format n = record { format = format; given = replicate n false; seen = replicate n false; left = n; ended = false }
+
+-- what a literal makes of values, and what the end does
+abbrev pub after_literal : Values → Bool → ℕ → Values
+after_literal values positive var = record { format = values.format; given = slice_set values.given (var - 1) positive; seen = slice_set values.seen (var - 1) true; left = values.left - 1; ended = values.ended }
+
+abbrev pub after_end : Values → Values
+after_end values = record { format = values.format; given = values.given; seen = values.seen; left = values.left; ended = true }
+
+-- these can be taken one after another, and then every variable has its value
+abbrev pub Complete : List ValueWord → Values → Type 0
+Complete [] values = (values.left ≡ 0) × (values.ended ≡ has_end values.format)
+Complete (value.Literal positive var ∷ more) values =
+    (values.ended ≡ false) × (1 ≤ var) × (var < 2 ^ 32) × (var ≤ length values.given) × (slice_index_or values.seen (var - 1) false ≡ false) × (1 ≤ values.left) × Complete more (after_literal values positive var)
+Complete (value.End ∷ more) values = (values.ended ≡ false) × Complete more (after_end values)
+
+-- the words spell such
+abbrev pub CompleteWords : List (List ℕ) → Values → Type 0
+CompleteWords words values = (more : List ValueWord) × AllZip (IsValueWord values.format) words more × Complete more values

@@ -1,9 +1,12 @@
 //! What the lines of a report said so far.
-ghost use Rattle.std.specs.Prelude.{◌≡◌, ◌∷◌, ◌++◌, [], ℕ, List, length, IfOk, OnOk, None, Some};
+ghost use Rattle.std.specs.Prelude.{◌≡◌, ◌≢◌, ◌∷◌, ◌++◌, [], ℕ, ℤ, List, length, IfOk, IsOk, OnOk, None, Ok, Some};
 ghost use Rattle.pb_report.specs.Claims.{status_words};
-ghost use Rattle.pb_report.specs.Draft.{IsDraft};
+ghost use Rattle.pb_report.specs.Draft.{Follow, IsDraft, fresh_draft};
 ghost use Rattle.pb_report.specs.Lines.{words, rows, said, is_values};
+ghost use Rattle.pb_report.specs.Numbers.{Fits128};
 ghost use Rattle.pb_report.specs.Report.{AreValuesOf, Claims, IsCost};
+ghost use Rattle.pb_report.specs.Values.{Complete};
+ghost use Rattle.pb_report.specs.declared.statuses.Status.{Status};
 
 use crate::claims::{Claim, Witness};
 use crate::faults::{ReportFault, ReportKind};
@@ -34,6 +37,7 @@ impl Draft {
         ensures same_length { IfOk result (λ draft. length draft.values.given ≡ length draft.values.seen) }
         ensures format { IfOk result (λ draft. draft.values.format ≡ format) }
         ensures drafted { IfOk result (λ draft. IsDraft vars [] draft) }
+        ensures fresh { IfOk result (λ draft. draft ≡ fresh_draft format vars) }
     {
         let values = Values::new(alloc, format, vars)?;
         Ok(Draft {
@@ -51,6 +55,7 @@ impl Draft {
         ensures same_length { length self.new.values.given ≡ length self.new.values.seen }
         ensures same_format { self.new.values.format ≡ self.old.values.format }
         ensures drafted { (vars : ℕ) (lines : List (List (List ℕ))) → IsDraft vars lines self.old → OnOk result (IsDraft vars (lines ++ words line.now ∷ []) self.new) }
+        ensures accepted { (status : Status) (more : List (List (List ℕ))) → Follow status (words line.now ∷ more) self.old → IsOk result × Follow status more self.new }
     {
         let mut words = line.fields();
         let Some(first) = words.next() else {
@@ -74,7 +79,8 @@ impl Draft {
 
     /// What the whole report claims; `last` is the number of its last line.
     pub(crate) fn finish(self, last: u64) -> Result<Claim, ReportFault>
-        ensures { (vars : ℕ) (text : List ℕ) → IsDraft vars (rows text) self → IfOk result (λ claim. Claims self.values.format vars text claim) }
+        ensures claimed { (vars : ℕ) (text : List ℕ) → IsDraft vars (rows text) self → IfOk result (λ claim. Claims self.values.format vars text claim) }
+        ensures accepted { (status : Status) → Follow status [] self → IsOk result }
     {
         let Some(status) = self.status else {
             return Err(fault(ReportKind::NoStatus, last));
@@ -92,6 +98,7 @@ impl Draft {
     fn without_values(&self, claim: Claim) -> Result<Claim, ReportFault>
         ensures claim { IfOk result (λ kept. kept ≡ claim) }
         ensures none { OnOk result (self.now.last_values ≡ None) }
+        ensures accepted { self.now.last_values ≡ None → IsOk result }
     {
         if self.last_values.is_some() {
             return Err(fault(ReportKind::Unclaimed, self.status_line));
@@ -104,6 +111,7 @@ impl Draft {
         ensures cost { IfOk result (λ witness. witness.cost ≡ self.cost) }
         ensures values { (vars : ℕ) (lines : List (List (List ℕ))) → IsDraft vars lines self
             → IfOk result (λ witness. AreValuesOf self.values.format vars (said is_values lines) (Some witness)) }
+        ensures accepted { self.last_values ≢ None → Complete [] self.values → IsOk result }
     {
         let Some(last) = self.last_values else {
             return Err(fault(ReportKind::NoValues, self.status_line));
@@ -122,6 +130,7 @@ impl Draft {
 fn first_status(before: Option<Status>, words: Fields<'_>) -> Result<Status, ReportKind>
     ensures first { OnOk result (before ≡ None) }
     ensures status { IfOk result (λ status. words.entry ≡ status_words status) }
+    ensures accepted { (status : Status) → before ≡ None → words.entry ≡ status_words status → result ≡ Ok status }
 {
     if before.is_some() {
         return Err(ReportKind::SecondStatus);
@@ -131,7 +140,8 @@ fn first_status(before: Option<Status>, words: Fields<'_>) -> Result<Status, Rep
 
 /// The number that is the only word of an `o` line.
 fn cost_of(words: Fields<'_>) -> Result<Number, ReportKind>
-    ensures { IfOk result (λ z. IsCost words.entry z) }
+    ensures cost { IfOk result (λ z. IsCost words.entry z) }
+    ensures accepted { (z : ℤ) → IsCost words.entry z → Fits128 z → IsOk result }
 {
     let mut words = words;
     let (Some(word), None) = (words.next(), words.next()) else {

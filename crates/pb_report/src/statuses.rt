@@ -1,5 +1,6 @@
 //! What a report says, and the words of `s` lines.
-ghost use Rattle.std.specs.Prelude.{◌≡◌, ◌∷◌, [], IfSome};
+ghost use Rattle.std.specs.Prelude.{◌≡◌, ◌∷◌, [], IfSome, Some};
+ghost use Rattle.pb_report.specs.declared.statuses.Status.{Status};
 ghost use Rattle.pb_report.specs.Claims.{status_words};
 ghost use Rattle.pb_report.specs.Statuses.{exit_status};
 
@@ -36,7 +37,8 @@ impl Status {
 
 /// The status that the words are; none where they are no status.
 pub(crate) fn status_of(words: Fields<'_>) -> Option<Status>
-    ensures { IfSome result (λ status. words.entry ≡ status_words status) }
+    ensures said { IfSome result (λ status. words.entry ≡ status_words status) }
+    ensures accepted { (status : Status) → words.entry ≡ status_words status → result ≡ Some status }
 {
     let mut words = words;
     let first = words.next()?;
@@ -57,7 +59,8 @@ pub(crate) fn status_of(words: Fields<'_>) -> Option<Status>
 
 /// The status of one word.
 fn status_of_word(word: &[u8]) -> Option<Status>
-    ensures { IfSome result (λ status. word.now ∷ [] ≡ status_words status) }
+    ensures said { IfSome result (λ status. word.now ∷ [] ≡ status_words status) }
+    ensures accepted { (status : Status) → word.now ∷ [] ≡ status_words status → result ≡ Some status }
 {
     if word == b"SATISFIABLE".as_slice() {
         Some(Status::Satisfiable)

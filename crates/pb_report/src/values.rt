@@ -1,6 +1,6 @@
 //! The values of `v` lines.
-ghost use Rattle.std.specs.Prelude.{◌≡◌, ◌∷◌, ◌++◌, [], ℕ, List, length, false, IfOk, OnOk};
-ghost use Rattle.pb_report.specs.Values.{AreTaken, AreSpelled, IsValueWord, has_end};
+ghost use Rattle.std.specs.Prelude.{◌≡◌, ◌≤◌, ◌-◌, ◌∷◌, ◌++◌, [], ℕ, List, length, slice_index_or, false, IfOk, IsOk, OnOk};
+ghost use Rattle.pb_report.specs.Values.{AreTaken, AreSpelled, Complete, CompleteWords, IsValueWord, after_literal, fresh_values, has_end};
 
 use crate::faults::ReportKind;
 use crate::words::{ValueWord, value_word};
@@ -27,6 +27,7 @@ impl Values {
         ensures format { IfOk result (λ values. values.format ≡ format) }
         ensures same_length { IfOk result (λ values. length values.given ≡ length values.seen) }
         ensures taken { IfOk result (λ values. AreTaken vars [] values) }
+        ensures fresh { IfOk result (λ values. values ≡ fresh_values format vars) }
     {
         let given = Assignment::new(alloc, vars)?;
         let seen = Assignment::new(alloc, vars)?;
@@ -45,6 +46,7 @@ impl Values {
         ensures same_length { length self.new.given ≡ length self.new.seen }
         ensures same_format { self.new.format ≡ self.old.format }
         ensures taken { (vars : ℕ) (taken : List (List ℕ)) → AreTaken vars taken self.old → OnOk result (AreTaken vars (taken ++ words.entry) self.new) }
+        ensures accepted { (more : List (List ℕ)) → CompleteWords (words.entry ++ more) self.old → IsOk result × CompleteWords more self.new }
     {
         for word in words {
             self.take(word)?;
@@ -57,6 +59,7 @@ impl Values {
         ensures same_length { length self.new.given ≡ length self.new.seen }
         ensures same_format { self.new.format ≡ self.old.format }
         ensures taken { (vars : ℕ) (taken : List (List ℕ)) → AreTaken vars taken self.old → OnOk result (AreTaken vars (taken ++ word.now ∷ []) self.new) }
+        ensures accepted { (more : List (List ℕ)) → CompleteWords (word.now ∷ more) self.old → IsOk result × CompleteWords more self.new }
     {
         if self.ended {
             return Err(ReportKind::Syntax);
@@ -76,6 +79,8 @@ impl Values {
         ensures same_format { self.new.format ≡ self.old.format }
         ensures taken { (vars : ℕ) (taken : List (List ℕ)) (word : List ℕ) → AreTaken vars taken self.old → self.old.ended ≡ false
             → IsValueWord self.old.format word (ValueWord.Literal positive var) → OnOk result (AreTaken vars (taken ++ word ∷ []) self.new) }
+        ensures accepted { 1 ≤ var → var ≤ length self.old.given → slice_index_or self.old.seen (var - 1) false ≡ false → 1 ≤ self.old.left
+            → IsOk result × (self.new ≡ after_literal self.old positive var) }
     {
         if var == 0 || var > self.given.len() {
             return Err(ReportKind::BadVariable);
@@ -92,7 +97,8 @@ impl Values {
 
     /// The values of all variables.
     pub(crate) fn finish(self) -> Result<Assignment, ReportKind>
-        ensures { (vars : ℕ) (taken : List (List ℕ)) → AreTaken vars taken self → IfOk result (λ values. AreSpelled self.format vars taken values) }
+        ensures spelled { (vars : ℕ) (taken : List (List ℕ)) → AreTaken vars taken self → IfOk result (λ values. AreSpelled self.format vars taken values) }
+        ensures accepted { Complete [] self → IsOk result }
     {
         if self.left > 0 || self.ended != has_end(self.format) {
             return Err(ReportKind::Unfinished);

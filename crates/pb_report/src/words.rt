@@ -1,6 +1,8 @@
 //! The words of `v` lines.
-ghost use Rattle.std.specs.Prelude.{◌≡◌, true, false, IfSome};
-ghost use Rattle.pb_report.specs.Values.{IsOpbWord, IsDimacsWord, IsDigitsOf, IsValueWord};
+ghost use Rattle.std.specs.Prelude.{◌≡◌, ◌<◌, ◌^◌, ℕ, true, false, IfSome, Some};
+ghost use Rattle.pb_report.specs.Values.{IsOpbWord, IsCounted, IsDimacsWord, IsDigitsOf, IsValueWord};
+ghost use Rattle.pb_report.specs.Numbers.{IsCount};
+ghost use Rattle.pb_report.specs.declared.words.ValueWord.{ValueWord};
 
 use crate::numbers::count_of;
 use pb_read::Format;
@@ -15,7 +17,8 @@ pub(crate) enum ValueWord {
 
 /// What a word of a `v` line spells in the format; none where it spells nothing.
 pub(crate) fn value_word(format: Format, word: &[u8]) -> Option<ValueWord>
-    ensures { IfSome result (λ value. IsValueWord format word.now value) }
+    ensures spelled { IfSome result (λ value. IsValueWord format word.now value) }
+    ensures accepted { (value : ValueWord) → IsValueWord format word.now value → IsCounted value → result ≡ Some value }
 {
     match format {
         Format::Opb => opb_word(word),
@@ -25,7 +28,8 @@ pub(crate) fn value_word(format: Format, word: &[u8]) -> Option<ValueWord>
 
 /// `x3` and `-x3` or `~x3`.
 fn opb_word(word: &[u8]) -> Option<ValueWord>
-    ensures { IfSome result (λ value. IsOpbWord word.now value) }
+    ensures spelled { IfSome result (λ value. IsOpbWord word.now value) }
+    ensures accepted { (value : ValueWord) → IsOpbWord word.now value → IsCounted value → result ≡ Some value }
 {
     match word {
         [b'x', digits @ ..] => literal(true, digits),
@@ -36,7 +40,8 @@ fn opb_word(word: &[u8]) -> Option<ValueWord>
 
 /// `3` and `-3`, and `0` as the end.
 fn dimacs_word(word: &[u8]) -> Option<ValueWord>
-    ensures { IfSome result (λ value. IsDimacsWord word.now value) }
+    ensures spelled { IfSome result (λ value. IsDimacsWord word.now value) }
+    ensures accepted { (value : ValueWord) → IsDimacsWord word.now value → IsCounted value → result ≡ Some value }
 {
     match word {
         b"0" => Some(ValueWord::End),
@@ -47,7 +52,8 @@ fn dimacs_word(word: &[u8]) -> Option<ValueWord>
 
 /// The literal of the variable that the digits write.
 fn literal(positive: bool, digits: &[u8]) -> Option<ValueWord>
-    ensures { IfSome result (λ value. IsDigitsOf positive digits.now value) }
+    ensures spelled { IfSome result (λ value. IsDigitsOf positive digits.now value) }
+    ensures accepted { (var : ℕ) → IsCount digits.now var → var < 2 ^ 32 → result ≡ Some (ValueWord.Literal positive var) }
 {
     let var = count_of(digits)?;
     Some(ValueWord::Literal { positive, var })

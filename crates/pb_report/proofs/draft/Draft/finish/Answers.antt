@@ -2,8 +2,8 @@ use Rattle.std.proofs.Common.{◌∙◌, ap, Some}
 use Rattle.pb_report.specs.Draft.{status_lines}
 use Rattle.pb_report.proofs.draft.Draft.finish.Goals as goal
 
-pub returns-in_ok-witness-in-Optimum : goal.returns-in_ok-witness-in-Optimum
-returns-in_ok-witness-in-Optimum c = λ vars text h. record {
+pub returns-in_ok-witness-in-Optimum-clause-claimed : goal.returns-in_ok-witness-in-Optimum-clause-claimed
+returns-in_ok-witness-in-Optimum-clause-claimed c = λ vars text h. record {
   known = h.known;
   status = h.status ∙ ap status_lines (c.in-Some.is ∙ ap Some c.in-Optimum.is);
   cost = c.args.self.cost;
@@ -12,8 +12,8 @@ returns-in_ok-witness-in-Optimum c = λ vars text h. record {
   values = c.in_ok-witness-in-Optimum.ensures.values vars _ h;
 }
 
-pub returns-in_ok-witness-in-Satisfiable : goal.returns-in_ok-witness-in-Satisfiable
-returns-in_ok-witness-in-Satisfiable c = λ vars text h. record {
+pub returns-in_ok-witness-in-Satisfiable-clause-claimed : goal.returns-in_ok-witness-in-Satisfiable-clause-claimed
+returns-in_ok-witness-in-Satisfiable-clause-claimed c = λ vars text h. record {
   known = h.known;
   status = h.status ∙ ap status_lines (c.in-Some.is ∙ ap Some c.in-Satisfiable.is);
   cost = c.args.self.cost;
