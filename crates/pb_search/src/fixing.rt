@@ -6,16 +6,17 @@ ghost use Rattle.pb_search.specs.AgreedPrefix.{KnowsHeldPrefix};
 
 use crate::agreed_prefix::AgreedPrefix;
 use crate::branch::{Branch, Hints};
-use crate::pruning::{Pruning, check_bound};
+use crate::pruning::{Pruning, check_multipliers, check_rows};
 use pb_engine::{Count, Engine};
 use pb_inst::{Best, Lit, Number};
 
 /// What the bound says of the subtree below the trail, the bound itself, and a literal without a value whose negation has
-/// nothing to give: none where none is known.
+/// nothing to give: none where none is known. Where decisions are counted the bound of disjoint rows is compared in each call.
 pub fn judge_node<C: Count>(
     engine: &mut Engine<'_, C>,
     best: &Best<'_>,
     agreed: &mut AgreedPrefix,
+    is_counted: bool,
 ) -> (Pruning, Option<Number>, Option<Lit>)
     requires engine { IsEngineOf best.now.problem engine.old }
     requires known { KnowsHeldPrefix engine.old.trail best.now.held agreed.old }
@@ -24,13 +25,22 @@ pub fn judge_node<C: Count>(
     ensures unchanged { engine.new ≡ engine.old }
     ensures known { KnowsHeldPrefix engine.old.trail best.now.held agreed.new }
 {
-    // Where a literal was fixed just before there are often more: they come without bounds between them.
-    if engine.is_fixing()
+    // Where a literal was fixed just before there are often more: they come without the multipliers' bounds between them.
+    // Without a budget nobody counts the decisions that another bound would save, and taking one costs more than it saves.
+    if !is_counted
+        && engine.is_fixing()
         && let Some(lit) = fixed_literal(engine, best)
     {
         return (Pruning::Open, None, Some(lit));
     }
-    let (pruning, bound) = check_bound(engine, best, agreed);
+    let (pruning, bound) = check_rows(engine, best, agreed);
+    if pruning != Pruning::Closed
+        && engine.is_fixing()
+        && let Some(lit) = fixed_literal(engine, best)
+    {
+        return (pruning, bound, Some(lit));
+    }
+    let (pruning, bound) = check_multipliers(engine, best, agreed, pruning, bound);
     if pruning == Pruning::Closed {
         return (pruning, bound, None);
     }

@@ -23,7 +23,7 @@ pub struct Decided {
 
 /// The last decision, and by how much the bound of the multipliers above it may rise; none where they were not used there.
 pub fn last_decided<C: Count>(state: &SearchState<'_, C>, best: &Best<'_>) -> Option<Decided> {
-    // Below a literal that was fixed no bound is asked for, so the one above it is not known.
+    // Below a literal that was fixed the multipliers are not asked for a bound, so the one above it is not known.
     if state.engine.is_fixing() {
         return None;
     }

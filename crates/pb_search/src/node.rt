@@ -34,6 +34,7 @@ fn expand_node<C: Count, S: Share>(
     best: &mut Best<'_>,
     share: &mut S,
     agreed: &mut AgreedPrefix,
+    is_counted: bool,
 ) -> Option<Branch>
     requires state { IsStateOf best.old.problem state.old }
     requires sound { IsSoundTrail state.old.engine }
@@ -60,7 +61,7 @@ fn expand_node<C: Count, S: Share>(
     }
     // The bound is asked for after propagation alone: it counts what the trail forces, and a node that ends in a conflict
     // never pays for it.
-    let (pruning, bound, fixed) = judge_node(&mut state.engine, best, agreed);
+    let (pruning, bound, fixed) = judge_node(&mut state.engine, best, agreed, is_counted);
     let gap = gap_left(&state.engine, best, pruning);
     learn(&mut state.order, decided, gap);
     if pruning == Pruning::Closed {
@@ -87,6 +88,7 @@ fn next_branch<C: Count, S: Share>(
     best: &mut Best<'_>,
     share: &mut S,
     agreed: &mut AgreedPrefix,
+    is_counted: bool,
 ) -> Option<Branch>
     requires state { IsStateOf best.old.problem state.old }
     requires at_path { IsAtSomePath state.old.engine state.old.branches.items }
@@ -102,7 +104,7 @@ fn next_branch<C: Count, S: Share>(
     ensures constraints { SameConstraints state.old.engine state.new.engine }
     ensures known { KnowsHeldPrefix state.new.engine.trail best.new.held agreed.new }
 {
-    match expand_node(state, best, share, agreed) {
+    match expand_node(state, best, share, agreed, is_counted) {
         Some(branch) => Some(branch),
         None => backtrack(state, best, agreed),
     }
@@ -131,9 +133,10 @@ pub fn search_subtree<C: Count, S: Share>(
     ensures made_for { IsStateOf best.old.problem state.new }
     ensures constraints { SameConstraints state.old.engine state.new.engine }
 {
+    let is_counted = left.is_some();
     let mut decisions = 0;
     let mut agreed = AgreedPrefix::of(best);
-    while let Some(branch) = next_branch(state, best, share, &mut agreed) {
+    while let Some(branch) = next_branch(state, best, share, &mut agreed, is_counted) {
         if *left == Some(0) {
             return Outcome::Cut;
         }

@@ -1,6 +1,6 @@
 //! Whether a subtree may be left.
 
-ghost use Rattle.std.specs.Prelude.{◌≡◌, false, length, IsTrue, ◌⊎◌, true};
+ghost use Rattle.std.specs.Prelude.{◌≡◌, false, length, IsTrue, IfSome, ◌⊎◌, true};
 ghost use Rattle.pb_engine.specs.Completion.{IsLowerBound};
 ghost use Rattle.pb_search.specs.SearchState.{IsClosed, IsEngineOf, IsNotBefore};
 ghost use Rattle.pb_search.specs.AgreedPrefix.{KnowsPrefix, KnowsHeldPrefix};
@@ -22,7 +22,7 @@ pub enum Pruning {
     Closed,
 }
 
-/// What the bound says of the subtree below the trail, and the bound itself: none where none was taken.
+/// What the bounds say of the subtree below the trail, and the greatest of them that was taken: none where none was.
 pub fn check_bound<C: Count>(
     engine: &mut Engine<'_, C>,
     best: &Best<'_>,
@@ -34,15 +34,53 @@ pub fn check_bound<C: Count>(
     ensures unchanged { engine.new ≡ engine.old }
     ensures known { KnowsHeldPrefix engine.old.trail best.now.held agreed.new }
 {
+    let (pruning, bound) = check_rows(engine, best, agreed);
+    check_multipliers(engine, best, agreed, pruning, bound)
+}
+
+/// What the bound of disjoint rows says of the subtree below the trail, and that bound: none where nothing is held.
+pub fn check_rows<C: Count>(
+    engine: &mut Engine<'_, C>,
+    best: &Best<'_>,
+    agreed: &mut AgreedPrefix,
+) -> (Pruning, Option<Number>)
+    requires engine { IsEngineOf best.now.problem engine.old }
+    requires known { KnowsHeldPrefix engine.old.trail best.now.held agreed.old }
+    ensures closed { result.0 ≡ Pruning.Closed → IsClosed best.now.problem engine.old best.now.held }
+    ensures bound { IfSome result.1 (IsLowerBound engine.old.form engine.old.rows engine.old.trail) }
+    ensures unchanged { engine.new ≡ engine.old }
+    ensures known { KnowsHeldPrefix engine.old.trail best.now.held agreed.new }
+{
     // Where nothing is held there is nothing to compare a bound with, and taking one would go through rows for nothing:
     // the first descent to a solution costs propagation, and multipliers as far as they pay, which lead it to a cheap one.
     if best.cost().is_none() {
-        engine.adjust();
         return (Pruning::Open, None);
     }
-    // Of two lower bounds the greater one counts. That of disjoint rows is at hand sooner.
     let bound = engine.bound();
-    let pruning = judge_bound(engine, bound, best, agreed);
+    (judge_bound(engine, bound, best, agreed), Some(bound))
+}
+
+/// The same with the bound of the multipliers, after what that of disjoint rows said. Of two lower bounds the greater one
+/// counts; that of disjoint rows is at hand sooner.
+pub fn check_multipliers<C: Count>(
+    engine: &mut Engine<'_, C>,
+    best: &Best<'_>,
+    agreed: &mut AgreedPrefix,
+    pruning: Pruning,
+    bound: Option<Number>,
+) -> (Pruning, Option<Number>)
+    requires engine { IsEngineOf best.now.problem engine.old }
+    requires closed { pruning ≡ Pruning.Closed → IsClosed best.now.problem engine.old best.now.held }
+    requires bound { IfSome bound (IsLowerBound engine.old.form engine.old.rows engine.old.trail) }
+    requires known { KnowsHeldPrefix engine.old.trail best.now.held agreed.old }
+    ensures closed { result.0 ≡ Pruning.Closed → IsClosed best.now.problem engine.old best.now.held }
+    ensures unchanged { engine.new ≡ engine.old }
+    ensures known { KnowsHeldPrefix engine.old.trail best.now.held agreed.new }
+{
+    let Some(bound) = bound else {
+        engine.adjust();
+        return (pruning, None);
+    };
     if pruning == Pruning::Closed {
         return (pruning, Some(bound));
     }

@@ -2,7 +2,7 @@
 
 ghost use Rattle.std.specs.Prelude.{◌≡◌, ◌≤◌, length};
 
-use super::instances::{Row, cubes, instance, nothing, shown};
+use super::instances::{Row, assignment, cubes, instance, nothing, shown};
 use pb_cubes::Pieces;
 use pb_inst::{Best, Instance, Number, Relation};
 use pb_normal::normalise;
@@ -43,7 +43,28 @@ fn shown_runs(
     text
 }
 
-/// The same for a piece of the instance and the cubes, where nothing is held at first.
+/// The same for a piece of the instance and the cubes.
+fn runs_from(
+    rt: &impl Abort,
+    alloc: Global,
+    instance: &Instance,
+    lists: &[&[i32]],
+    piece: u32,
+    budgets: &[Option<u64>],
+    best: &mut Best<'_>,
+) -> String
+    requires { best.old.problem ≡ instance.now }
+{
+    let vars = instance.vars();
+    let pieces = Pieces::new(vars, cubes(rt, alloc, lists)).expect(rt, "pieces");
+    assert!(rt; pieces.vars() == vars);
+    assert!(rt; piece < pieces.len());
+    let normal = normalise(alloc, instance).expect(rt, "memory");
+    let mut search = Search::new(alloc, instance, &normal, &pieces).expect(rt, "memory");
+    shown_runs(rt, alloc, &mut search, piece, budgets, best)
+}
+
+/// The same where nothing is held at first.
 fn runs_of(
     rt: &impl Abort,
     alloc: Global,
@@ -52,14 +73,24 @@ fn runs_of(
     piece: u32,
     budgets: &[Option<u64>],
 ) -> String {
-    let vars = instance.vars();
-    let pieces = Pieces::new(vars, cubes(rt, alloc, lists)).expect(rt, "pieces");
-    assert!(rt; pieces.vars() == vars);
-    assert!(rt; piece < pieces.len());
-    let normal = normalise(alloc, instance).expect(rt, "memory");
     let mut best = nothing(rt, alloc, instance);
-    let mut search = Search::new(alloc, instance, &normal, &pieces).expect(rt, "memory");
-    shown_runs(rt, alloc, &mut search, piece, budgets, &mut best)
+    runs_from(rt, alloc, instance, lists, piece, budgets, &mut best)
+}
+
+/// The same for one run of the first piece, where the assignment that makes these variables alone true is held at first.
+fn run_after(
+    rt: &impl Abort,
+    alloc: Global,
+    instance: &Instance,
+    lists: &[&[i32]],
+    made_true: &[u32],
+    budget: u64,
+) -> String {
+    let held = assignment(rt, alloc, instance.vars(), made_true);
+    let mut best = nothing(rt, alloc, instance);
+    assert!(rt; best.take(&held));
+    let budgets = [Some(budget)];
+    runs_from(rt, alloc, instance, lists, 0, &budgets, &mut best)
 }
 
 /// A first value and a second one are a decision each. The literals of a cube are none.
@@ -100,6 +131,37 @@ fn second_values_wait_for_the_bound(rt: HostRuntime) {
     ];
     for (budget, want) in moves {
         let got = runs_of(&rt, alloc, &any, &[], 0, &[*budget]);
+        assert!(rt; got.as_str() == *want, "{got}");
+    }
+}
+
+/// What is held costs 0, so that one literal after the other is fixed, each by the 5 that its negation costs. Once x1 is true
+/// the bound is 0, and the trail with zeros elsewhere is what is held: none of the others is decided.
+#[test]
+fn fixed_literals_wait_for_the_tie(rt: HostRuntime) {
+    let alloc = rt.alloc();
+    let costs: &[(Number, i32)] = &[(5, -1), (5, 2), (5, 3)];
+    let rows: &[Row<'_>] = &[(&[(1, 1), (1, 2), (1, 3)], Relation::AtLeast, 1)];
+    let first_alone = instance(&rt, alloc, 3, costs, rows);
+    let moves: &[(u64, &str)] = &[(0, "Cut 0, 0: x1"), (1, "Whole 1, 0: x1")];
+    for (budget, want) in moves {
+        let got = run_after(&rt, alloc, &first_alone, &[], &[1], *budget);
+        assert!(rt; got.as_str() == *want, "{got}");
+    }
+}
+
+/// What is held costs 7. Below x1 the 9 that the other values cost fix x2 and then the negation of x3. At first the row has a
+/// bound of 4, by one of x4, x5 and x6. With x2 it takes two of them for 8, though the multipliers see no more than one and
+/// a half of them for 6: x3 is not decided.
+#[test]
+fn fixed_literals_wait_for_the_bound(rt: HostRuntime) {
+    let alloc = rt.alloc();
+    let costs: &[(Number, i32)] = &[(7, -1), (9, -2), (9, 3), (4, 4), (4, 5), (4, 6)];
+    let sum: &[(Number, i32)] = &[(3, -1), (3, -2), (2, 4), (2, 5), (2, 6)];
+    let two_of_three = instance(&rt, alloc, 6, costs, &[(sum, Relation::AtLeast, 3)]);
+    let moves: &[(u64, &str)] = &[(0, "Cut 0, 7: x2"), (1, "Whole 1, 7: x2")];
+    for (budget, want) in moves {
+        let got = run_after(&rt, alloc, &two_of_three, &[&[1]], &[2], *budget);
         assert!(rt; got.as_str() == *want, "{got}");
     }
 }
