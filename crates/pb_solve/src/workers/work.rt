@@ -1,8 +1,8 @@
 //! The whole work of one worker.
-ghost use Rattle.std.specs.Prelude.{◌≡◌, ◌<◌, ◌≤◌, ◌⊎◌, ◌+◌, ◌^◌, ◌++◌, ◌∷◌, [], length, All, IfOk, IfSome, IfNone, vec_capacity};
+ghost use Rattle.std.specs.Prelude.{◌≡◌, ◌<◌, ◌≤◌, ◌⊎◌, ◌+◌, ◌^◌, ◌++◌, ◌∷◌, [], length, All, IfOk, IfSome, IfNone};
 ghost use Rattle.pb_normal.specs.NormalForm.{KeepsCost, KeepsFeasible};
 ghost use Rattle.pb_search.specs.Done.{IsDone};
-ghost use Rattle.pb_solve.specs.Claims.{AreDealt, EndsPast, IsWholeWork, NamesOneMore, pieces_among};
+ghost use Rattle.pb_solve.specs.Claims.{AreDealt, EndsPast, IsWholeWork, pieces_among};
 ghost use Rattle.std.specs.Option.{option_map};
 ghost use Rattle.pb_solve.specs.Parts.{AreCounted};
 ghost use Rattle.pb_share.specs.Sharing.{SameSeat};
@@ -14,7 +14,7 @@ use pb_board::{Board, Seat};
 use pb_cubes::Pieces;
 use pb_inst::{Best, Instance, Memory};
 use pb_normal::Normal;
-use pb_search::{Outcome, Search, SearchTables};
+use pb_search::{Search, SearchTables};
 use pb_share::BoardShare;
 use std::alloc::Global;
 

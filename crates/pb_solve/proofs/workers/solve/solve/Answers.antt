@@ -9,6 +9,16 @@ use Rattle.pb_solve.proofs.ClaimLaws.{all_named, answer_of_parts, each_named}
 use Rattle.pb_solve.proofs.CutLaws.{none_cut_of_all, none_cut_told}
 use Rattle.pb_solve.proofs.workers.solve.solve.Goals as goal
 
+pub returns-clause-parts : goal.returns-clause-parts
+returns-clause-parts g c =
+    let lent = c.new-crew.ensures.lent in (
+      c.in_ok-parts.parts.items,
+      answer_of_parts c.args.inst.now c.new-crew.result.inst.now c.args.pieces.now c.new-crew.result.pieces.now c.new-crew.result.nodes c.in_ok-parts.parts.items c.deref.result.now c.in_ok-parts.seat.claimed c.close.result.claims c.in_ok-best.best.held c.gather-cut.new.into.held c.gather-cut.result
+          lent.0 lent.1 c.in_ok-parts.ensures.whole c.close.ensures.count c.close.ensures.numbers c.deref.ensures.value (ap (λ (b : Incumbent). b.held) c.in_ok-best.ensures)
+          c.gather-cut.ensures.done c.gather-cut.ensures.first c.gather-cut.ensures.cut,
+      subst (λ (n : Option ℕ). IfSome n (λ budget. All (KeepsBudget budget) c.in_ok-parts.parts.items)) lent.3 c.in_ok-parts.ensures.whole.budget,
+    )
+
 pub returns-clause-least : goal.returns-clause-least
 returns-clause-least g c = λ uncut.
     let parts : List PartView = c.in_ok-parts.parts.items in
@@ -25,13 +35,3 @@ returns-clause-no_budget g c =
     let parts : List PartView = c.in_ok-parts.parts.items in
     none_cut_of_all c.args.nodes parts c.gather-cut.result (subst (λ (n : Option ℕ). IfNone n (All (λ (x : PartView). x.cut ≡ []) parts)) c.new-crew.ensures.lent.3 c.in_ok-parts.ensures.whole.uncut)
     (subst (λ (ps : List PartView). IsTrue c.gather-cut.result → Any (λ (x : PartView). x.cut ≢ []) ps) c.deref.ensures.value c.gather-cut.ensures.cut.0)
-
-pub returns-clause-parts : goal.returns-clause-parts
-returns-clause-parts g c =
-    let lent = c.new-crew.ensures.lent in (
-      c.in_ok-parts.parts.items,
-      answer_of_parts c.args.inst.now c.new-crew.result.inst.now c.args.pieces.now c.new-crew.result.pieces.now c.new-crew.result.nodes c.in_ok-parts.parts.items c.deref.result.now c.in_ok-parts.seat.claimed c.close.result.claims c.in_ok-best.best.held c.gather-cut.new.into.held c.gather-cut.result
-          lent.0 lent.1 c.in_ok-parts.ensures.whole c.close.ensures.count c.close.ensures.numbers c.deref.ensures.value (ap (λ (b : Incumbent). b.held) c.in_ok-best.ensures)
-          c.gather-cut.ensures.done c.gather-cut.ensures.first c.gather-cut.ensures.cut,
-      subst (λ (n : Option ℕ). IfSome n (λ budget. All (KeepsBudget budget) c.in_ok-parts.parts.items)) lent.3 c.in_ok-parts.ensures.whole.budget,
-    )
