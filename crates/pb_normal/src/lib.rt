@@ -4,6 +4,7 @@
 mod forms;
 mod laws;
 mod merging;
+mod positive_terms;
 mod rows;
 mod terms;
 mod unbuilt;
@@ -12,6 +13,7 @@ mod widths;
 pub use forms::{Form, form_of};
 pub use laws::normal_form_laws;
 use pb_inst::MAX_TERMS;
+pub use positive_terms::PositiveTerms;
 pub use terms::{FormTerm, PositiveTerm, total_of};
 pub use unbuilt::Unbuilt;
 pub use widths::{EitherWidth, Normal, normalise};

@@ -1,13 +1,14 @@
 //! The normal form of an instance, at the width that its sums need.
 
-ghost use Rattle.std.specs.Prelude.{◌≡◌, length, IfOk};
+ghost use Rattle.std.specs.Prelude.{◌≡◌, ◌<◌, length, slice_get, IsSomeAnd, IfOk};
 ghost use Rattle.pb_normal.specs.Exact.{IsNormalFormOf};
 ghost use Rattle.pb_normal.specs.NormalForm.{KeepsFeasible, KeepsCost, IsNormal};
 ghost use Rattle.pb_normal.specs.Widths.{lent};
 
 use crate::forms::{Form, form_of};
+use crate::positive_terms::PositiveTerms;
 use crate::unbuilt::Unbuilt;
-use pb_inst::{Instance, Memory, Number};
+use pb_inst::{Instance, Magnitude, Memory, Number};
 use std::alloc::{AllocError, Global};
 use std::marker::Model;
 
@@ -76,6 +77,28 @@ impl Normal {
         }
     }
 
+    /// The terms of row i, from 0, by rising variable: coefficients of 1 up to the degree. There may be none.
+    pub fn terms(&self, i: usize) -> PositiveTerms<'_>
+        requires { i < length self.now.rows }
+        ensures { IsSomeAnd (slice_get self.now.rows i) (λ row. row.terms ≡ result) }
+    {
+        match &self.form {
+            EitherWidth::Narrow(form) => PositiveTerms::narrow(form.terms(i)),
+            EitherWidth::Wide(form) => PositiveTerms::wide(form.terms(i)),
+        }
+    }
+
+    /// What the terms of row i, from 0, must add up to: at least 1, and at most `SUM_BOUND`.
+    pub fn degree(&self, i: usize) -> Magnitude
+        requires { i < length self.now.rows }
+        ensures { IsSomeAnd (slice_get self.now.rows i) (λ row. row.degree ≡ result) }
+    {
+        match &self.form {
+            EitherWidth::Narrow(form) => form.degree(i).number(),
+            EitherWidth::Wide(form) => form.degree(i).number(),
+        }
+    }
+
     /// The cost where no literal of the objective is true. Without regard to the constraints it is the least cost.
     pub fn base(&self) -> Number
         ensures value { result ≡ self.now.base }
@@ -84,6 +107,17 @@ impl Normal {
         match &self.form {
             EitherWidth::Narrow(form) => form.base(),
             EitherWidth::Wide(form) => form.base(),
+        }
+    }
+
+    /// The terms that the cost adds to the base, by rising variable. The base and all of them are at most `SUM_BOUND`.
+    pub fn objective(&self) -> PositiveTerms<'_>
+        ensures value { result ≡ self.now.objective }
+        ensures normal { IsNormal self.now }
+    {
+        match &self.form {
+            EitherWidth::Narrow(form) => PositiveTerms::narrow(form.objective()),
+            EitherWidth::Wide(form) => PositiveTerms::wide(form.objective()),
         }
     }
 }

@@ -4,7 +4,7 @@ use super::texts::instance_of;
 use super::written::is_literal;
 use pb_count::Count;
 use pb_inst::{Instance, Magnitude, Number};
-use pb_normal::{EitherWidth, Form, FormTerm, Normal, normalise};
+use pb_normal::{EitherWidth, Form, FormTerm, Normal, PositiveTerms, normalise};
 use std::alloc::Global;
 use std::process::Abort;
 
@@ -203,12 +203,47 @@ fn is_case<C: Count>(form: &Form<C>, case: &Case) -> bool {
     form.base() == case.base && are(form.objective(), case.objective) && has_rows(form, case.rows)
 }
 
-/// Whether the form has the width, the cost and the rows of the case.
-fn is_normal_form(normal: &Normal, case: &Case) -> bool {
+/// Whether the form at its width has the width, the cost and the rows of the case.
+fn is_case_at_width(normal: &Normal, case: &Case) -> bool {
     match normal.form() {
         EitherWidth::Narrow(form) => case.width == Width::Of64Bits && is_case(form, case),
         EitherWidth::Wide(form) => case.width == Width::Of128Bits && is_case(form, case),
     }
+}
+
+/// Whether these are the terms, read without regard to their width.
+fn read_alike(terms: &PositiveTerms<'_>, expected: &[(Magnitude, i32)]) -> bool {
+    if terms.len() != expected.len() || terms.is_empty() != expected.is_empty() {
+        return false;
+    }
+    for i in 0..terms.len() {
+        let (term, (coef, literal)) = (terms.get(i), expected[i]);
+        if term.coef != coef || !is_literal(term.lit, literal) {
+            return false;
+        }
+    }
+    true
+}
+
+fn has_rows_alike(normal: &Normal, rows: &[(Magnitude, Terms)]) -> bool {
+    if normal.len() != rows.len() {
+        return false;
+    }
+    for i in 0..normal.len() {
+        let (degree, terms) = rows[i];
+        if normal.degree(i) != degree || !read_alike(&normal.terms(i), terms) {
+            return false;
+        }
+    }
+    true
+}
+
+/// Whether the form has the width, the cost and the rows of the case, by the calls of its width and by those of any.
+fn is_normal_form(normal: &Normal, case: &Case) -> bool {
+    is_case_at_width(normal, case)
+        && normal.base() == case.base
+        && read_alike(&normal.objective(), case.objective)
+        && has_rows_alike(normal, case.rows)
 }
 
 fn normal_form(rt: &impl Abort, alloc: Global, instance: &Instance) -> Normal {
