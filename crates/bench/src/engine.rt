@@ -5,7 +5,7 @@
 use crate::instances;
 use crate::rounds::{self, Counts, Course};
 use anyhow::Context;
-use pb_engine::{Count, Engine};
+use pb_engine::{Count, EngineAt};
 use pb_inst::{Instance, Memory};
 use pb_normal::{EitherWidth, Form, Normal, normalise};
 use std::alloc::Global;
@@ -54,7 +54,7 @@ fn run_rounds<C: Count>(
     course: Course,
     rounds: u32,
 ) -> Result<Measured, Memory> {
-    let mut engine = Engine::new(rt.alloc(), form, &[])?;
+    let mut engine = EngineAt::new(rt.alloc(), form, &[])?;
     let built = start.elapsed(rt);
     Ok((built, rounds::run(&mut engine, course, rounds)))
 }

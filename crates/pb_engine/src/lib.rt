@@ -2,12 +2,12 @@
 #![tactic(auto)]
 
 mod bound;
-mod engine;
+mod engine_at;
 mod extras;
 mod laws;
 mod needs;
 
-pub use engine::Engine;
+pub use engine_at::EngineAt;
 pub use laws::clause_laws;
 pub use pb_count::Count;
 pub use pb_rows::{Clauses, MAX_CLAUSES, RowTerms, Rows};

@@ -12,12 +12,12 @@ use crate::agreed_prefix::AgreedPrefix;
 use crate::branch::Branch;
 use crate::pruning::is_spent;
 use crate::search_state::SearchState;
-use pb_engine::{Count, Engine};
+use pb_engine::{Count, EngineAt};
 use pb_inst::Best;
 
 /// Takes back the last decision, and gives it; none where there is none.
 fn undo_decision<C: Count>(
-    engine: &mut Engine<'_, C>,
+    engine: &mut EngineAt<'_, C>,
     path: &mut Vec<Branch>,
     best: &Best<'_>,
     agreed: &mut AgreedPrefix,

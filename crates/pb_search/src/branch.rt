@@ -6,7 +6,7 @@ ghost use Rattle.pb_search.specs.Solutions.{SameConstraints};
 ghost use Rattle.pb_search.specs.SearchState.{IsAtPath, IsAtSomePath, IsFree};
 ghost use Rattle.pb_search.specs.Budget.{one_more};
 
-use pb_engine::{Count, Engine};
+use pb_engine::{Count, EngineAt};
 use pb_inst::{Lit, Number};
 
 /// A decision of the search.
@@ -43,7 +43,7 @@ impl Hints {
 
 /// Adds a decision to the path, assumes its literal, and takes one off what is left of the budget.
 pub fn decide<C: Count>(
-    engine: &mut Engine<'_, C>,
+    engine: &mut EngineAt<'_, C>,
     path: &mut Vec<Branch>,
     branch: Branch,
     left: &mut Option<u64>,

@@ -7,7 +7,7 @@ ghost use Rattle.pb_engine.specs.Soundness.{IsFull};
 
 use crate::branch::{Branch, Hints};
 use crate::pruning::Pruning;
-use pb_engine::{Count, Engine};
+use pb_engine::{Count, EngineAt};
 use pb_inst::{Lit, Number};
 use pb_order::Order;
 
@@ -15,7 +15,7 @@ use pb_order::Order;
 /// bound equals the best cost, the lowest variable up to the first difference to the best assignment comes first, 0
 /// first, so that the order of assignments soon decides; else the literals come in their order.
 pub fn next_decision<C: Count>(
-    engine: &Engine<'_, C>,
+    engine: &EngineAt<'_, C>,
     vars: u32,
     order: &mut Order,
     hints: Hints,
@@ -64,7 +64,7 @@ fn decision(lit: Lit, bound: Option<Number>, hints: Hints) -> Branch
 
 /// The first literal of the order whose variable has no value. Those before it are passed over until the search steps back.
 fn ordered_decision<C: Count>(
-    engine: &Engine<'_, C>,
+    engine: &EngineAt<'_, C>,
     vars: u32,
     order: &mut Order,
     hints: Hints,
@@ -91,7 +91,7 @@ fn ordered_decision<C: Count>(
 }
 
 /// Whether the literal's variable is one of the engine's and has no value.
-fn is_free<C: Count>(engine: &Engine<'_, C>, vars: u32, lit: Lit) -> bool
+fn is_free<C: Count>(engine: &EngineAt<'_, C>, vars: u32, lit: Lit) -> bool
     requires variables { vars ≡ engine.now.vars }
     ensures { IsTrue result → (lit.var ≤ vars) × (value_on engine.now.trail lit.var ≡ None) }
 {
@@ -102,7 +102,7 @@ fn is_free<C: Count>(engine: &Engine<'_, C>, vars: u32, lit: Lit) -> bool
 }
 
 /// The negated lowest variable without a value among the first `count`, or none where each of them has one.
-fn lowest_free<C: Count>(engine: &Engine<'_, C>, count: u32) -> Option<Lit>
+fn lowest_free<C: Count>(engine: &EngineAt<'_, C>, count: u32) -> Option<Lit>
     requires variables { count ≤ engine.now.vars }
     requires few { count ≤ MAX_VARS }
     ensures free { IfSome result (λ l. (l.var ≤ count) × (value_on engine.now.trail l.var ≡ None)) }
@@ -117,7 +117,7 @@ fn lowest_free<C: Count>(engine: &Engine<'_, C>, count: u32) -> Option<Lit>
 
 /// How many variables come before the first one, after the first `from`, that has no value; where none of the first `end`
 /// is without one, `end` or `from`.
-fn settled_from<C: Count>(engine: &Engine<'_, C>, from: u32, end: u32) -> u32
+fn settled_from<C: Count>(engine: &EngineAt<'_, C>, from: u32, end: u32) -> u32
     requires variables { end ≤ engine.now.vars }
     ensures free { result < end → value_on engine.now.trail (result + 1) ≡ None }
     ensures settled { (k : ℕ) → from ≤ k → k < result → value_on engine.now.trail (k + 1) ≢ None }

@@ -7,13 +7,13 @@ ghost use Rattle.pb_search.specs.AgreedPrefix.{KnowsHeldPrefix};
 use crate::agreed_prefix::AgreedPrefix;
 use crate::branch::{Branch, Hints};
 use crate::pruning::{Pruning, check_multipliers, check_rows};
-use pb_engine::{Count, Engine};
+use pb_engine::{Count, EngineAt};
 use pb_inst::{Best, Lit, Number};
 
 /// What the bound says of the subtree below the trail, the bound itself, and a literal without a value whose negation has
 /// nothing to give: none where none is known. Where decisions are counted the bound of disjoint rows is compared in each call.
 pub fn judge_node<C: Count>(
-    engine: &mut Engine<'_, C>,
+    engine: &mut EngineAt<'_, C>,
     best: &Best<'_>,
     agreed: &mut AgreedPrefix,
     is_counted: bool,
@@ -49,7 +49,7 @@ pub fn judge_node<C: Count>(
 }
 
 /// A literal without a value whose negation costs too much to come before the best assignment, or none.
-fn fixed_literal<C: Count>(engine: &mut Engine<'_, C>, best: &Best<'_>) -> Option<Lit>
+fn fixed_literal<C: Count>(engine: &mut EngineAt<'_, C>, best: &Best<'_>) -> Option<Lit>
     requires engine { IsEngineOf best.now.problem engine.old }
     ensures fixed { IfSome result (IsOpenOnOneSide best.now.problem engine.old best.now.held) }
     ensures unchanged { engine.new ≡ engine.old }

@@ -11,11 +11,11 @@ ghost use Rattle.pb_search.specs.SearchState.{IsFilledFrom, IsClosed, IsEngineOf
 
 use crate::Share;
 use crate::agreed_prefix::AgreedPrefix;
-use pb_engine::{Count, Engine};
+use pb_engine::{Count, EngineAt};
 use pb_inst::{Assignment, Best, Number, SUM_BOUND};
 
 /// Writes the trail into the assignment, with 0 for every other variable.
-fn fill<C: Count>(engine: &Engine<'_, C>, into: &mut Assignment)
+fn fill<C: Count>(engine: &EngineAt<'_, C>, into: &mut Assignment)
     requires { length into.old ≡ engine.now.vars }
     ensures same_length { length into.new ≡ length into.old }
     ensures filled { IsFilledFrom engine.now.trail into.new }
@@ -28,7 +28,7 @@ fn fill<C: Count>(engine: &Engine<'_, C>, into: &mut Assignment)
 
 /// At a full trail that meets all constraints: hands its assignment to the incumbent, and an improvement to the share.
 pub fn take_leaf<C: Count, S: Share>(
-    engine: &Engine<'_, C>,
+    engine: &EngineAt<'_, C>,
     candidate: &mut Assignment,
     best: &mut Best<'_>,
     share: &mut S,

@@ -3,12 +3,12 @@
 
 use crate::pruning::Pruning;
 use crate::search_state::SearchState;
-use pb_engine::{Count, Engine};
+use pb_engine::{Count, EngineAt};
 use pb_inst::{Best, Lit};
 use pb_order::{Gain, Order};
 
 /// Learns from the row at which the engine found a conflict.
-pub fn learn_conflict<C: Count>(order: &mut Order, engine: &Engine<'_, C>) {
+pub fn learn_conflict<C: Count>(order: &mut Order, engine: &EngineAt<'_, C>) {
     if let Some(row) = engine.conflict_row() {
         order.bump_conflict(engine.row_terms(row));
     }
@@ -37,7 +37,7 @@ pub fn last_decided<C: Count>(state: &SearchState<'_, C>, best: &Best<'_>) -> Op
 
 /// By how much the bound of the multipliers may still rise at a node that was judged.
 pub fn gap_left<C: Count>(
-    engine: &Engine<'_, C>,
+    engine: &EngineAt<'_, C>,
     best: &Best<'_>,
     pruning: Pruning,
 ) -> Option<Gain> {

@@ -7,7 +7,7 @@ ghost use Rattle.pb_search.specs.AgreedPrefix.{KnowsPrefix, KnowsHeldPrefix};
 
 use crate::agreed_prefix::AgreedPrefix;
 use crate::branch::Branch;
-use pb_engine::{Count, Engine};
+use pb_engine::{Count, EngineAt};
 use pb_inst::{Assignment, Best, Number};
 
 /// What the bound says of a subtree.
@@ -24,7 +24,7 @@ pub enum Pruning {
 
 /// What the bounds say of the subtree below the trail, and the greatest of them that was taken: none where none was.
 pub fn check_bound<C: Count>(
-    engine: &mut Engine<'_, C>,
+    engine: &mut EngineAt<'_, C>,
     best: &Best<'_>,
     agreed: &mut AgreedPrefix,
 ) -> (Pruning, Option<Number>)
@@ -40,7 +40,7 @@ pub fn check_bound<C: Count>(
 
 /// What the bound of disjoint rows says of the subtree below the trail, and that bound: none where nothing is held.
 pub fn check_rows<C: Count>(
-    engine: &mut Engine<'_, C>,
+    engine: &mut EngineAt<'_, C>,
     best: &Best<'_>,
     agreed: &mut AgreedPrefix,
 ) -> (Pruning, Option<Number>)
@@ -63,7 +63,7 @@ pub fn check_rows<C: Count>(
 /// The same with the bound of the multipliers, after what that of disjoint rows said. Of two lower bounds the greater one
 /// counts; that of disjoint rows is at hand sooner.
 pub fn check_multipliers<C: Count>(
-    engine: &mut Engine<'_, C>,
+    engine: &mut EngineAt<'_, C>,
     best: &Best<'_>,
     agreed: &mut AgreedPrefix,
     pruning: Pruning,
@@ -94,7 +94,7 @@ pub fn check_multipliers<C: Count>(
 
 /// The least bound that closes the subtree: the best cost where the order of assignments closes it at a tie, else more.
 fn closing_bound<C: Count>(
-    engine: &Engine<'_, C>,
+    engine: &EngineAt<'_, C>,
     best: &Best<'_>,
     agreed: &mut AgreedPrefix,
 ) -> Number
@@ -116,7 +116,7 @@ fn closing_bound<C: Count>(
 
 /// Compares a bound of the trail's completions with the best cost. Where they are equal the order of assignments decides.
 fn judge_bound<C: Count>(
-    engine: &Engine<'_, C>,
+    engine: &EngineAt<'_, C>,
     bound: Number,
     best: &Best<'_>,
     agreed: &mut AgreedPrefix,
@@ -145,7 +145,7 @@ fn judge_bound<C: Count>(
 /// The same where the bound equals the cost of this assignment. Of assignments of one cost the lexicographically first is
 /// wanted, so that the answer is a function of the instance alone.
 fn judge_tie<C: Count>(
-    engine: &Engine<'_, C>,
+    engine: &EngineAt<'_, C>,
     held: &Assignment,
     agreed: &mut AgreedPrefix,
 ) -> Pruning
@@ -172,7 +172,7 @@ fn judge_tie<C: Count>(
 /// Whether nothing is left to try at a branch whose decision was taken back: both values were tried, or by now no
 /// completion of the trail before it comes before the best assignment.
 pub fn is_spent<C: Count>(
-    engine: &mut Engine<'_, C>,
+    engine: &mut EngineAt<'_, C>,
     branch: &Branch,
     best: &Best<'_>,
     agreed: &mut AgreedPrefix,
@@ -204,7 +204,7 @@ pub fn is_spent<C: Count>(
 /// Whether the best assignment was found below the trail, where nothing was held before, and another one of its cost may
 /// come before it.
 fn is_tied_below<C: Count>(
-    engine: &Engine<'_, C>,
+    engine: &EngineAt<'_, C>,
     best: &Best<'_>,
     agreed: &mut AgreedPrefix,
 ) -> bool

@@ -7,11 +7,11 @@ ghost use Rattle.pb_engine.specs.Trail.{value_on};
 ghost use Rattle.pb_engine.specs.Soundness.{assumptions, IsSoundTrail};
 ghost use Rattle.pb_search.specs.Solutions.{SameConstraints, Satisfies};
 
-use pb_engine::{Count, Engine, Step};
+use pb_engine::{Count, EngineAt, Step};
 use pb_inst::Lit;
 
 /// Assumes a literal that is not on the trail yet. A conflict means that it cannot be true with the other assumptions.
-fn assume_literal<C: Count>(engine: &mut Engine<'_, C>, lit: Lit) -> Step
+fn assume_literal<C: Count>(engine: &mut EngineAt<'_, C>, lit: Lit) -> Step
     requires variable { lit.var ≤ engine.old.vars }
     requires no_conflict { engine.old.conflict ≡ false }
     ensures constraints { SameConstraints engine.old engine.new }
@@ -36,7 +36,7 @@ fn assume_literal<C: Count>(engine: &mut Engine<'_, C>, lit: Lit) -> Step
 }
 
 /// Assumes a literal without a value. No conflict comes of it before something is propagated.
-fn assume_free<C: Count>(engine: &mut Engine<'_, C>, lit: Lit)
+fn assume_free<C: Count>(engine: &mut EngineAt<'_, C>, lit: Lit)
     requires variable { lit.var ≤ engine.old.vars }
     requires no_value { value_on engine.old.trail lit.var ≡ None }
     requires no_conflict { engine.old.conflict ≡ false }
@@ -51,7 +51,7 @@ fn assume_free<C: Count>(engine: &mut Engine<'_, C>, lit: Lit)
 
 /// Takes back all assumptions, and adds what follows without any. A conflict means that no assignment meets the
 /// constraints; it stands from then on, so that it is found but once.
-pub fn return_to_root<C: Count>(engine: &mut Engine<'_, C>) -> Step
+pub fn return_to_root<C: Count>(engine: &mut EngineAt<'_, C>) -> Step
     ensures constraints { SameConstraints engine.old engine.new }
     ensures sound { IsSoundTrail engine.new }
     ensures no_assumptions { result ≡ Step.Fixed → assumptions engine.new ≡ [] }
@@ -66,7 +66,7 @@ pub fn return_to_root<C: Count>(engine: &mut Engine<'_, C>) -> Step
 }
 
 /// Whether a conflict stands that follows from no assumption.
-fn is_refuted<C: Count>(engine: &Engine<'_, C>) -> bool
+fn is_refuted<C: Count>(engine: &EngineAt<'_, C>) -> bool
     ensures refuted { result ≡ true → (a : List Bool) → ¬ Satisfies engine.now a }
     ensures sound { IsSoundTrail engine.now }
 {
@@ -77,7 +77,7 @@ fn is_refuted<C: Count>(engine: &Engine<'_, C>) -> bool
 }
 
 /// Assumes the literals of a cube. A conflict means that no assignment that meets the constraints makes the cube true.
-pub fn assume_cube<C: Count>(engine: &mut Engine<'_, C>, cube: &[Lit]) -> Step
+pub fn assume_cube<C: Count>(engine: &mut EngineAt<'_, C>, cube: &[Lit]) -> Step
     requires sound { IsSoundTrail engine.old }
     requires no_assumptions { assumptions engine.old ≡ [] }
     requires no_conflict { engine.old.conflict ≡ false }

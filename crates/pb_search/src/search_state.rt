@@ -6,7 +6,7 @@ ghost use Rattle.pb_engine.specs.Tables.{AreBeside};
 ghost use Rattle.pb_search.specs.Layout.{IsMade};
 
 use crate::branch::{Branch, Hints};
-use pb_engine::{Clauses, Count, Engine, Rows};
+use pb_engine::{Clauses, Count, EngineAt, Rows};
 use pb_inst::{Assignment, Cube, Memory};
 use pb_normal::Form;
 use pb_order::Order;
@@ -14,7 +14,7 @@ use std::alloc::Global;
 
 /// An engine, the decisions on its trail, room for one assignment, and the order in which variables are decided.
 pub struct SearchState<'a, C: Count> {
-    pub engine: Engine<'a, C>,
+    pub engine: EngineAt<'a, C>,
     pub branches: Vec<Branch>,
     pub candidate: Assignment,
     pub order: Order,
@@ -45,7 +45,7 @@ impl<'a, C: Count> SearchState<'a, C> {
     {
         // The engine comes last: an early return past it would let go of it field by field, and cost a minute to prove.
         let (branches, candidate, order) = make_room(alloc, form, negated)?;
-        let engine = Engine::new(alloc, form, negated)?;
+        let engine = EngineAt::new(alloc, form, negated)?;
         Ok(SearchState {
             engine,
             branches,
@@ -69,7 +69,7 @@ impl<'a, C: Count> SearchState<'a, C> {
         ensures room { IfOk result (λ t. rows.now.form.vars ≤ vec_capacity t.branches) }
     {
         let (branches, candidate, order) = make_room(alloc, rows.form(), negated)?;
-        let engine = Engine::over(alloc, rows, clauses)?;
+        let engine = EngineAt::over(alloc, rows, clauses)?;
         Ok(SearchState {
             engine,
             branches,

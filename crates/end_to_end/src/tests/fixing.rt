@@ -1,6 +1,6 @@
 //! Which literals an engine fixes. No answer rests on it: what is fixed saves decisions.
 
-use pb_engine::{Count, Engine};
+use pb_engine::{Count, EngineAt};
 use pb_inst::{Lit, Memory, Number};
 use pb_normal::{EitherWidth, Form, normalise};
 use pb_read::read_opb;
@@ -17,7 +17,7 @@ fn first_fixed<C: Count>(
     form: &Form<C>,
 ) -> Result<[Option<(u32, bool)>; 2], Memory> {
     let shown = |lit: Option<Lit>| lit.map(|lit| (lit.var(), lit.positive()));
-    let mut engine = Engine::new(alloc, form, &[])?;
+    let mut engine = EngineAt::new(alloc, form, &[])?;
     let bound = engine.bound();
     engine.relaxed_bound(bound, Number::MAX);
     Ok([

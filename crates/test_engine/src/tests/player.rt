@@ -2,7 +2,7 @@
 
 use super::forms::{are_within, is_lit, lit};
 use pb_count::Count;
-use pb_engine::{Engine, MAX_CLAUSES, RowTerms, Step};
+use pb_engine::{EngineAt, MAX_CLAUSES, RowTerms, Step};
 use pb_inst::{Cube, Lit, Magnitude, Number};
 use pb_normal::Form;
 use pb_rows::TablesSource;
@@ -13,7 +13,7 @@ use std::process::Abort;
 /// An engine and, beside it, a propagator over the same rows. What is done is done with both, and both must say the same. The
 /// propagator lends what an engine keeps to itself: its rows, and the counters of their slacks.
 pub struct Player<'a, C: Count = u64> {
-    engine: Engine<'a, C>,
+    engine: EngineAt<'a, C>,
     propagator: Propagator<'a, C>,
 }
 
@@ -40,7 +40,7 @@ impl<'a, C: Count> Player<'a, C> {
         let source = TablesSource::new(alloc, form, cubes).expect(rt, "memory");
         Player {
             propagator: Propagator::new(alloc, source).expect(rt, "memory"),
-            engine: Engine::new(alloc, form, cubes).expect(rt, "memory"),
+            engine: EngineAt::new(alloc, form, cubes).expect(rt, "memory"),
         }
     }
 

@@ -9,7 +9,7 @@ use Rattle.pb_trail.specs.EngineState.{EngineState}
 use Rattle.pb_trail.specs.Tracked.{Tracked}
 use Rattle.pb_lagrange.specs.Multipliers.{IsBelowCosts}
 use Rattle.pb_engine.proofs.RelaxedLemmas.{raised-bound}
-use Rattle.pb_engine.proofs.engine.Engine.relaxed_bound.Goals as goal
+use Rattle.pb_engine.proofs.engine_at.EngineAt.relaxed_bound.Goals as goal
 
 pub returns-clause-bound : goal.returns-clause-bound
 returns-clause-bound g c =

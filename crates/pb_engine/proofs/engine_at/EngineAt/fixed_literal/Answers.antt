@@ -8,7 +8,7 @@ use Rattle.pb_trail.specs.EngineState.{EngineState}
 use Rattle.pb_trail.specs.Tracked.{Tracked}
 use Rattle.pb_lagrange.specs.Multipliers.{IsFixed}
 use Rattle.pb_engine.proofs.RelaxedLemmas.{if-fixed-in}
-use Rattle.pb_engine.proofs.engine.Engine.fixed_literal.Goals as goal
+use Rattle.pb_engine.proofs.engine_at.EngineAt.fixed_literal.Goals as goal
 
 pub returns-clause-fixed : goal.returns-clause-fixed
 returns-clause-fixed g c =

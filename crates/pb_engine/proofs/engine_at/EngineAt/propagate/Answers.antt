@@ -6,7 +6,7 @@ use Rattle.pb_trail.specs.EngineState.{EngineState, is_conflict}
 use Rattle.pb_lagrange.specs.Relaxation.{IsBeside}
 use Rattle.pb_engine.proofs.RelaxedLemmas.{beside-if-forced}
 use Rattle.pb_engine.proofs.BesideLemmas.{HasCounters-propagated}
-use Rattle.pb_engine.proofs.engine.Engine.propagate.Goals as goal
+use Rattle.pb_engine.proofs.engine_at.EngineAt.propagate.Goals as goal
 
 pub invariant_of-self : goal.invariant_of-self
 invariant_of-self g c =

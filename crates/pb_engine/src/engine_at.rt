@@ -29,7 +29,7 @@ use std::marker::Model;
 
 /// Rows, a trail over their variables with some literals assumed, and whether a conflict stands. It counts in numbers of
 /// type `C`, the width of its normal form.
-pub struct Engine<'a, C: Count = u64> {
+pub struct EngineAt<'a, C: Count = u64> {
     propagator: Propagator<'a, C>,
     needs: Needs<C>,
     marks: Marks,
@@ -38,9 +38,9 @@ pub struct Engine<'a, C: Count = u64> {
 }
 
 // By hand, so that whoever lets go of an engine sees one call, and not each of its parts.
-impl<C: Count> Drop for Engine<'_, C> {
+impl<C: Count> Drop for EngineAt<'_, C> {
     fn drop(self) {
-        let Engine {
+        let EngineAt {
             propagator: _,
             needs: _,
             marks: _,
@@ -49,7 +49,7 @@ impl<C: Count> Drop for Engine<'_, C> {
     }
 }
 
-impl<'a, C: Count> Model for Engine<'a, C> {
+impl<'a, C: Count> Model for EngineAt<'a, C> {
     ghost use Rattle.std.specs.Prelude.{IfSome};
     ghost use Rattle.pb_trail.specs.EngineState.{EngineState};
     ghost use Rattle.pb_lagrange.specs.Relaxation.{IsBeside};
@@ -62,7 +62,7 @@ impl<'a, C: Count> Model for Engine<'a, C> {
     ghost invariant = { λ e. (HasCounters C.limit e.propagator e.needs e.marks) × IfSome e.relaxation (λ r. IsBeside e.propagator.form e.propagator.trail r) };
 }
 
-impl<'a, C: Count> Engine<'a, C> {
+impl<'a, C: Count> EngineAt<'a, C> {
     /// The empty trail over the rows of the normal form and, for each cube in order, the clause that some literal of it is
     /// false; a cube that contradicts itself has none. There may be `MAX_CLAUSES` cubes. It builds tables of its own; `Rows`, `Clauses` and `over` share them
     /// among engines. Nothing after it takes memory.
@@ -70,7 +70,7 @@ impl<'a, C: Count> Engine<'a, C> {
         alloc: Global,
         form: &'a Form<C>,
         negated: &'a [Cube],
-    ) -> Result<Engine<'a, C>, Memory>
+    ) -> Result<EngineAt<'a, C>, Memory>
         requires few { length negated.now ≤ MAX_CLAUSES }
         requires variables { All (λ cube. All (λ l. l.var ≤ form.now.vars) cube) negated.now }
         ensures form { IfOk result (λ e. (e.form ≡ form.now) × (e.vars ≡ form.now.vars)) }
@@ -78,7 +78,7 @@ impl<'a, C: Count> Engine<'a, C> {
         ensures empty { IfOk result (λ e. (e.trail ≡ []) × (e.levels ≡ []) × (e.conflict ≡ false)) }
     {
         let source = TablesSource::new(alloc, form, negated)?;
-        Engine::start(alloc, source)
+        EngineAt::start(alloc, source)
     }
 
     /// The empty trail over rows and clauses that are lent. Nothing after it takes memory.
@@ -86,24 +86,24 @@ impl<'a, C: Count> Engine<'a, C> {
         alloc: Global,
         rows: &'a Rows<'a, C>,
         clauses: &'a Clauses,
-    ) -> Result<Engine<'a, C>, Memory>
+    ) -> Result<EngineAt<'a, C>, Memory>
         requires beside { AreBeside rows.now clauses.now }
         ensures form { IfOk result (λ e. (e.form ≡ rows.now.form) × (e.vars ≡ rows.now.form.vars)) }
         ensures rows { IfOk result (λ e. e.rows ≡ rows.now.form.rows ++ clauses.now.rows) }
         ensures empty { IfOk result (λ e. (e.trail ≡ []) × (e.levels ≡ []) × (e.conflict ≡ false)) }
     {
-        Engine::start(alloc, TablesSource::lent(rows, clauses))
+        EngineAt::start(alloc, TablesSource::lent(rows, clauses))
     }
 
     /// The empty trail.
-    fn start(alloc: Global, source: TablesSource<'a, C>) -> Result<Engine<'a, C>, Memory>
+    fn start(alloc: Global, source: TablesSource<'a, C>) -> Result<EngineAt<'a, C>, Memory>
         ensures { IfOk result (λ e. e ≡ record { form = source.entry.form; vars = source.entry.vars; rows = source.entry.rows; trail = []; levels = []; conflict = false }) }
     {
         let relaxation = relaxation_over(alloc, source.tables().form())?;
         let propagator = Propagator::new(alloc, source)?;
         let needs = Needs::new(alloc, &propagator.slacks())?;
         let marks = Marks::new(alloc, propagator.vars())?;
-        Ok(Engine {
+        Ok(EngineAt {
             propagator,
             needs,
             marks,
