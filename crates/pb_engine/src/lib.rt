@@ -2,11 +2,13 @@
 #![tactic(auto)]
 
 mod bound;
+mod engine;
 mod engine_at;
 mod extras;
 mod laws;
 mod needs;
 
+pub use engine::Engine;
 pub use engine_at::EngineAt;
 pub use laws::clause_laws;
 pub use pb_count::Count;

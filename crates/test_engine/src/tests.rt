@@ -4,6 +4,7 @@ mod account;
 mod blind_multipliers;
 mod clauses;
 mod courses;
+mod engines;
 mod forms;
 mod player;
 mod widths;

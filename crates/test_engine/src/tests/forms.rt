@@ -3,8 +3,8 @@
 ghost use Rattle.std.specs.Prelude.{◌≡◌, ◌≤◌, true, All};
 
 use pb_count::Count;
-use pb_inst::{Cube, InstanceBuilder, Lit, Number, Relation, Term};
-use pb_normal::{Form, form_of};
+use pb_inst::{Cube, Instance, InstanceBuilder, Lit, Number, Relation, Term};
+use pb_normal::{Form, Normal, form_of, normalise};
 use std::alloc::Global;
 use std::process::Abort;
 
@@ -33,14 +33,14 @@ fn terms_of(rt: &impl Abort, alloc: Global, terms: Terms<'_>) -> Vec<Term> {
     made
 }
 
-/// The normal form of an objective and constraints of `>=`, each a list of coefficients and literals and a bound.
-pub fn form<C: Count>(
+/// The instance of an objective and constraints of `>=`, each a list of coefficients and literals and a bound.
+fn instance(
     rt: &impl Abort,
     alloc: Global,
     vars: u32,
     objective: Terms<'_>,
     rows: &[(Terms<'_>, Number)],
-) -> Form<C> {
+) -> Instance {
     let mut builder = InstanceBuilder::new(alloc);
     builder
         .set_objective(&terms_of(rt, alloc, objective))
@@ -50,8 +50,31 @@ pub fn form<C: Count>(
             .add(&terms_of(rt, alloc, row), Relation::AtLeast, *bound)
             .expect(rt, "a constraint");
     }
-    let instance = builder.finish(vars).ok().expect(rt, "an instance");
+    builder.finish(vars).ok().expect(rt, "an instance")
+}
+
+/// Its normal form at a width.
+pub fn form<C: Count>(
+    rt: &impl Abort,
+    alloc: Global,
+    vars: u32,
+    objective: Terms<'_>,
+    rows: &[(Terms<'_>, Number)],
+) -> Form<C> {
+    let instance = instance(rt, alloc, vars, objective, rows);
     form_of(alloc, &instance).expect(rt, "memory")
+}
+
+/// Its normal form, at the width that it needs.
+pub fn normal(
+    rt: &impl Abort,
+    alloc: Global,
+    vars: u32,
+    objective: Terms<'_>,
+    rows: &[(Terms<'_>, Number)],
+) -> Normal {
+    let instance = instance(rt, alloc, vars, objective, rows);
+    normalise(alloc, &instance).expect(rt, "memory")
 }
 
 /// The cubes of these literals.

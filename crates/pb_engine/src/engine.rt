@@ -1,0 +1,175 @@
+//! A trail over a normal form of either width.
+
+ghost use Rattle.std.specs.Prelude.{◌≡◌, ◌<◌, ◌≤◌, [], ◌∷◌, ◌++◌, false, true, length, take, None, All, IfOk, ◌≤ℤ◌, pos, neg_ℤ, List};
+ghost use Rattle.pb_inst.specs.declared.TheConstants.{SUM_BOUND};
+ghost use Rattle.pb_normal.specs.NormalForm.{PositiveRow};
+ghost use Rattle.pb_rows.specs.Clauses.{AreClausesOf};
+ghost use Rattle.pb_trail.specs.Trail.{value_on};
+ghost use Rattle.pb_trail.specs.Completion.{HasNoCompletion, IsLowerBound, IsSettled};
+ghost use Rattle.pb_trail.specs.Propagation.{AddsForced};
+ghost use Rattle.pb_trail.specs.EngineState.{trail_before, is_conflict, HasNegativeSlack};
+ghost use Rattle.pb_trail.specs.Soundness.{IsFull, IsSolved, IsSoundTrail};
+ghost use Rattle.pb_engine.specs.DisjointRows.{disjoint_bound};
+
+use crate::engine_at::EngineAt;
+use pb_inst::{Cube, Lit, Memory, Number};
+use pb_normal::{EitherWidth, Normal};
+use pb_rows::MAX_CLAUSES;
+use pb_trail::Step;
+use std::alloc::Global;
+use std::marker::Model;
+
+/// Rows, a trail over their variables with some literals assumed, and whether a conflict stands. It counts in numbers of
+/// its normal form's width.
+pub struct Engine<'a> {
+    at_width: EitherWidth<EngineAt<'a, u64>, EngineAt<'a, u128>>,
+}
+
+impl<'a> Model for Engine<'a> {
+    ghost use Rattle.pb_trail.specs.EngineState.{EngineState};
+    ghost use Rattle.pb_normal.specs.Widths.{either};
+
+    ghost Value = { EngineState };
+
+    ghost view = { λ e. either e.at_width };
+}
+
+// By hand, so that letting go of an engine is a call wherever it is done.
+impl<'a> Drop for Engine<'a> {
+    fn drop(self) {
+        let Engine { at_width: _ } = self;
+    }
+}
+
+impl<'a> Engine<'a> {
+    /// The empty trail over the rows of the normal form and, for each cube in order, the clause that some literal of it is
+    /// false; a cube that contradicts itself has none. Nothing after it takes memory. `Memory` says that a growth of memory
+    /// was refused; it always is for more than `MAX_CLAUSES` cubes, whose clauses there are no numbers for.
+    pub fn new(alloc: Global, normal: &'a Normal, negated: &'a [Cube]) -> Result<Engine<'a>, Memory>
+        requires variables { All (λ cube. All (λ l. l.var ≤ normal.now.vars) cube) negated.now }
+        ensures form { IfOk result (λ e. (e.form ≡ normal.now) × (e.vars ≡ normal.now.vars)) }
+        ensures rows { IfOk result (λ e. (clauses : List PositiveRow) × (e.rows ≡ normal.now.rows ++ clauses) × AreClausesOf negated.now clauses) }
+        ensures empty { IfOk result (λ e. (e.trail ≡ []) × (e.levels ≡ []) × (e.conflict ≡ false)) }
+    {
+        if negated.len() > MAX_CLAUSES {
+            return Err(beyond_all_memory(alloc));
+        }
+        let at_width = match normal.form() {
+            EitherWidth::Narrow(form) => EitherWidth::Narrow(EngineAt::new(alloc, form, negated)?),
+            EitherWidth::Wide(form) => EitherWidth::Wide(EngineAt::new(alloc, form, negated)?),
+        };
+        Ok(Engine { at_width })
+    }
+
+    /// The value that the trail gives the variable, if any.
+    pub fn value(&self, var: u32) -> Option<bool>
+        ensures value { result ≡ value_on self.now.trail var }
+        ensures sound { IsSoundTrail self.now }
+    {
+        match &self.at_width {
+            EitherWidth::Narrow(engine) => engine.value(var),
+            EitherWidth::Wide(engine) => engine.value(var),
+        }
+    }
+
+    /// The number of variables.
+    pub fn vars(&self) -> u32
+        ensures { result ≡ self.now.vars }
+    {
+        match &self.at_width {
+            EitherWidth::Narrow(engine) => engine.vars(),
+            EitherWidth::Wide(engine) => engine.vars(),
+        }
+    }
+
+    /// The number of assumptions on the trail.
+    pub fn level(&self) -> u32
+        ensures count { result ≡ length self.now.levels }
+        ensures sound { IsSoundTrail self.now }
+    {
+        match &self.at_width {
+            EitherWidth::Narrow(engine) => engine.level(),
+            EitherWidth::Wide(engine) => engine.level(),
+        }
+    }
+
+    /// Whether a conflict came since the last `undo_to`.
+    pub fn conflict(&self) -> bool
+        ensures stands { result ≡ self.now.conflict }
+        ensures no_completion { result ≡ true → HasNoCompletion self.now.rows self.now.trail }
+        ensures sound { IsSoundTrail self.now }
+    {
+        match &self.at_width {
+            EitherWidth::Narrow(engine) => engine.conflict(),
+            EitherWidth::Wide(engine) => engine.conflict(),
+        }
+    }
+
+    /// Puts a literal without a value on the trail, as an assumption.
+    pub fn assume(&mut self, lit: Lit) -> Step
+        requires variable { lit.var ≤ self.old.vars }
+        requires no_value { value_on self.old.trail lit.var ≡ None }
+        requires no_conflict { self.old.conflict ≡ false }
+        ensures assumed { self.new ≡ record self.old { trail = self.old.trail ++ lit ∷ []; levels = self.old.levels ++ length self.old.trail ∷ []; conflict = is_conflict result } }
+        ensures conflict { result ≡ Step.Conflict → HasNegativeSlack self.old.rows self.new.trail }
+        ensures fixed { result ≡ Step.Fixed }
+        ensures sound { IsSoundTrail self.new }
+    {
+        match &mut self.at_width {
+            EitherWidth::Narrow(engine) => engine.assume(lit),
+            EitherWidth::Wide(engine) => engine.assume(lit),
+        }
+    }
+
+    /// Adds literals that are forced until no more are found by single rows, or a row can't be met any more.
+    pub fn propagate(&mut self) -> Step
+        requires { self.old.conflict ≡ false }
+        ensures added { self.new ≡ record self.old { trail = self.new.trail; conflict = is_conflict result } }
+        ensures forced { AddsForced self.old.rows self.old.trail self.new.trail }
+        ensures fixed { result ≡ Step.Fixed → All (λ row. IsSettled self.new.trail row) self.old.rows }
+        ensures solved { result ≡ Step.Fixed → IsFull self.new → IsSolved self.new }
+        ensures conflict { result ≡ Step.Conflict → HasNegativeSlack self.old.rows self.new.trail }
+        ensures no_completion { result ≡ Step.Conflict → HasNoCompletion self.old.rows self.new.trail }
+        ensures sound { IsSoundTrail self.new }
+    {
+        match &mut self.at_width {
+            EitherWidth::Narrow(engine) => engine.propagate(),
+            EitherWidth::Wide(engine) => engine.propagate(),
+        }
+    }
+
+    /// Takes back every assumption above the level, and what was added since.
+    pub fn undo_to(&mut self, level: u32)
+        requires { level ≤ length self.old.levels }
+        ensures undone { self.new ≡ record self.old { trail = trail_before self.old level; levels = take level self.old.levels; conflict = false } }
+        ensures sound { IsSoundTrail self.new }
+    {
+        match &mut self.at_width {
+            EitherWidth::Narrow(engine) => engine.undo_to(level),
+            EitherWidth::Wide(engine) => engine.undo_to(level),
+        }
+    }
+
+    /// The base, what the trail pays, and the extras of rows that share no variable without a value: at most the cost of every
+    /// completion of the trail; from `-SUM_BOUND` to `SUM_BOUND`. It leaves the trail and the conflict as they are, and takes
+    /// no memory.
+    pub fn bound(&mut self) -> Number
+        ensures value { result ≡ disjoint_bound self.old.form self.old.rows self.old.trail }
+        ensures bound { IsLowerBound self.old.form self.old.rows self.old.trail result }
+        ensures range { (neg_ℤ (pos SUM_BOUND) ≤ℤ result) × (result ≤ℤ pos SUM_BOUND) }
+        ensures unchanged { self.new ≡ self.old }
+    {
+        match &mut self.at_width {
+            EitherWidth::Narrow(engine) => engine.bound(),
+            EitherWidth::Wide(engine) => engine.bound(),
+        }
+    }
+}
+
+/// The refusal of a request for more bytes than there are addresses, which no memory meets.
+fn beyond_all_memory(alloc: Global) -> Memory {
+    match Vec::<u8>::with_capacity(alloc, usize::MAX) {
+        Ok(_) => unreachable!(),
+        Err(refused) => refused,
+    }
+}
