@@ -53,7 +53,7 @@ fn instance(
     builder.finish(vars).ok().expect(rt, "an instance")
 }
 
-/// Its normal form at a width.
+/// The normal form of such an instance, at this width.
 pub fn form<C: Count>(
     rt: &impl Abort,
     alloc: Global,
@@ -65,7 +65,7 @@ pub fn form<C: Count>(
     form_of(alloc, &instance).expect(rt, "memory")
 }
 
-/// Its normal form, at the width that it needs.
+/// The normal form of such an instance, at the width that it needs.
 pub fn normal(
     rt: &impl Abort,
     alloc: Global,
