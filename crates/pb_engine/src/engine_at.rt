@@ -186,9 +186,19 @@ impl<'a, C: Count> EngineAt<'a, C> {
         ensures sound { IsSoundTrail self.new }
     {
         if let Some(relaxation) = &mut self.relaxation {
-            relaxation.begin_level();
+            relaxation.begin_level(self.propagator.trail_len());
         }
         self.propagator.assume(lit)
+    }
+
+    /// Tells that nothing is left to try in place of the last assumption: its negation was tried, or has nothing to give. Where
+    /// that is so of all assumptions, the multipliers are worked on beside the trail that they lead to. No more than a hint.
+    pub fn settle_last(&mut self)
+        ensures { self.new ≡ self.old }
+    {
+        if let Some(relaxation) = &mut self.relaxation {
+            relaxation.settle_last();
+        }
     }
 
     /// Adds literals that are forced until no more are found by single rows, or a row can't be met any more.

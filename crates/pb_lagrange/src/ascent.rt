@@ -1,4 +1,4 @@
-//! Better multipliers beside an empty trail, by subgradient steps: all rows are shifted at once, each by how far the cheapest
+//! Better multipliers beside a trail, by subgradient steps: all rows are shifted at once, each by how far the cheapest
 //! values are from meeting it. What one row can't gain alone, several can. No answer depends on it, so nothing is promised
 //! but that form and trail stay.
 

@@ -26,6 +26,12 @@ use std::alloc::Global;
 use std::marker::Model;
 use steps::Steps;
 
+/// How many literals below the root's are far below it.
+const FAR: usize = 256;
+
+/// About how many variables are looked through for a literal to fix in the time of a term.
+const VARIABLES_OF_A_TERM: u32 = 8;
+
 /// Multipliers beside the trail of a search. Where they are used they follow the trail, and are shifted at the rows that it
 /// touches. What was shifted below an assumption is taken back with it. An account tells where they are used.
 pub struct Relaxation<'a, C: Count = u64> {
@@ -145,19 +151,56 @@ impl<'a, C: Count> Relaxation<'a, C> {
         ensures beside { IsBeside slacks.now.form slacks.now.trail self.new }
     {
         self.count_node(slacks.len());
-        self.passes
-            .climb(&mut self.multipliers, &mut self.steps, goal);
+        if self.passes.is_climb_due() {
+            self.climb(slacks, goal);
+        }
         self.is_used = self.account.is_open();
         self.was_used = self.is_used;
         if !self.is_used {
             return false;
         }
-        self.passes
-            .ascend(&mut self.multipliers, &mut self.steps, &mut self.account);
+        if self.passes.is_due(&self.account) {
+            self.ascend(slacks);
+        }
         self.catch_up(slacks);
         self.improve(slacks.tables(), goal);
         self.account.count_use(self.schedule.work());
         true
+    }
+
+    /// Shifts all rows at once beside the root's trail. Where the search's place is far below it, its multipliers are no
+    /// beginning, and the root's are.
+    fn climb(&mut self, slacks: &Slacks<'_, '_, C>, goal: Number)
+        requires { IsBeside slacks.now.form slacks.now.trail self.old }
+        ensures { IsBeside slacks.now.form slacks.now.trail self.new }
+    {
+        self.return_to_root(slacks);
+        if slacks.len().saturating_sub(self.multipliers.len()) >= FAR {
+            let changes = self.levels.root_changes();
+            self.take_back_to(changes);
+        }
+        self.passes
+            .climb(&mut self.multipliers, &mut self.steps, goal);
+    }
+
+    /// Steps all rows beside the root's trail.
+    fn ascend(&mut self, slacks: &Slacks<'_, '_, C>)
+        requires { IsBeside slacks.now.form slacks.now.trail self.old }
+        ensures { IsBeside slacks.now.form slacks.now.trail self.new }
+    {
+        self.return_to_root(slacks);
+        self.passes
+            .ascend(&mut self.multipliers, &mut self.steps, &mut self.account);
+    }
+
+    /// Follows the trail to the end of the root's, and no further.
+    fn return_to_root(&mut self, slacks: &Slacks<'_, '_, C>)
+        requires { IsBeside slacks.now.form slacks.now.trail self.old }
+        ensures { IsBeside slacks.now.form slacks.now.trail self.new }
+    {
+        self.catch_up(slacks);
+        let length = self.levels.root_length(slacks.len());
+        self.multipliers.unassign_to(length);
     }
 
     /// Counts a node of the search whose trail has so many literals.
@@ -199,9 +242,25 @@ impl<'a, C: Count> Relaxation<'a, C> {
         if self.multipliers.bound() > limit {
             return None;
         }
-        let found = self.fixing.find(&self.multipliers, limit);
+        let found = self.find_fixed(limit);
         if found.is_some() {
             self.account.fix();
+        }
+        found
+    }
+
+    /// The same, once the trail is followed. At the root all variables are looked at, and below it some of them.
+    fn find_fixed(&mut self, limit: Number) -> Option<Lit>
+        ensures fixed { IfSome result (IsFixed self.old.form self.old.trail limit) }
+        ensures unchanged { self.new ≡ self.old }
+    {
+        if !self.levels.are_root() {
+            return self.fixing.find(&self.multipliers, limit);
+        }
+        let found = self.fixing.find_in_all(&self.multipliers, limit);
+        if found.is_none() {
+            let looked_at = self.multipliers.form().vars() / VARIABLES_OF_A_TERM;
+            self.account.count_multipliers(looked_at as u64);
         }
         found
     }
@@ -275,11 +334,18 @@ impl<'a, C: Count> Relaxation<'a, C> {
         Some(row)
     }
 
-    /// An assumption is made: what is shifted from now on goes with it.
-    pub fn begin_level(&mut self)
+    /// An assumption is made on a trail of so many literals: what is shifted from now on goes with it.
+    pub fn begin_level(&mut self, length: usize)
         ensures { self.new ≡ self.old }
     {
-        self.levels.push(self.multipliers.changes());
+        self.levels.push(self.multipliers.changes(), length);
+    }
+
+    /// Nothing is left to try in place of the last assumption. Where that is so of all before it too, it is the root's.
+    pub fn settle_last(&mut self)
+        ensures { self.new ≡ self.old }
+    {
+        self.levels.settle_last();
     }
 
     /// The trail has so many literals left, and so many assumptions.

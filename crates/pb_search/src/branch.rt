@@ -61,6 +61,9 @@ pub fn decide<C: Count>(
     ensures counted { left.old ≡ one_more left.new }
 {
     engine.assume(branch.lit);
+    if branch.flipped {
+        engine.settle_last();
+    }
     count_down(left);
     path.push_reserved(branch);
 }

@@ -47,6 +47,7 @@ fn assume_free<C: Count>(engine: &mut EngineAt<'_, C>, lit: Lit)
     ensures no_conflict { engine.new.conflict ≡ false }
 {
     engine.assume(lit);
+    engine.settle_last();
 }
 
 /// Takes back all assumptions, and adds what follows without any. A conflict means that no assignment meets the

@@ -48,6 +48,23 @@ impl Fixing {
         found
     }
 
+    /// The same, looked for among all variables.
+    pub fn find_in_all<C: Count>(
+        &mut self,
+        multipliers: &Multipliers<'_, C>,
+        limit: Number,
+    ) -> Option<Lit>
+        ensures { IfSome result (IsFixed multipliers.now.form multipliers.now.trail limit) }
+    {
+        for _ in 0..=multipliers.form().vars() / FIXING_WINDOW {
+            let found = self.find(multipliers, limit);
+            if found.is_some() {
+                return found;
+            }
+        }
+        None
+    }
+
     /// The next literal is looked for among the variables that come next.
     fn look_on(&mut self, vars: u32) {
         let next = self.from.saturating_add(FIXING_WINDOW);

@@ -1,4 +1,5 @@
-//! What is taken back with an assumption: the changes of multipliers that were made since.
+//! What is taken back with an assumption: the changes of multipliers that were made since; and how many assumptions, from the
+//! first on, are not to be taken back.
 
 use pb_inst::Memory;
 use std::alloc::Global;
@@ -13,10 +14,20 @@ const CHANGES_OF_FEW_ROWS: usize = 512;
 /// The most changes that few rows have room for.
 const MOST_CHANGES_OF_FEW_ROWS: usize = 262_144;
 
-/// How many changes there were at each assumption.
+/// How much there was before an assumption.
+#[derive(Clone, Copy)]
+struct Mark {
+    /// How many changes could be taken back.
+    changes: usize,
+    /// How many literals were on the trail.
+    length: usize,
+}
+
+/// What there was before each assumption, and how many of them are the root's: nothing is left to try in their place.
 #[derive(Drop)]
 pub struct Levels {
-    marks: Vec<usize>,
+    marks: Vec<Mark>,
+    root: usize,
 }
 
 impl Levels {
@@ -24,6 +35,7 @@ impl Levels {
     pub fn new(alloc: Global, room: usize) -> Result<Levels, Memory> {
         Ok(Levels {
             marks: Vec::with_capacity(alloc, room)?,
+            root: 0,
         })
     }
 
@@ -32,10 +44,39 @@ impl Levels {
         self.marks.len()
     }
 
-    /// An assumption is made after so many changes.
-    pub fn push(&mut self, changes: usize) {
+    /// An assumption is made after so many changes, on a trail of so many literals.
+    pub fn push(&mut self, changes: usize, length: usize) {
         if self.marks.len() < self.marks.capacity() {
-            self.marks.push_reserved(changes);
+            self.marks.push_reserved(Mark { changes, length });
+        }
+    }
+
+    /// Nothing is left to try in place of the last assumption.
+    pub fn settle_last(&mut self) {
+        let before = self.marks.len().saturating_sub(1);
+        if self.root == before {
+            self.root = self.marks.len();
+        }
+    }
+
+    /// Whether all assumptions are the root's.
+    pub fn are_root(&self) -> bool {
+        self.root >= self.marks.len()
+    }
+
+    /// How many literals are the root's, of so many on the trail.
+    pub fn root_length(&self, length: usize) -> usize {
+        match self.marks.get(self.root) {
+            Some(mark) => mark.length.min(length),
+            None => length,
+        }
+    }
+
+    /// How many changes there were where the root ends; where nothing was assumed below it, more than there can be.
+    pub fn root_changes(&self) -> usize {
+        match self.marks.get(self.root) {
+            Some(mark) => mark.changes,
+            None => usize::MAX,
         }
     }
 
@@ -44,7 +85,8 @@ impl Levels {
     pub fn cut(&mut self, level: usize) -> Option<usize> {
         let mark = self.marks.get(level).copied();
         self.marks.truncate(level);
-        mark
+        self.root = self.root.min(level);
+        Some(mark?.changes)
     }
 }
 

@@ -1,6 +1,5 @@
 //! When all rows are stepped: at the first node, and once the search has gone on for some nodes.
 
-ghost use Rattle.std.specs.Prelude.{◌≡◌, ◌⊎◌, []};
 ghost use Rattle.pb_lagrange.specs.Relaxation.{IsSameButShifted};
 
 use super::steps::Steps;
@@ -57,60 +56,57 @@ impl<C: Count> Passes<C> {
         self.nodes = self.nodes.saturating_add(1);
     }
 
-    /// Looks for first multipliers, and for better ones once the search has gone on for some nodes, where that is not too
-    /// dear.
+    /// Whether all rows are to be stepped, so that first multipliers are found, or better ones once the search has gone on for
+    /// some nodes; and that is not too dear.
+    pub fn is_due(&self, account: &Account) -> bool {
+        let left = self.end().saturating_sub(self.passes);
+        left > 0 && account.affords((left as u64).saturating_mul(self.terms))
+    }
+
+    /// How often all rows are to have been gone through by now.
+    fn end(&self) -> u32 {
+        if self.nodes < PATIENCE {
+            FIRST_PASSES
+        } else {
+            PASSES
+        }
+    }
+
+    /// Goes through all rows until that was done as often as it is to be by now. The multipliers are kept for good.
     pub fn ascend(
         &mut self,
         multipliers: &mut Multipliers<'_, C>,
         steps: &mut Steps<C>,
         account: &mut Account,
     )
-        ensures form { multipliers.new.form ≡ multipliers.old.form }
-        ensures trail { (multipliers.new.trail ≡ multipliers.old.trail) ⊎ (multipliers.new.trail ≡ []) }
+        ensures { IsSameButShifted multipliers.old multipliers.new }
     {
-        let end = if self.nodes < PATIENCE {
-            FIRST_PASSES
-        } else {
-            PASSES
-        };
-        let passes = end.saturating_sub(self.passes) as u64;
-        let work = passes.saturating_mul(self.terms);
-        if passes > 0 && account.affords(work) {
-            account.count_multipliers(work);
-            self.pass_up_to(multipliers, steps, end);
+        let (start, end) = (self.passes, self.end());
+        for number in start..end {
+            pass(multipliers, steps, number % 2 == 1);
+            account.count_multipliers(self.terms);
         }
+        self.passes = end;
     }
 
-    /// Shifts all rows at once, again and again, when the search has gone on for long enough, and steps them twice after that.
-    /// That is done once, so the account leaves it out.
+    /// Whether all rows are to be shifted at once, again and again: once, when the search has gone on for long enough.
+    pub fn is_climb_due(&self) -> bool {
+        self.nodes == LONG_PATIENCE
+    }
+
+    /// Shifts all rows at once, again and again, and steps them twice after that. The multipliers are kept for good. That is
+    /// done once, so the account leaves it out.
     pub fn climb(
         &mut self,
         multipliers: &mut Multipliers<'_, C>,
         steps: &mut Steps<C>,
         limit: Number,
     )
-        ensures form { multipliers.new.form ≡ multipliers.old.form }
-        ensures trail { (multipliers.new.trail ≡ multipliers.old.trail) ⊎ (multipliers.new.trail ≡ []) }
+        ensures { IsSameButShifted multipliers.old multipliers.new }
     {
-        if self.nodes == LONG_PATIENCE {
-            multipliers.unassign_to(0);
-            self.ascent.climb(multipliers, self.terms, limit);
-            pass(multipliers, steps, false);
-            pass(multipliers, steps, true);
-        }
-    }
-
-    /// Goes through all rows until that was done so often, with no trail. The multipliers are kept for good.
-    fn pass_up_to(&mut self, multipliers: &mut Multipliers<'_, C>, steps: &mut Steps<C>, end: u32)
-        ensures form { multipliers.new.form ≡ multipliers.old.form }
-        ensures empty { multipliers.new.trail ≡ [] }
-    {
-        multipliers.unassign_to(0);
-        let start = self.passes;
-        for number in start..end {
-            pass(multipliers, steps, number % 2 == 1);
-        }
-        self.passes = end;
+        self.ascent.climb(multipliers, self.terms, limit);
+        pass(multipliers, steps, false);
+        pass(multipliers, steps, true);
     }
 }
 

@@ -1,0 +1,5 @@
+use Rattle.pb_lagrange.specs.Relaxation.{IsSameButShifted}
+use Rattle.pb_lagrange.proofs.relaxation.passes.Passes.ascend.Given as goal
+
+abbrev pub invariant-loop-number : goal.invariant-loop-number
+invariant-loop-number g l = IsSameButShifted l.initial.multipliers l.multipliers
