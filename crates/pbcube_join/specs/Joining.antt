@@ -8,12 +8,35 @@ use Rattle.pb_join.specs.declared.joining.Joined.{Joined}
 use Rattle.pb_join.specs.declared.reports.PieceReport.{PieceReport}
 use Rattle.pb_join.specs.Joining.{AreFit, AreStates, TellsFirst}
 use Rattle.pb_join.specs.Pieces.{AreOfPieces}
+use Rattle.clap.specs.Words.{Text, matches_of}
+use Rattle.pb_report.specs.Statuses.{exit_status}
+use Rattle.pbcube_join.specs.declared.asked.Line.{Line}
+use Rattle.pbcube_join.specs.CommandLine.{IsLineOf, pbcube_join}
+use Rattle.pbcube_join.specs.Reading.{ReadsFor}
 
--- What was written tells the first assignment of fit reports of the instance's pieces, and of each piece it is told what
--- became of it. It is the answer on the instance where every piece is done and each report is right.
-pub record Tells (format : Format) (p : Problem) (pieces : ℕ) (old new : Option (List ℕ)) (joined : Joined) : Type 0 where
-  pub reports : List PieceReport
+-- What was written tells the first assignment of these reports, which are fit reports of the instance's pieces, and of each
+-- piece it is told what became of it. It is the answer on the instance where every piece is done and each report is right.
+pub record TellsOf (format : Format) (p : Problem) (pieces : ℕ) (reports : List PieceReport) (old new : Option (List ℕ)) (joined : Joined) : Type 0 where
   pub fit : AreFit p pieces reports
   pub states : AreStates p pieces reports joined.states.items
   pub first : TellsFirst format p reports joined.whole old new joined.status
   pub answer : (cubes : List (List Literal)) → AreOfPieces p pieces reports cubes → joined.whole ≡ true → Answers format p old new joined.status
+
+-- what was written tells the first assignment of some reports
+abbrev pub Tells : Format → Problem → ℕ → Option (List ℕ) → Option (List ℕ) → Joined → Type 0
+Tells format p pieces old new joined = (reports : List PieceReport) × TellsOf format p pieces reports old new joined
+
+-- the instance and the reports are read from the files that the line names, and what was written tells of these
+pub record JoinsFiles {F : Type 0} (reads : F → Text → List ℕ → F → Type 0) (lists : F → Text → Option (List Text) → F → Type 0) (line : Line) (before after : F) (old new : Option (List ℕ)) (joined : Joined) : Type 0 where
+  pub problem : Problem
+  pub reports : List PieceReport
+  pub from_files : ReadsFor reads lists line problem reports before after
+  pub tells : TellsOf line.format problem line.pieces reports old new joined
+
+-- the files of a line that has the values of the words' matches are joined, and the status is that of the report
+pub record JoinsAsAsked {F : Type 0} (reads : F → Text → List ℕ → F → Type 0) (lists : F → Text → Option (List Text) → F → Type 0) (words : List Text) (before after : F) (old new : Option (List ℕ)) (status : ℕ) : Type 0 where
+  pub line : Line
+  pub asked : IsLineOf (matches_of pbcube_join words) line
+  pub joined : Joined
+  pub joins : JoinsFiles reads lists line before after old new joined
+  pub ended : status ≡ exit_status joined.status

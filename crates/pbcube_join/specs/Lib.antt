@@ -1,3 +1,5 @@
 pub mod CommandLine
 pub mod Ending
 pub mod Joining
+pub mod Reading
+pub mod Texts

@@ -1,6 +1,8 @@
 //! `pbcube_join`: one report of the reports of an instance's pieces, from the command line.
 #![tactic(auto)]
 
+ghost use Rattle.std.specs.Prelude.{◌≡◌};
+
 mod asked;
 mod command;
 mod faults;
@@ -14,6 +16,7 @@ mod words;
 use crate::files::Files;
 use crate::running::{out_of_memory, program};
 use pb_line::{texts_of, words_of};
+use pb_solve::Device;
 use std::fs;
 use std::io::{self, ErrorKind};
 use std::process::ExitCode;
@@ -25,6 +28,10 @@ struct SystemFiles<'a> {
 }
 
 impl Files for SystemFiles<'_> {
+    ghost reads = { λ files name text after. after ≡ files };
+
+    ghost lists = { λ files name found after. after ≡ files };
+
     fn read(&mut self, name: &str) -> io::Result<Vec<u8>> {
         fs::read(self.rt, name)
     }
@@ -43,7 +50,7 @@ impl Files for SystemFiles<'_> {
 
 /// Runs the program on the system's words, files and outputs. Words that are no text end with status 2.
 fn main(rt: HostRuntime) -> ExitCode {
-    let mut out = rt.stdout();
+    let mut out = Device::new(rt.stdout());
     let mut err = rt.stderr();
     let texts = match texts_of(&rt) {
         Ok(texts) => texts,

@@ -1,5 +1,7 @@
 //! The instance and the reports, from their files.
-ghost use Rattle.std.specs.Prelude.{◌≡◌, length, IfOk};
+ghost use Rattle.std.specs.Prelude.{◌≡◌, ◌<◌, ℕ, List, length, IfOk};
+ghost use Rattle.pbcube_join.specs.Reading.{IsReportOf, ReadsInstance, ReadsReports};
+ghost use Rattle.pbcube_join.specs.Texts.{texts};
 
 use crate::faults::{ProgramFault, Refusal};
 use crate::files::Files;
@@ -24,7 +26,9 @@ pub fn read_instance<'a, F: Files>(
     format: Format,
     file: &'a str,
     files: &mut F,
-) -> Result<Instance, ProgramFault<'a>> {
+) -> Result<Instance, ProgramFault<'a>>
+    ensures { IfOk result (λ instance. ReadsInstance F.reads format file.now instance files.old files.new) }
+{
     let text = match files.read(file) {
         Ok(text) => text,
         Err(error) => return Err(unreadable(file, &error)),
@@ -64,22 +68,27 @@ pub fn read_reports<'a, F: Files>(
     names: Vec<String>,
     files: &mut F,
 ) -> Result<Reports, ProgramFault<'a>>
-    ensures { IfOk result (λ read. length read.names.items ≡ length read.reports.items) }
+    ensures counted { IfOk result (λ read. length read.names.items ≡ length read.reports.items) }
+    ensures read { IfOk result (λ read. ReadsReports F.reads format vars (texts names) read.reports.items files.old files.new) }
 {
-    let mut read = Reports {
-        names: Vec::new(alloc),
-        reports: Vec::new(alloc),
-    };
-    for name in names {
-        let report = match read_one(alloc, format, vars, &name, files) {
-            Ok(report) => report,
-            Err(Unread::Memory) => return Err(ProgramFault::Memory),
-            Err(Unread::Refused(why)) => return Err(ProgramFault::Report(name, why)),
-        };
-        read.names.push(name)?;
-        read.reports.push(report)?;
+    let mut reports = Vec::new(alloc);
+    for place in 0..names.len() {
+        match read_one(alloc, format, vars, &names[place], files) {
+            Ok(report) => reports.push(report)?,
+            Err(why) => return Err(fault_at(names, place, why)),
+        }
     }
-    Ok(read)
+    Ok(Reports { names, reports })
+}
+
+/// Why the report in the file of the name at this place was not read.
+fn fault_at<'a>(mut names: Vec<String>, place: usize, why: Unread) -> ProgramFault<'a>
+    requires { place < length names.items }
+{
+    match why {
+        Unread::Memory => ProgramFault::Memory,
+        Unread::Refused(why) => ProgramFault::Report(names.swap_remove(place), why),
+    }
 }
 
 /// Why one report was not read.
@@ -95,7 +104,9 @@ fn read_one<F: Files>(
     vars: u32,
     name: &str,
     files: &mut F,
-) -> Result<PieceReport, Unread> {
+) -> Result<PieceReport, Unread>
+    ensures { IfOk result (λ report. (text : List ℕ) × F.reads files.old name.now text files.new × IsReportOf format vars name.now text report) }
+{
     let Some(number) = piece_number(name) else {
         return Err(Unread::Refused(Refusal::NoNumber));
     };

@@ -1,11 +1,15 @@
 //! The program over any files and any outputs.
-ghost use Rattle.std.specs.Prelude.{◌≡◌, ◌≢◌, ◌≤◌, ◌<◌, ℕ, length, false, map, IfOk, IfErr};
-ghost use Rattle.clap.specs.Words.{kind_of};
+ghost use Rattle.std.specs.Prelude.{◌≡◌, ◌≢◌, ◌≤◌, ◌<◌, ◌⊎◌, ℕ, List, [], length, false, map, IfOk, IfErr};
+ghost use Rattle.clap.specs.Words.{fault_of, kind_of};
 ghost use Rattle.pb_inst.specs.Problem.{Problem};
 ghost use Rattle.pb_join.specs.declared.faults.Rejection.{Rejection as Why};
 ghost use Rattle.pb_line.specs.Ends.{EndsBy};
 ghost use Rattle.pbcube_join.specs.Ending.{Ends};
-ghost use Rattle.pbcube_join.specs.Joining.{Tells};
+ghost use Rattle.pb_join.specs.declared.reports.PieceReport.{PieceReport};
+ghost use Rattle.pbcube_join.specs.CommandLine.{pbcube_join};
+ghost use Rattle.pbcube_join.specs.Joining.{JoinsAsAsked, JoinsFiles, Tells, TellsOf};
+ghost use Rattle.pbcube_join.specs.Reading.{ReadsReports};
+ghost use Rattle.pbcube_join.specs.Texts.{texts};
 ghost use Rattle.pb_report.specs.Statuses.{IsExitStatus};
 
 use crate::asked::Line;
@@ -28,18 +32,19 @@ pub fn program<'a, F: Files, W: Write, E: Write>(
     alloc: Global,
     words: &'a [&'a str],
     files: &mut F,
-    out: &mut W,
+    out: &mut Device<W>,
     err: &mut E,
 ) -> u8
+    requires { out.old.failed ≡ false }
     ensures status { IsExitStatus result }
     ensures ended { Ends (map (λ word. word.now) words.now) result }
+    ensures joined { fault_of pbcube_join (map (λ word. word.now) words.now) ≡ [] → (result ≡ 1) ⊎ ((result ≡ 2) ⊎ JoinsAsAsked F.reads F.lists (map (λ word. word.now) words.now) files.old files.new (W.contents out.old.held) (W.contents out.new.held) result) }
 {
-    let mut out = Device::new(out);
     let line = match line(alloc, words) {
         Ok(line) => line,
-        Err(fault) => return end_at_line(&fault, &mut out, err),
+        Err(fault) => return end_at_line(&fault, out, err),
     };
-    match join_line(alloc, line, files, &mut out) {
+    match join_line(alloc, line, files, out) {
         Ok(joined) => {
             name_pieces(&joined.states, err);
             joined.status.exit_status()
@@ -66,6 +71,7 @@ fn join_line<'a, F: Files, W: Write>(
     requires pieces { 1 ≤ line.pieces }
     requires out { out.old.failed ≡ false }
     ensures tells { IfOk result (λ joined. (p : Problem) × Tells line.entry.format p line.entry.pieces (W.contents out.old.held) (W.contents out.new.held) joined) }
+    ensures joins { IfOk result (JoinsFiles F.reads F.lists line.entry files.old files.new (W.contents out.old.held) (W.contents out.new.held)) }
     ensures unwritten { IfErr result (λ fault. fault ≢ ProgramFault.CannotWrite → out.new ≡ out.old) }
 {
     let instance = read_instance(alloc, line.format, line.file, files)?;
@@ -94,6 +100,7 @@ fn join_files<'a, F: Files, W: Write>(
     requires pieces { 1 ≤ pieces }
     requires out { out.old.failed ≡ false }
     ensures tells { IfOk result (Tells format instance.now pieces (W.contents out.old.held) (W.contents out.new.held)) }
+    ensures joins { IfOk result (λ joined. (reports : List PieceReport) × ReadsReports F.reads format instance.now.vars (texts names) reports files.old files.new × TellsOf format instance.now pieces reports (W.contents out.old.held) (W.contents out.new.held) joined) }
     ensures unwritten { IfErr result (λ fault. fault ≢ ProgramFault.CannotWrite → out.new ≡ out.old) }
 {
     let read = read_reports(alloc, format, instance.vars(), names, files)?;

@@ -1,6 +1,10 @@
-use Rattle.std.proofs.Common.{◌≡◌, length}
+use Rattle.std.proofs.Common.{◌≡◌, length, map, string_bytes, take}
+use Rattle.pbcube_join.specs.Reading.{ReadsReports}
 use Rattle.pbcube_join.proofs.reading.read_reports.Given as goal
 
--- as many names as reports
-abbrev pub invariant-loop-name : goal.invariant-loop-name
-invariant-loop-name g l = length l.read.names.items ≡ length l.read.reports.items
+-- the reports are those of the names so far
+abbrev pub invariant-loop-place : goal.invariant-loop-place
+invariant-loop-place g l = record {
+  counted : length l.reports.items ≡ l.place;
+  read : ReadsReports g.F.Files.reads l.format l.vars (map string_bytes (take l.place l.names.items)) l.reports.items l.initial.files l.files;
+}
