@@ -61,11 +61,18 @@ pub fn decide<C: Count>(
     ensures counted { left.old ≡ one_more left.new }
 {
     engine.assume(branch.lit);
-    if branch.flipped {
-        engine.settle_last();
-    }
+    settle(engine, branch.flipped);
     count_down(left);
     path.push_reserved(branch);
+}
+
+/// Tells the engine where nothing is left to try in place of the last decision.
+fn settle<C: Count>(engine: &mut EngineAt<'_, C>, is_settled: bool)
+    ensures { engine.new ≡ engine.old }
+{
+    if is_settled {
+        engine.settle_last();
+    }
 }
 
 /// Takes one decision off what is left, where there is a budget.

@@ -15,4 +15,4 @@ returns-clause-few g c =
 
 pub returns-clause-at_path : goal.returns-clause-at_path
 returns-clause-at_path g c root at =
-    rw c.push_reserved.ensures.items (decide_at root c.args.engine.now c.assume.new.self c.args.path.now.items c.args.branch (is_conflict c.assume.result) at c.assume.ensures.assumed c.assume.ensures.sound c.requires.free.variable)
+    rw c.push_reserved.ensures.items (rw c.settle.ensures (decide_at root c.args.engine.now c.assume.new.self c.args.path.now.items c.args.branch (is_conflict c.assume.result) at c.assume.ensures.assumed c.assume.ensures.sound c.requires.free.variable))
