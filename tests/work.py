@@ -58,7 +58,7 @@ TODAY = {
     "garden": Today(64_900, 101),
     "groups": Today(5_500, 90),
     "knapsack": Today(4_100, 78),
-    "long_row": Today(12_100, 68),
+    "long_row": Today(12_100, 69),
     "machines": Today(83_900, 100),
     "met_rows": Today(45_400, 115),
     "packages": Today(99_300, 96),
