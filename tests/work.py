@@ -46,7 +46,7 @@ class Today:
 
 
 TODAY = {
-    "aside": Today(50_000, 94),
+    "aside": Today(44_443, 94),
     "assignment": Today(71_300, 97),
     "chain": Today(5_500, 91),
     "clauses": Today(33_900, 90),
