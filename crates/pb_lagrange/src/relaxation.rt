@@ -176,7 +176,10 @@ impl<'a, C: Count> Relaxation<'a, C> {
     {
         self.return_to_root(slacks);
         if slacks.len().saturating_sub(self.multipliers.len()) >= FAR {
-            let changes = self.levels.root_changes();
+            let changes = match self.levels.root_end() {
+                Some(mark) => mark.changes,
+                None => usize::MAX,
+            };
             self.take_back_to(changes);
         }
         self.passes
@@ -199,7 +202,10 @@ impl<'a, C: Count> Relaxation<'a, C> {
         ensures { IsBeside slacks.now.form slacks.now.trail self.new }
     {
         self.catch_up(slacks);
-        let length = self.levels.root_length(slacks.len());
+        let length = match self.levels.root_end() {
+            Some(mark) => mark.length.min(slacks.len()),
+            None => slacks.len(),
+        };
         self.multipliers.unassign_to(length);
     }
 
@@ -268,7 +274,7 @@ impl<'a, C: Count> Relaxation<'a, C> {
     /// Whether the last call of `fixed_literal` fixed a literal at the node where the search still is. There may be more, and
     /// no bound need be asked for before.
     pub fn is_fixing(&self) -> bool {
-        self.fixing.has_found()
+        self.fixing.has_found
     }
 
     /// By how much, in a unit that depends on the form, the bound at the node that was judged last may rise before it is over

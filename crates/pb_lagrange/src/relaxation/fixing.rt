@@ -13,7 +13,7 @@ pub struct Fixing {
     /// After how many variables the next one is looked for.
     from: u32,
     /// Whether one was found at the node where the search is.
-    has_found: bool,
+    pub has_found: bool,
 }
 
 impl Fixing {
@@ -23,11 +23,6 @@ impl Fixing {
             from: 0,
             has_found: false,
         }
-    }
-
-    /// Whether a literal was found at the node where the search is.
-    pub fn has_found(&self) -> bool {
-        self.has_found
     }
 
     /// The search is at another node, or looks for another literal.
@@ -43,7 +38,12 @@ impl Fixing {
         let found = multipliers.fixed_literal(self.from, limit);
         self.has_found = found.is_some();
         if !self.has_found {
-            self.look_on(multipliers.form().vars());
+            let next = self.from.saturating_add(FIXING_WINDOW);
+            self.from = if next < multipliers.form().vars() {
+                next
+            } else {
+                0
+            };
         }
         found
     }
@@ -63,11 +63,5 @@ impl Fixing {
             }
         }
         None
-    }
-
-    /// The next literal is looked for among the variables that come next.
-    fn look_on(&mut self, vars: u32) {
-        let next = self.from.saturating_add(FIXING_WINDOW);
-        self.from = if next < vars { next } else { 0 };
     }
 }

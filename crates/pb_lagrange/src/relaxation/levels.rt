@@ -16,11 +16,11 @@ const MOST_CHANGES_OF_FEW_ROWS: usize = 262_144;
 
 /// How much there was before an assumption.
 #[derive(Clone, Copy)]
-struct Mark {
+pub struct Mark {
     /// How many changes could be taken back.
-    changes: usize,
+    pub changes: usize,
     /// How many literals were on the trail.
-    length: usize,
+    pub length: usize,
 }
 
 /// What there was before each assumption, and how many of them are the root's: nothing is left to try in their place.
@@ -64,20 +64,9 @@ impl Levels {
         self.root >= self.marks.len()
     }
 
-    /// How many literals are the root's, of so many on the trail.
-    pub fn root_length(&self, length: usize) -> usize {
-        match self.marks.get(self.root) {
-            Some(mark) => mark.length.min(length),
-            None => length,
-        }
-    }
-
-    /// How many changes there were where the root ends; where nothing was assumed below it, more than there can be.
-    pub fn root_changes(&self) -> usize {
-        match self.marks.get(self.root) {
-            Some(mark) => mark.changes,
-            None => usize::MAX,
-        }
+    /// What there was where the root ends, if anything was assumed below it.
+    pub fn root_end(&self) -> Option<Mark> {
+        self.marks.get(self.root).copied()
     }
 
     /// So many assumptions are left. Gives how many changes there were before the first of those that are gone, if there are
