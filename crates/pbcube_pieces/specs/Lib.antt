@@ -1,3 +1,5 @@
 pub mod CommandLine
+pub mod Dividing
 pub mod Ending
 pub mod Names
+pub mod Writing

@@ -1,4 +1,10 @@
 //! The index of the pieces.
+ghost use Rattle.std.specs.Prelude.{◌≡◌, ◌-◌, ◌≤◌, OnOk};
+ghost use Rattle.std.specs.Io.KnownBytes.{Appends};
+ghost use Rattle.pb_line.specs.Options.{format_name};
+ghost use Rattle.pb_write.specs.Written.{written_format as format_written};
+ghost use Rattle.pbcube_pieces.specs.Writing.{index_lines, name_lines};
+
 use crate::names::piece_name;
 use pb_read::Format;
 use pb_write::written_format;
@@ -20,21 +26,32 @@ pub struct Index<'a> {
 
 /// Writes the index: the number of pieces, the format in which they are written, the number of variables, the digest of the
 /// instance's text, and the pieces' names in order, each on a line.
-pub fn write_index<W: Write>(alloc: Global, out: &mut W, index: &Index<'_>) -> io::Result<()> {
+pub fn write_index<W: Write>(alloc: Global, out: &mut W, index: &Index<'_>) -> io::Result<()>
+    ensures { OnOk result (Appends (W.contents out.old) (W.contents out.new) (index_lines index.now.format index.now.pieces index.now.vars index.now.digest.now)) }
+{
     writeln!(out, "pieces {}", index.pieces)?;
     writeln!(out, "format {}", name_of(index.format))?;
     writeln!(out, "variables {}", index.vars)?;
     writeln!(out, "sha256 {}", index.digest)?;
-    let last = index.pieces.saturating_sub(1);
-    for number in 0..index.pieces {
-        let name = piece_name(alloc, index.format, number, last)?;
+    write_names(alloc, out, index.format, index.pieces)
+}
+
+/// Writes the names of so many pieces in order, each on a line.
+fn write_names<W: Write>(alloc: Global, out: &mut W, format: Format, pieces: u32) -> io::Result<()>
+    ensures { OnOk result (Appends (W.contents out.old) (W.contents out.new) (name_lines format (pieces - 1) pieces)) }
+{
+    let last = pieces.saturating_sub(1);
+    for number in 0..pieces {
+        let name = piece_name(alloc, format, number, last)?;
         writeln!(out, "{name}")?;
     }
     Ok(())
 }
 
 /// The name of the format in which the pieces are written.
-fn name_of(format: Format) -> &'static str {
+fn name_of(format: Format) -> &'static str
+    ensures { result.now ≡ format_name (format_written format) }
+{
     match written_format(format) {
         Format::Opb => "opb",
         Format::Cnf | Format::Icnf => "cnf",

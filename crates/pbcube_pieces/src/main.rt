@@ -1,6 +1,8 @@
 //! `pbcube_pieces`: the pieces of a pseudo-Boolean instance as texts, from the command line.
 #![tactic(auto)]
 
+ghost use Rattle.std.specs.Prelude.{◌≡◌};
+
 mod asked;
 mod command;
 mod faults;
@@ -17,7 +19,7 @@ use crate::folders::Folders;
 use crate::running::{out_of_memory, program};
 use pb_line::{texts_of, words_of};
 use std::fs::{self, File};
-use std::io::{self, ErrorKind};
+use std::io::{self, ErrorKind, Write};
 use std::process::ExitCode;
 
 /// The files and folders of the system.
@@ -27,12 +29,16 @@ struct SystemFolders<'a> {
 }
 
 impl Folders for SystemFolders<'_> {
-    type Input = File;
+    ghost reads = { λ folders name text after. after ≡ folders };
 
-    type Output = File;
+    ghost makes = { λ folders name after. after ≡ folders };
 
-    fn open(&mut self, name: &str) -> io::Result<File> {
-        fs::open(self.rt, name)
+    ghost looks = { λ folders name there after. after ≡ folders };
+
+    ghost writes = { λ folders name text after. after ≡ folders };
+
+    fn read(&mut self, name: &str) -> io::Result<Vec<u8>> {
+        fs::read(self.rt, name)
     }
 
     fn make_folder(&mut self, name: &str) -> io::Result<()> {
@@ -43,8 +49,9 @@ impl Folders for SystemFolders<'_> {
         fs::exists(self.rt, name)
     }
 
-    fn create(&mut self, name: &str) -> io::Result<File> {
-        File::create_new(self.rt, name)
+    fn write_new(&mut self, name: &str, text: &[u8]) -> io::Result<()> {
+        let mut file = File::create_new(self.rt, name)?;
+        file.write_all(text)
     }
 }
 

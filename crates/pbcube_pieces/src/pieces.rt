@@ -1,5 +1,9 @@
 //! The files of the pieces and of the index.
-ghost use Rattle.std.specs.Prelude.{◌≡◌, ◌≤◌, ◌<◌, length};
+ghost use Rattle.std.specs.Prelude.{◌≡◌, ◌≤◌, ◌+◌, ℕ, List, [], length, string_bytes, OnOk};
+ghost use Rattle.pb_read.specs.Format.{Spells};
+ghost use Rattle.pb_write.specs.Pieces.{piece_problem};
+ghost use Rattle.pb_write.specs.Written.{written_format};
+ghost use Rattle.pbcube_pieces.specs.Writing.{MakesRoom, WritesDivided, WritesPieces, index_text};
 
 use crate::asked::Line;
 use crate::faults::Fault;
@@ -9,7 +13,7 @@ use crate::names::{INDEX, path, piece_name};
 use crate::prepared::Prepared;
 use pb_write::{WriteFault, write_piece};
 use std::alloc::Global;
-use std::io::{self, BufWriter, ErrorKind, Write};
+use std::io::{self, ErrorKind};
 
 /// Writes every piece to a file of its own in the line's folder, and then the index.
 pub fn write_pieces<'a, F: Folders>(
@@ -19,34 +23,18 @@ pub fn write_pieces<'a, F: Folders>(
     prepared: &Prepared,
 ) -> Result<(), Fault<'a>>
     requires { prepared.now.pieces.vars ≡ prepared.now.instance.vars }
+    ensures { OnOk result (WritesDivided F.makes F.looks F.writes line.now prepared.now.instance prepared.now.pieces.cubes prepared.now.digest folders.old folders.new) }
 {
     let index = path(alloc, line.out, INDEX)?;
     make_room(folders, line.out, &index)?;
-    let pieces = prepared.pieces.len();
-    for number in 0..pieces {
-        let name = piece_name(alloc, line.format, number, pieces - 1)?;
-        let file = path(alloc, line.out, &name)?;
-        write_one(alloc, folders, file, line, prepared, number)?;
-    }
-    let digest = hex::encode(alloc, prepared.digest)?;
-    let told = Index {
-        format: line.format,
-        pieces,
-        vars: prepared.instance.vars(),
-        digest: &digest,
-    };
-    match put_index(alloc, folders, &index, &told) {
-        Ok(()) => Ok(()),
-        Err(error) => Err(cannot_write(index, &error)),
-    }
+    write_each(alloc, folders, line, prepared)?;
+    put_index(alloc, folders, index, line, prepared)
 }
 
 /// Makes the folder where it is not there, and refuses it where it holds an index.
-fn make_room<'a, F: Folders>(
-    folders: &mut F,
-    folder: &'a str,
-    index: &str,
-) -> Result<(), Fault<'a>> {
+fn make_room<'a, F: Folders>(folders: &mut F, folder: &'a str, index: &str) -> Result<(), Fault<'a>>
+    ensures { OnOk result (MakesRoom F.makes F.looks folder.now index.now folders.old folders.new) }
+{
     if folders.make_folder(folder).is_err() {
         return Err(Fault::CannotUse(folder));
     }
@@ -57,7 +45,26 @@ fn make_room<'a, F: Folders>(
     }
 }
 
-/// Writes one piece to the file of this name.
+/// Writes each piece to the file of its number.
+fn write_each<'a, F: Folders>(
+    alloc: Global,
+    folders: &mut F,
+    line: &Line<'_>,
+    prepared: &Prepared,
+) -> Result<(), Fault<'a>>
+    requires { prepared.now.pieces.vars ≡ prepared.now.instance.vars }
+    ensures { OnOk result (WritesPieces F.writes line.now prepared.now.instance prepared.now.pieces.cubes (length prepared.now.pieces.cubes + 1) folders.old folders.new) }
+{
+    let pieces = prepared.pieces.len();
+    for number in 0..pieces {
+        let name = piece_name(alloc, line.format, number, pieces - 1)?;
+        let file = path(alloc, line.out, &name)?;
+        write_one(alloc, folders, file, line, prepared, number)?;
+    }
+    Ok(())
+}
+
+/// Writes one piece to the file of this name. Its text is made in memory first, so where that fails no file is made.
 fn write_one<'a, F: Folders>(
     alloc: Global,
     folders: &mut F,
@@ -68,13 +75,11 @@ fn write_one<'a, F: Folders>(
 ) -> Result<(), Fault<'a>>
     requires same_variables { prepared.now.pieces.vars ≡ prepared.now.instance.vars }
     requires number { number ≤ length prepared.now.pieces.cubes }
+    ensures { OnOk result ((text : List ℕ) × Spells (written_format line.now.format) text (piece_problem prepared.now.instance prepared.now.pieces.cubes number) [] × F.writes folders.old (string_bytes file) text folders.new) }
 {
-    let mut out = match buffered(alloc, folders, &file) {
-        Ok(out) => out,
-        Err(error) => return Err(cannot_write(file, &error)),
-    };
+    let mut text = Vec::new(alloc);
     let written = write_piece(
-        &mut out,
+        &mut text,
         line.format,
         &prepared.instance,
         &prepared.pieces,
@@ -86,31 +91,41 @@ fn write_one<'a, F: Folders>(
         Err(WriteFault::Write) => return Err(Fault::CannotWrite(file)),
         Err(fault) => return Err(Fault::HasNoText(file, fault)),
     }
-    match out.flush() {
-        Ok(()) => Ok(()),
+    put_file(folders, file, &text)
+}
+
+/// Writes the index to the file of this name.
+fn put_index<'a, F: Folders>(
+    alloc: Global,
+    folders: &mut F,
+    file: String,
+    line: &Line<'_>,
+    prepared: &Prepared,
+) -> Result<(), Fault<'a>>
+    ensures { OnOk result (F.writes folders.old (string_bytes file) (index_text line.now.format prepared.now.pieces.cubes prepared.now.instance.vars prepared.now.digest) folders.new) }
+{
+    let digest = hex::encode(alloc, prepared.digest)?;
+    let told = Index {
+        format: line.format,
+        pieces: prepared.pieces.len(),
+        vars: prepared.instance.vars(),
+        digest: &digest,
+    };
+    let mut text = Vec::new(alloc);
+    match write_index(alloc, &mut text, &told) {
+        Ok(()) => put_file(folders, file, &text),
         Err(error) => Err(cannot_write(file, &error)),
     }
 }
 
-fn put_index<F: Folders>(
-    alloc: Global,
-    folders: &mut F,
-    file: &str,
-    index: &Index<'_>,
-) -> io::Result<()> {
-    let mut out = buffered(alloc, folders, file)?;
-    write_index(alloc, &mut out, index)?;
-    out.flush()
-}
-
-/// A new file behind a buffer.
-fn buffered<F: Folders>(
-    alloc: Global,
-    folders: &mut F,
-    file: &str,
-) -> io::Result<BufWriter<F::Output>> {
-    let out = folders.create(file)?;
-    BufWriter::new(alloc, out)
+/// Makes the file of this name with these bytes.
+fn put_file<'a, F: Folders>(folders: &mut F, file: String, text: &[u8]) -> Result<(), Fault<'a>>
+    ensures { OnOk result (F.writes folders.old (string_bytes file) text.now folders.new) }
+{
+    match folders.write_new(&file, text) {
+        Ok(()) => Ok(()),
+        Err(error) => Err(cannot_write(file, &error)),
+    }
 }
 
 fn cannot_write<'a>(file: String, error: &io::Error) -> Fault<'a> {

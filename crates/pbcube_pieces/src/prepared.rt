@@ -1,5 +1,6 @@
 //! The instance, its pieces, and the digest of its text.
-ghost use Rattle.std.specs.Prelude.{◌≡◌, IfOk};
+ghost use Rattle.std.specs.Prelude.{◌≡◌, option_map, IfOk};
+ghost use Rattle.pbcube_pieces.specs.Dividing.{AreOfSplit, ReadsCubes, ReadsDivided};
 
 use crate::asked::Line;
 use crate::faults::Fault;
@@ -9,7 +10,7 @@ use pb_inst::{Cube, Instance};
 use pb_read::{ReadFault, ReadKind, read, read_cubes};
 use sha2::{Digest, Sha256};
 use std::alloc::Global;
-use std::io::{ErrorKind, Read};
+use std::io::ErrorKind;
 
 /// An instance, the pieces of it, and the SHA-256 digest of the text that spells it.
 #[derive(Drop)]
@@ -26,21 +27,18 @@ pub fn prepare<'a, F: Folders>(
     folders: &mut F,
     line: &Line<'a>,
 ) -> Result<Prepared, Fault<'a>>
-    ensures { IfOk result (λ prepared. prepared.pieces.vars ≡ prepared.instance.vars) }
+    ensures same_variables { IfOk result (λ prepared. prepared.pieces.vars ≡ prepared.instance.vars) }
+    ensures divided { IfOk result (λ prepared. ReadsDivided F.reads line.now prepared.instance prepared.pieces.cubes prepared.digest folders.old folders.new) }
 {
-    let text = read_file(alloc, folders, line.file)?;
+    let text = read_file(folders, line.file)?;
     let (instance, mut cubes) = match read(alloc, line.format, &text) {
         Ok(found) => found,
         Err(fault) => return Err(refusal(line.file, fault)),
     };
-    if let Some(name) = line.cubes {
-        let mut of_file = cubes_of_file(alloc, folders, name, instance.vars())?;
-        cubes.append(&mut of_file)?;
-    }
-    if line.split > 0 {
-        let mut of_split = cubes_of_split(alloc, &instance, line.split)?;
-        cubes.append(&mut of_split)?;
-    }
+    let mut of_file = cubes_of_file(alloc, folders, line.cubes, instance.vars())?;
+    cubes.append(&mut of_file)?;
+    let mut of_split = cubes_of_split(alloc, &instance, line.split)?;
+    cubes.append(&mut of_split)?;
     let pieces = pieces_of(instance.vars(), cubes)?;
     Ok(Prepared {
         instance,
@@ -50,42 +48,46 @@ pub fn prepare<'a, F: Folders>(
 }
 
 /// All bytes of the file of this name.
-fn read_file<'a, F: Folders>(
-    alloc: Global,
-    folders: &mut F,
-    name: &'a str,
-) -> Result<Vec<u8>, Fault<'a>> {
-    let mut text = Vec::new(alloc);
-    let ended = match folders.open(name) {
-        Ok(mut file) => file.read_to_end(&mut text),
-        Err(error) => Err(error),
-    };
-    match ended {
-        Ok(_) => Ok(text),
+fn read_file<'a, F: Folders>(folders: &mut F, name: &'a str) -> Result<Vec<u8>, Fault<'a>>
+    ensures { IfOk result (λ text. F.reads folders.old name.now text.items folders.new) }
+{
+    match folders.read(name) {
+        Ok(text) => Ok(text),
         Err(error) if error.kind() == ErrorKind::OutOfMemory => Err(Fault::Memory),
         Err(_) => Err(Fault::CannotRead(name)),
     }
 }
 
-/// The cubes of the file of this name, over so many variables.
+/// The cubes of the file of this name, over so many variables. Without a name there are none.
 fn cubes_of_file<'a, F: Folders>(
     alloc: Global,
     folders: &mut F,
-    name: &'a str,
+    name: Option<&'a str>,
     vars: u32,
-) -> Result<Vec<Cube>, Fault<'a>> {
-    let text = read_file(alloc, folders, name)?;
+) -> Result<Vec<Cube>, Fault<'a>>
+    ensures { IfOk result (λ cubes. ReadsCubes F.reads (option_map (λ name. name.now) name.entry) vars cubes.items folders.old folders.new) }
+{
+    let Some(name) = name else {
+        return Ok(Vec::new(alloc));
+    };
+    let text = read_file(folders, name)?;
     match read_cubes(alloc, &text, vars) {
         Ok(cubes) => Ok(cubes),
         Err(fault) => Err(refusal(name, fault)),
     }
 }
 
+/// The cubes of the split over so many variables. Over none there are none, since one empty cube would divide nothing.
 fn cubes_of_split<'a>(
     alloc: Global,
     instance: &Instance,
     variables: u32,
-) -> Result<Vec<Cube>, Fault<'a>> {
+) -> Result<Vec<Cube>, Fault<'a>>
+    ensures { IfOk result (λ cubes. AreOfSplit instance.now variables cubes.items) }
+{
+    if variables == 0 {
+        return Ok(Vec::new(alloc));
+    }
     match split(alloc, instance, variables) {
         Ok(cubes) => Ok(cubes),
         Err(CubeFault::Memory) => Err(Fault::Memory),

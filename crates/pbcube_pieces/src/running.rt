@@ -1,8 +1,10 @@
 //! The program over any files and any outputs.
-ghost use Rattle.std.specs.Prelude.{◌≡◌, ◌≤◌, map};
-ghost use Rattle.clap.specs.Words.{kind_of};
+ghost use Rattle.std.specs.Prelude.{◌≡◌, ◌≤◌, [], map, OnOk};
+ghost use Rattle.clap.specs.Words.{fault_of, kind_of};
 ghost use Rattle.pb_line.specs.Ends.{EndsBy};
+ghost use Rattle.pbcube_pieces.specs.CommandLine.{pbcube_pieces};
 ghost use Rattle.pbcube_pieces.specs.Ending.{Ends};
+ghost use Rattle.pbcube_pieces.specs.Writing.{Divides, DividesAsAsked};
 
 use crate::asked::Line;
 use crate::faults::Fault;
@@ -25,6 +27,7 @@ pub fn program<'a, F: Folders, W: Write, E: Write>(
 ) -> u8
     ensures status { result ≤ 2 }
     ensures ended { Ends (map (λ word. word.now) words.now) result }
+    ensures divided { fault_of pbcube_pieces (map (λ word. word.now) words.now) ≡ [] → result ≡ 0 → DividesAsAsked F.reads F.makes F.looks F.writes (map (λ word. word.now) words.now) folders.old folders.new }
 {
     let line = match line(alloc, words) {
         Ok(line) => line,
@@ -47,7 +50,9 @@ fn write_all<'a, F: Folders>(
     alloc: Global,
     folders: &mut F,
     line: &Line<'a>,
-) -> Result<(), Fault<'a>> {
+) -> Result<(), Fault<'a>>
+    ensures { OnOk result (Divides F.reads F.makes F.looks F.writes line.now folders.old folders.new) }
+{
     let prepared = prepare(alloc, folders, line)?;
     write_pieces(alloc, folders, line, &prepared)
 }
