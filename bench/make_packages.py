@@ -2,6 +2,8 @@
 """Writes a question to a package manager to standard output: an archive of packages, what is installed, and what is wanted.
 
     make_packages.py PACKAGES [SEED] [--requests N] [--older SHARE]
+    make_packages.py PACKAGES [SEED] [--requests N] --distribution
+    make_packages.py PACKAGES [SEED] [--requests N] --levels [K ...]
 
 Each package has one to five versions, of which one at most can be installed. A version depends on others: on one of some
 versions of a package, or of some packages; and it conflicts with old versions of a few. A part of the archive is installed,
@@ -11,10 +13,17 @@ fit together, so there is a solution.
 
 The objective has four levels, folded into one: as few packages as can be are removed; of those that are left as few as can
 be are behind their newest version; as few as can be are new; and what is installed is small.
+
+With --distribution the archive is that of `distribution.py`, and much harder. It has four criteria: packages that are removed,
+that are not up to date, recommendations that are not met, and packages that are new, as few as can be. They are folded into one
+sum. With --levels the objective is one of them: the first, or the one after those whose least counts are the K.
 """
 import argparse
 import random
 import sys
+
+import criteria
+from distribution import Distribution
 
 MOST_VERSIONS = 5
 INSTALLED_SHARE = 0.4
@@ -134,14 +143,25 @@ def objective(archive, installed, number, removed):
     return costs
 
 
-def text(variables, costs, rows):
-    def sum_text(terms):
-        return " ".join("%d %sx%d" % (a, "~" if v < 0 else "", abs(v)) for a, v in terms)
+def small_archive(rng, options):
+    """The instance over an archive in which what is installed was drawn first."""
+    archive = Archive(rng, options.packages, options.older)
+    installed, wishes = question(rng, archive, options.requests)
+    number = {version: n + 1 for n, version in enumerate(archive.versions())}
+    removed = {package: len(number) + n + 1 for n, package in enumerate(sorted(installed))}
+    rows = [(terms, ">=", bound) for terms, bound in constraints(archive, installed, wishes, number, removed)]
+    costs = objective(archive, installed, number, removed)
+    return criteria.text(len(number) + len(removed), [(costs[v], v) for v in sorted(costs)], rows)
 
-    lines = ["* #variable= %d #constraint= %d" % (variables, len(rows))]
-    lines.append("min: %s ;" % sum_text([(costs[v], v) for v in sorted(costs)]))
-    lines += ["%s >= %d ;" % (sum_text(terms), bound) for terms, bound in rows]
-    return "\n".join(lines) + "\n"
+
+def distribution(rng, options):
+    """The instance over the archive of a distribution: some packages are to be new, and of others a newer version is wanted."""
+    archive = Distribution(rng, options.packages)
+    absent = [p for p in archive.fitting if p not in archive.installed]
+    behind = [p for p in archive.fitting if archive.fitting[p] > archive.installed.get(p, archive.newest(p))]
+    wishes = [archive.of(p) for p in sorted(rng.sample(absent, min(options.requests, len(absent))))]
+    wishes += [archive.of(p, archive.fitting[p]) for p in sorted(rng.sample(behind, min(options.requests, len(behind))))]
+    return criteria.question(archive, wishes, options.levels)
 
 
 def main():
@@ -150,15 +170,12 @@ def main():
     words.add_argument("seed", nargs="?", default="1")
     words.add_argument("--requests", type=int, default=5)
     words.add_argument("--older", type=float, default=0.5)
+    words.add_argument("--distribution", action="store_true")
+    words.add_argument("--levels", type=int, nargs="*", metavar="K")
     options = words.parse_args()
     rng = random.Random("packages %d %s" % (options.packages, options.seed))
-    archive = Archive(rng, options.packages, options.older)
-    installed, wishes = question(rng, archive, options.requests)
-    number = {version: n + 1 for n, version in enumerate(archive.versions())}
-    removed = {package: len(number) + n + 1 for n, package in enumerate(sorted(installed))}
-    rows = constraints(archive, installed, wishes, number, removed)
-    costs = objective(archive, installed, number, removed)
-    sys.stdout.write(text(len(number) + len(removed), costs, rows))
+    write = small_archive if options.levels is None and not options.distribution else distribution
+    sys.stdout.write(write(rng, options))
 
 
 if __name__ == "__main__":

@@ -19,6 +19,8 @@
     grid        squares of a board of SIZE by SIZE that do not touch, not even at corners, worth most
     garden      plants on a board of SIZE by SIZE, in or beside each square but not crowded, at least cost
     options     SIZE features, one of four options for each, that need one another, under two limits, at least cost
+    staff       SIZE people for the three shifts of each day of a week, with rest, hours, skills and wishes, at least cost
+    pictures    a picture of SIZE by SIZE squares, of which the lengths of the runs in each row and column are known
     clauses     clauses of three literals over SIZE variables, 4.2 for each variable (a text of clauses)
     colours     three colours for a graph with SIZE vertices (a text of clauses)
 """
@@ -244,6 +246,84 @@ def options(rng, size):
     return linear(4 * size, weighted(rng, 1, 60, variables), rows)
 
 
+def staff(rng, size):
+    days, shifts, hours = 7, 3, (8, 8, 10)
+    slots = days * shifts
+    weeks = [[slots * person + slot + 1 for slot in range(slots)] for person in range(size)]
+    rows = [row for week in weeks for row in rests(week, shifts) + [limit(week, hours)]]
+    skilled = [week for person, week in enumerate(weeks) if person % 3]
+    for slot in range(slots):
+        rows.append(counted([week[slot] for week in weeks], ">=", size // 6))
+        rows.append(counted([week[slot] for week in skilled], ">=", min(1, size // 9)))
+    costs = []
+    for week in weeks:
+        for day in range(days):
+            # Nights are liked least, and a weekend less than the days before it.
+            cost = rng.randint(1, 8) + (3 if day >= days - 2 else 0)
+            for v in week[shifts * day : shifts * (day + 1)]:
+                costs.append((cost, v))
+                cost += rng.randint(0, 4)
+    return linear(size * slots, costs, rows)
+
+
+def rests(week, shifts):
+    """One shift a day, none after a night but another night, three nights in a row for nobody, and one shift on a weekend."""
+    nights = week[shifts - 1 :: shifts]
+    rows = [counted(week[begin : begin + shifts], "<=", 1) for begin in range(0, len(week), shifts)]
+    rows += [counted(week[night : night + shifts], "<=", 1) for night in range(shifts - 1, len(week) - 1, shifts)]
+    rows += [counted(nights[first : first + 3], "<=", 2) for first in range(len(nights) - 2)]
+    return rows + [counted(week[-2 * shifts :], "<=", 1), counted(week, ">=", 3), counted(week, "<=", 5)]
+
+
+def limit(week, hours):
+    return [(hours[slot % len(hours)], v) for slot, v in enumerate(week)], "<=", 44
+
+
+def pictures(rng, size):
+    picture = blots(rng, size)
+    rows = []
+    variables = size * size
+    lines = [[size * line + place + 1 for place in range(size)] for line in range(size)]
+    for line in lines + [list(column) for column in zip(*lines)]:
+        lengths = runs([picture[square] for square in line])
+        starts, places = [], size - sum(lengths) - len(lengths) + 1
+        for n in range(len(lengths)):
+            first = sum(lengths[:n]) + n
+            starts.append({place: variables + n * (places + 1) + place - first + 1 for place in range(first, first + places + 1)})
+        variables += len(lengths) * (places + 1)
+        rows += line_rows(line, lengths, starts)
+    return linear(variables, [], rows)
+
+
+def blots(rng, size):
+    """Whether each square is black: three in four squares are as the one above or before it."""
+    picture = {}
+    for square in range(1, size * size + 1):
+        beside = [square - size] if square > size else []
+        beside += [square - 1] if (square - 1) % size else []
+        picture[square] = picture[rng.choice(beside)] if beside and rng.randrange(4) else rng.randrange(2) == 1
+    return picture
+
+
+def runs(squares):
+    """The lengths of the runs of black squares."""
+    words = "".join("x" if black else " " for black in squares).split()
+    return [len(word) for word in words]
+
+
+def line_rows(line, lengths, starts):
+    """Each run starts at one place, and behind the one before it; a square is black just where a run covers it."""
+    rows = [counted(list(start.values()), "=", 1) for start in starts]
+    for length, start, after in zip(lengths, starts, starts[1:]):
+        for place, v in start.items():
+            rows.append(counted([-v] + [w for other, w in after.items() if other > place + length], ">=", 1))
+    for place, square in enumerate(line):
+        covering = [start[at] for length, start in zip(lengths, starts) for at in range(place - length + 1, place + 1) if at in start]
+        rows.append(counted([-square] + covering, ">=", 1))
+        rows += [counted([square, -v], ">=", 1) for v in covering]
+    return rows
+
+
 def clauses(rng, size):
     drawn = [[rng.choice((-1, 1)) * v for v in rng.sample(range(1, size + 1), 3)] for _ in range(int(4.2 * size))]
     return clausal(size, drawn)
@@ -275,6 +355,8 @@ FAMILIES = {
     "grid": grid,
     "garden": garden,
     "options": options,
+    "staff": staff,
+    "pictures": pictures,
     "clauses": clauses,
     "colours": colours,
 }

@@ -41,6 +41,7 @@ STEPS = [
     Step("examples", "tests/examples.py"),
     Step("commands", "tests/commands.py"),
     Step("builds", "tests/builds.py"),
+    Step("instances", "tests/instances.py"),
     Step("plants", "tests/plants.py --check"),
     Step("threads", "tests/threads.py", is_alone=True),
 ]
