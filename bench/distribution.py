@@ -25,7 +25,7 @@ class Distribution:
         self.installed = {p: self.installed_version(p) for p in range(packages) if self.chance(65)}
         self.fitting = self.upgraded()
         self.virtual = [self.providers() for _ in range(1 + packages // 100)]
-        self.depends = {v: self.lists(v, self.lists_of(v), True) for v in self.versions()}
+        self.depends = {v: self.lists(v, self.needs(), True) for v in self.versions()}
         self.recommends = {v: self.lists(v, rng.randrange(1, 4), False) for v in self.versions() if self.chance(20)}
         self.conflicts = self.exclusions() + [pair for v in self.versions() for pair in self.breaks(v)]
 
@@ -79,12 +79,12 @@ class Distribution:
     def target(self, package):
         """One of the few that many need, or one near by."""
         if self.chance(60):
-            return self.rng.randrange(self.packages) * self.rng.randrange(self.packages) // self.packages * (
-                self.rng.randrange(self.packages)) // self.packages
+            one, other, third = (self.rng.randrange(self.packages) for _ in range(3))
+            return one * other // self.packages * third // self.packages
         return max(0, package - 1 - self.rng.randrange(25))
 
-    def lists_of(self, version):
-        """Of how many lists a version needs one each: few mostly, at times many."""
+    def needs(self):
+        """How many lists a version depends on: few mostly, at times many."""
         return self.rng.choice((0, 1, 1, 2, 2, 3, 4, 5, 6, 8, 11, 15, 24))
 
     def lists(self, version, count, must_fit):
@@ -94,16 +94,18 @@ class Distribution:
     def fitting_list(self, version, must_fit):
         """A list of versions of which one is needed, or nothing where none was found that fits."""
         for _ in range(REDRAWS):
-            wanted = self.list(version)
+            wanted = self.any_list(version)
             if wanted and not (must_fit and self.is_broken(version, wanted)):
                 return wanted
         return []
 
     def is_broken(self, version, wanted):
+        """Whether the version would stand without what it wants in a set of versions that is to fit together."""
         worlds = [world for world in (self.installed, self.fitting) if world.get(version[0]) == version[1]]
         return any(all(world.get(package) != n for package, n in wanted) for world in worlds)
 
-    def list(self, version):
+    def any_list(self, version):
+        """Versions of one package or of several, all providers of a virtual one, or the same version of one of its source."""
         package, n = version
         kind = self.rng.randrange(100)
         if kind < 8:

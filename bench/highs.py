@@ -11,6 +11,7 @@ import resource
 import sys
 import time
 
+sys.dont_write_bytecode = True
 import numpy
 from scipy.optimize import Bounds, LinearConstraint, milp
 from scipy.sparse import coo_matrix

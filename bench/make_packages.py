@@ -22,6 +22,7 @@ import argparse
 import random
 import sys
 
+sys.dont_write_bytecode = True
 import criteria
 from distribution import Distribution
 
@@ -173,6 +174,8 @@ def main():
     words.add_argument("--distribution", action="store_true")
     words.add_argument("--levels", type=int, nargs="*", metavar="K")
     options = words.parse_args()
+    if options.levels and len(options.levels) > 3:
+        words.error("there are four criteria: three K at most")
     rng = random.Random("packages %d %s" % (options.packages, options.seed))
     write = small_archive if options.levels is None and not options.distribution else distribution
     sys.stdout.write(write(rng, options))

@@ -250,20 +250,26 @@ def staff(rng, size):
     days, shifts, hours = 7, 3, (8, 8, 10)
     slots = days * shifts
     weeks = [[slots * person + slot + 1 for slot in range(slots)] for person in range(size)]
-    rows = [row for week in weeks for row in rests(week, shifts) + [limit(week, hours)]]
+    rows = [row for week in weeks for row in rests(week, shifts) + [working_time(week, hours)]]
     skilled = [week for person, week in enumerate(weeks) if person % 3]
+    one = min(1, size // 9)
     for slot in range(slots):
-        rows.append(counted([week[slot] for week in weeks], ">=", size // 6))
-        rows.append(counted([week[slot] for week in skilled], ">=", min(1, size // 9)))
+        more = one if slot < slots - 2 * shifts and rng.randrange(8) == 0 else 0
+        rows.append(counted([week[slot] for week in weeks], ">=", size // 6 + more))
+        rows.append(counted([week[slot] for week in skilled], ">=", one))
+    return linear(size * slots, [cost for week in weeks for cost in dislikes(rng, week, shifts)], rows)
+
+
+def dislikes(rng, week, shifts):
+    """What each shift costs: some like mornings best and others nights, days are liked more or less, and a weekend least."""
+    is_early = rng.randrange(2) == 1
     costs = []
-    for week in weeks:
-        for day in range(days):
-            # Nights are liked least, and a weekend less than the days before it.
-            cost = rng.randint(1, 8) + (3 if day >= days - 2 else 0)
-            for v in week[shifts * day : shifts * (day + 1)]:
-                costs.append((cost, v))
-                cost += rng.randint(0, 4)
-    return linear(size * slots, costs, rows)
+    for begin in range(0, len(week), shifts):
+        cost = rng.randint(1, 5) + (rng.randint(2, 6) if begin >= len(week) - 2 * shifts else 0)
+        for v in week[begin : begin + shifts] if is_early else reversed(week[begin : begin + shifts]):
+            costs.append((cost, v))
+            cost += rng.randint(0, 4)
+    return sorted(costs, key=lambda term: term[1])
 
 
 def rests(week, shifts):
@@ -275,7 +281,8 @@ def rests(week, shifts):
     return rows + [counted(week[-2 * shifts :], "<=", 1), counted(week, ">=", 3), counted(week, "<=", 5)]
 
 
-def limit(week, hours):
+def working_time(week, hours):
+    """No more than 44 hours a week."""
     return [(hours[slot % len(hours)], v) for slot, v in enumerate(week)], "<=", 44
 
 

@@ -24,6 +24,7 @@ from dataclasses import dataclass
 from pathlib import Path
 from typing import Callable
 
+sys.dont_write_bytecode = True
 import opb
 from workers import format_of
 

@@ -8,6 +8,7 @@ The figures of docs/PERFORMANCE.md are of these bytes. With --digests it prints 
 changed on purpose.
 """
 import hashlib
+import random
 import re
 import subprocess
 import sys
@@ -18,6 +19,7 @@ sys.dont_write_bytecode = True
 from lib import TOP, side_by_side
 
 sys.path.insert(0, str(TOP / "bench"))
+from distribution import Distribution
 from make_small import FAMILIES
 
 DIGESTS = {
@@ -37,7 +39,7 @@ DIGESTS = {
     "make_small.py grid 6": "eb37405d45e4eb6b",
     "make_small.py garden 6": "ce12fcb96fe034d9",
     "make_small.py options 6": "025029934b4f3c45",
-    "make_small.py staff 6": "7043ce435e11ca41",
+    "make_small.py staff 6": "e72ef881d90697b3",
     "make_small.py pictures 6": "d545012e1d92fe3c",
     "make_small.py clauses 6": "32580666a6020947",
     "make_small.py colours 6": "9ec28315d6ddf2fe",
@@ -48,6 +50,7 @@ DIGESTS = {
     "make_packages.py 120 3 --levels 0 7": "d28ffd8fed19102f",
 }
 
+SEEDS = range(5)
 PACKAGES = ("120 3", "120 3 --requests 9 --older 0.9", "120 3 --distribution", "120 3 --levels", "120 3 --levels 0 7")
 COMMANDS = [f"make_small.py {family} 6" for family in FAMILIES] + [f"make_packages.py {words}" for words in PACKAGES]
 
@@ -81,6 +84,14 @@ def faults_of(command):
         yield f"instances: {command}: the head counts wrongly"
     if digest(text) != DIGESTS.get(command):
         yield f"instances: {command}: the digest is {digest(text)}, not {DIGESTS.get(command)}"
+
+
+def breaches(archive):
+    """What does not fit together in the two sets of versions that are to: what is installed, and what that may be upgraded to."""
+    for world in (archive.installed, archive.fitting):
+        chosen = set(world.items())
+        yield from ((version, wanted) for version in chosen for wanted in archive.depends[version] if not chosen & set(wanted))
+        yield from (pair for pair in archive.conflicts if chosen.issuperset(pair))
 
 
 def peers(room, *outputs):
@@ -122,6 +133,9 @@ def main():
         return 0
     wrong = [fault for faults in side_by_side(lambda command: list(faults_of(command)), COMMANDS) for fault in faults]
     wrong += faults_of_peers()
+    for seed in SEEDS:
+        some = list(breaches(Distribution(random.Random(seed), 200)))
+        wrong += [f"instances: distribution.py, seed {seed}: {some[0]} does not fit together"] if some else []
     print(*wrong, f"instances: {len(COMMANDS)} instances of bench/, and its peers.py, {len(wrong)} faults", sep="\n")
     return len(wrong) > 0
 
