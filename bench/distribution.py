@@ -77,7 +77,9 @@ class Distribution:
         return [version for package in sorted(drawn) for version in self.of(package)], self.chance(30)
 
     def target(self, package):
-        """One of the few that many need, or one near by."""
+        """The one that nearly all need, one of the few that many need, or one near by."""
+        if self.chance(8):
+            return 0
         if self.chance(60):
             one, other, third = (self.rng.randrange(self.packages) for _ in range(3))
             return one * other // self.packages * third // self.packages

@@ -45,9 +45,9 @@ DIGESTS = {
     "make_small.py colours 6": "9ec28315d6ddf2fe",
     "make_packages.py 120 3": "a8fd21a09069e4dc",
     "make_packages.py 120 3 --requests 9 --older 0.9": "8311fddc59ad3af0",
-    "make_packages.py 120 3 --distribution": "48e004018dd21eba",
-    "make_packages.py 120 3 --levels": "d1e075c0fc2a93fb",
-    "make_packages.py 120 3 --levels 0 7": "d28ffd8fed19102f",
+    "make_packages.py 120 3 --distribution": "79a953d77f7d356a",
+    "make_packages.py 120 3 --levels": "fe89c53baecfe7fe",
+    "make_packages.py 120 3 --levels 0 7": "8ad51cb6b201bc62",
 }
 
 SEEDS = range(5)
