@@ -140,7 +140,7 @@ def installed(names):
     both, python = ("opb", "cnf"), scipy_python() if "highs" in names else None
     found = {
         "highs": (python, ("opb",), lambda task: [python, str(HERE / "highs.py"), task.path, str(task.limit)], told_by_lines),
-        "clasp": (shutil.which("clasp"), both, lambda task: ["clasp", "--quiet=0", task.plain()], told_plainly),
+        "clasp": (shutil.which("clasp"), both, lambda task: ["clasp", "--quiet=2,1", task.plain()], told_plainly),
         "cbc": (shutil.which("cbc"), ("opb",), lambda task: ["cbc", task.lp(), "-solve", "-quit"], told_by_cbc),
         "sat4j": (shutil.which("java") and SAT4J[0].exists(), both, sat4j, told_plainly),
         "minisat": (shutil.which("minisat"), ("cnf",), lambda task: ["minisat", "-verb=0", task.path], told_by_minisat),
