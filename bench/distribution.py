@@ -77,7 +77,7 @@ class Distribution:
         return [version for package in sorted(drawn) for version in self.of(package)], self.chance(30)
 
     def target(self, package):
-        """The one that nearly all need, one of the few that many need, or one near by."""
+        """The first, which is needed most, one of the few that many need, or one near by."""
         if self.chance(8):
             return 0
         if self.chance(60):
