@@ -1,0 +1,2 @@
+pub mod Shifting
+pub use Rattle.pb_dual.specs.Multipliers

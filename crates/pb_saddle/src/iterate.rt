@@ -1,0 +1,53 @@
+//! One half of the point where the method stands: x, by columns, or y, by rows.
+
+use crate::floats::copy;
+use pb_inst::Memory;
+use std::alloc::Global;
+
+/// Three lists of the same length: where the half stands, where the step from there leads, and to where the iteration is
+/// drawn back, which is where it began.
+#[derive(Drop)]
+pub struct Iterate {
+    pub current: Vec<f64>,
+    pub target: Vec<f64>,
+    pub anchor: Vec<f64>,
+}
+
+impl Iterate {
+    /// Empty, and room for so many numbers.
+    pub fn new(alloc: Global, room: usize) -> Result<Iterate, Memory> {
+        Ok(Iterate {
+            current: Vec::with_capacity(alloc, room)?,
+            target: Vec::with_capacity(alloc, room)?,
+            anchor: Vec::with_capacity(alloc, room)?,
+        })
+    }
+
+    /// Begins where it stands now.
+    pub fn begin(&mut self) {
+        copy(&mut self.target, &self.current);
+        copy(&mut self.anchor, &self.current);
+    }
+
+    /// Goes on to the target and as far again beyond it, and is drawn back: this part of the way is kept.
+    pub fn reflect(&mut self, part: f64) {
+        let rest = 1.0 - part;
+        let towards = self.target.iter().zip(self.anchor.iter());
+        for (current, (target, anchor)) in self.current.iter_mut().zip(towards) {
+            *current = part * (2.0 * *target - *current) + rest * *anchor;
+        }
+    }
+
+    /// Begins anew at the target. Gives how far that is from where it began before, squared and in these scales.
+    pub fn restart(&mut self, scales: &[f64]) -> f64 {
+        let mut far = 0.0;
+        let from = self.anchor.iter().zip(scales);
+        for (target, (anchor, scale)) in self.target.iter().zip(from) {
+            let by = (*target - *anchor) / *scale;
+            far = far + by * by;
+        }
+        copy(&mut self.current, &self.target);
+        copy(&mut self.anchor, &self.target);
+        far
+    }
+}

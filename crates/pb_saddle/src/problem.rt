@@ -1,0 +1,156 @@
+//! The linear program: what a trail leaves of a form.
+
+ghost use Rattle.std.specs.Prelude.{◌<◌, length};
+
+use crate::floats::{add, at, float, put, refill};
+use crate::sparse::{Lines, product};
+use pb_count::Count;
+use pb_dual::Multipliers;
+use pb_inst::{Lit, Memory};
+use pb_normal::Form;
+use std::alloc::Global;
+
+/// The least of the costs times x, where the matrix times x is at least what is needed, and each x is from 0 to 1. Column v
+/// is variable v + 1. A variable that has a value has no entry and no cost.
+#[derive(Drop)]
+pub struct Problem {
+    /// The matrix by rows: those rows of the form that the trail does not meet.
+    pub rows: Lines,
+    /// The same by columns, one for each variable.
+    pub columns: Lines,
+    /// The number of each row in the form.
+    pub ids: Vec<usize>,
+    /// What each row needs.
+    pub needs: Vec<f64>,
+    /// What each column costs.
+    pub costs: Vec<f64>,
+}
+
+impl Problem {
+    /// An empty problem, and room for those of so many variables, rows and terms.
+    pub fn new(alloc: Global, vars: usize, rows: usize, terms: usize) -> Result<Problem, Memory> {
+        Ok(Problem {
+            rows: Lines::new(alloc, rows, terms)?,
+            columns: Lines::new(alloc, vars, terms)?,
+            ids: Vec::with_capacity(alloc, rows)?,
+            needs: Vec::with_capacity(alloc, rows)?,
+            costs: Vec::with_capacity(alloc, vars)?,
+        })
+    }
+
+    /// Becomes what the trail of the multipliers leaves.
+    pub fn load<C: Count>(&mut self, multipliers: &Multipliers<'_, C>) {
+        self.load_costs(multipliers);
+        self.rows.clear();
+        self.ids.clear();
+        self.needs.clear();
+        for row in 0..multipliers.form().len() {
+            self.load_row(multipliers, row);
+        }
+        self.columns.transpose(&self.rows, self.costs.len());
+    }
+
+    /// Takes the costs of the variables that have no value. What a negation costs its variable spares.
+    fn load_costs<C: Count>(&mut self, multipliers: &Multipliers<'_, C>) {
+        let form = multipliers.form();
+        refill(&mut self.costs, form.vars() as usize, 0.0);
+        for term in form.objective() {
+            let lit = term.lit();
+            if multipliers.is_free(lit) {
+                let cost = float(term.coef().number());
+                put(&mut self.costs, column(lit), signed(lit, cost));
+            }
+        }
+    }
+
+    /// Takes the row, if the trail does not meet it. A negation is 1 less its variable.
+    fn load_row<C: Count>(&mut self, multipliers: &Multipliers<'_, C>, row: usize)
+        requires { row < length multipliers.now.form.rows }
+    {
+        let form = multipliers.form();
+        let (mut need, mut negated) = (form.degree(row).number(), 0.0);
+        for term in form.terms(row) {
+            let (lit, coef) = (term.lit(), term.coef().number());
+            match value(multipliers, lit) {
+                Some(true) => need = need.saturating_sub(coef),
+                Some(false) => {}
+                None => {
+                    let size = float(coef);
+                    self.rows.push(column(lit), signed(lit, size));
+                    negated = if lit.positive() {
+                        negated
+                    } else {
+                        negated + size
+                    };
+                }
+            }
+        }
+        if need == 0 {
+            self.rows.drop_line();
+            return;
+        }
+        self.end_row(row, float(need) - negated);
+    }
+
+    /// Ends a row that needs so much.
+    fn end_row(&mut self, row: usize, need: f64) {
+        if self.ids.len() < self.ids.capacity() {
+            self.ids.push_reserved(row);
+            add(&mut self.needs, need);
+            self.rows.end_line();
+        }
+    }
+
+    /// What the row lacks at this x; below 0 what it has too much.
+    pub fn lack(&self, row: usize, x: &[f64]) -> f64 {
+        at(&self.needs, row) - product(self.rows.line(row), x)
+    }
+
+    /// What is left of the column's cost at these multipliers.
+    pub fn reduced_cost(&self, column: usize, y: &[f64]) -> f64 {
+        at(&self.costs, column) - product(self.columns.line(column), y)
+    }
+
+    /// A lower bound of the least costs, by multipliers from 0 on: what they make of the needs, and the reduced costs that
+    /// are below 0.
+    pub fn bound(&self, y: &[f64]) -> f64 {
+        let mut bound = 0.0;
+        for (need, multiplier) in self.needs.iter().zip(y) {
+            bound = bound + *need * *multiplier;
+        }
+        for column in 0..self.costs.len() {
+            let cost = self.reduced_cost(column, y);
+            if cost < 0.0 {
+                bound = bound + cost;
+            }
+        }
+        bound
+    }
+}
+
+/// The column of the literal's variable.
+fn column(lit: Lit) -> usize {
+    lit.var() as usize - 1
+}
+
+/// The size, below 0 for a negation.
+fn signed(lit: Lit, size: f64) -> f64 {
+    if lit.positive() { size } else { -size }
+}
+
+/// Whether the trail makes the literal true, if it gives its variable a value.
+fn value<C: Count>(multipliers: &Multipliers<'_, C>, lit: Lit) -> Option<bool> {
+    if lit.var() > multipliers.form().vars() {
+        return Some(false);
+    }
+    multipliers.value(lit)
+}
+
+/// The number of terms of all rows.
+pub fn count_terms<C: Count>(form: &Form<C>) -> u64 {
+    let mut count = 0_u64;
+    for row in 0..form.len() {
+        count = count.saturating_add(form.terms(row).len() as u64);
+    }
+    count
+}

@@ -1,0 +1,263 @@
+//! The method: from the multipliers as they are to better ones, and to a point.
+
+ghost use Rattle.pb_saddle.specs.Shifting.{IsSameButShifted};
+
+use crate::floats::{add, at, copy, float, number, put, refill};
+use crate::iterate::Iterate;
+use crate::plan::Plan;
+use crate::problem::{Problem, count_terms};
+use crate::restart::Restarts;
+use crate::scaling::{Scaling, VISITS};
+use crate::shifting::shift_to;
+use crate::step::Steps;
+use pb_count::{Count, Tally};
+use pb_dual::Multipliers;
+use pb_inst::{Lit, Memory, Number};
+use pb_normal::Form;
+use std::alloc::Global;
+
+/// The most terms that a form may have: above, nothing is proposed.
+const MOST_TERMS: u64 = 8_000_000;
+
+/// How many entries one call looks at, at most: some tenths of a second.
+const MOST_VISITS: u64 = 100_000_000;
+
+/// How many steps there are from one look at the bound to the next.
+const LOOK: u32 = 25;
+
+/// The problem that a trail leaves, and where the method stands in it.
+pub struct Saddle {
+    /// Whether the form has few enough terms.
+    is_open: bool,
+    problem: Problem,
+    scaling: Scaling,
+    steps: Steps,
+    x: Iterate,
+    y: Iterate,
+    /// The y of the best bound so far.
+    best: Vec<f64>,
+    /// That bound, without what the trail itself costs.
+    top: f64,
+    /// The best y of the last call, by the rows of the form.
+    held: Vec<f64>,
+    plan: Plan,
+}
+
+// By hand, so that whoever lets go of it sees one call, and not each of its parts.
+impl Drop for Saddle {
+    fn drop(self) {
+        let Saddle {
+            is_open: _,
+            problem: _,
+            scaling: _,
+            steps: _,
+            x: _,
+            y: _,
+            best: _,
+            top: _,
+            held: _,
+            plan: _,
+        } = self;
+    }
+}
+
+impl Saddle {
+    /// Room for the problems that trails leave of the form, where it has no more terms than are worth it. Fails where there
+    /// is no memory; nothing after it takes any.
+    pub fn new<C: Count>(alloc: Global, form: &Form<C>) -> Result<Saddle, Memory> {
+        let count = count_terms(form);
+        let is_open = count <= MOST_TERMS;
+        let (vars, rows, terms) = if is_open {
+            (form.vars() as usize, form.len(), count as usize)
+        } else {
+            (0, 0, 0)
+        };
+        Ok(Saddle {
+            is_open,
+            problem: Problem::new(alloc, vars, rows, terms)?,
+            scaling: Scaling::new(alloc, vars, rows)?,
+            steps: Steps::new(alloc, vars)?,
+            x: Iterate::new(alloc, vars)?,
+            y: Iterate::new(alloc, rows)?,
+            best: Vec::with_capacity(alloc, rows)?,
+            top: 0.0,
+            held: Vec::with_capacity(alloc, rows)?,
+            plan: Plan::new(alloc, vars)?,
+        })
+    }
+
+    /// Improves the multipliers for the trail as it is, by at most so many steps from where they are; none follows once their
+    /// bound is over the limit. They are shifted for good, each to the nearest of their numbers, and only where their bound
+    /// rises. Gives how many terms were looked at.
+    pub fn improve<C: Count>(
+        &mut self,
+        multipliers: &mut Multipliers<'_, C>,
+        steps: u32,
+        limit: Number,
+    ) -> u64
+        ensures { IsSameButShifted multipliers.old multipliers.new }
+    {
+        if !self.is_open {
+            return 0;
+        }
+        let scale = float(multipliers.scale().number());
+        self.load(multipliers);
+        self.begin_at(multipliers, scale);
+        let start = self.top;
+        let end = start + float(multipliers.gap(limit).number()) / scale;
+        let visits = self.run(steps, end);
+        self.hold(multipliers.form().len());
+        if self.top > start {
+            self.adopt(multipliers, scale);
+        }
+        visits
+    }
+
+    /// Approaches a point of least cost under the trail as it is, by so many steps from the last point on, and plans anew in
+    /// which order its variables are to be decided. Gives how many terms were looked at.
+    pub fn approach<C: Count>(&mut self, multipliers: &Multipliers<'_, C>, steps: u32) -> u64 {
+        if !self.is_open {
+            return 0;
+        }
+        self.load(multipliers);
+        self.resume();
+        let visits = self.run(steps, f64::INFINITY);
+        self.hold(multipliers.form().len());
+        self.order(multipliers);
+        visits
+    }
+
+    /// The value of the variable at the last point, from 0 to 1; 0 where there is no such variable.
+    pub fn value(&self, var: u32) -> f64 {
+        match (var as usize).checked_sub(1) {
+            Some(column) => at(&self.x.target, column),
+            None => 0.0,
+        }
+    }
+
+    /// What is to be decided at the place, from 0, of the order that was planned last: a literal that had no value then. None
+    /// behind the last.
+    pub fn planned(&self, place: usize) -> Option<Lit> {
+        self.plan.literal(place)
+    }
+
+    /// Takes over the problem, and scales it.
+    fn load<C: Count>(&mut self, multipliers: &Multipliers<'_, C>) {
+        self.problem.load(multipliers);
+        self.scaling.fit(&self.problem);
+        self.steps.begin(&self.problem, &self.scaling);
+    }
+
+    /// Begins at the multipliers as they are, where costs are scaled up by so much, and at x = 0.
+    fn begin_at<C: Count>(&mut self, multipliers: &Multipliers<'_, C>, scale: f64) {
+        refill(&mut self.x.current, self.problem.costs.len(), 0.0);
+        self.y.current.clear();
+        for row in &self.problem.ids {
+            if *row < multipliers.form().len() {
+                let multiplier = float(multipliers.multiplier(*row).number());
+                add(&mut self.y.current, multiplier / scale);
+            }
+        }
+        self.begin();
+    }
+
+    /// Begins at the last x and at the best y of the last call, as far as there are the same rows.
+    fn resume(&mut self) {
+        refill(&mut self.x.current, self.problem.costs.len(), 0.0);
+        for (current, target) in self.x.current.iter_mut().zip(self.x.target.iter()) {
+            *current = *target;
+        }
+        self.y.current.clear();
+        for row in &self.problem.ids {
+            add(&mut self.y.current, at(&self.held, *row));
+        }
+        self.begin();
+    }
+
+    /// Begins where x and y stand now.
+    fn begin(&mut self) {
+        self.x.begin();
+        self.y.begin();
+        self.top = -f64::INFINITY;
+        self.look();
+    }
+
+    /// Makes so many steps, or fewer where the bound comes over the end, or they would look at too many terms. Gives at how
+    /// many they looked.
+    fn run(&mut self, steps: u32, end: f64) -> u64 {
+        let terms = (self.problem.rows.entries() as u64).max(1);
+        let mut visits = terms.saturating_mul(VISITS);
+        let mut restarts = Restarts::new();
+        for number in 0..steps {
+            if visits > MOST_VISITS || self.top > end {
+                break;
+            }
+            visits = visits.saturating_add(terms.saturating_mul(2));
+            let length = self
+                .steps
+                .step(&self.problem, &self.scaling, &mut self.x, &mut self.y);
+            if number % LOOK == LOOK - 1 {
+                self.look();
+                visits = visits.saturating_add(terms);
+            }
+            self.go_on(&mut restarts, length, number);
+        }
+        visits
+    }
+
+    /// Goes to the target, or beyond it, after a step of this length and number.
+    fn go_on(&mut self, restarts: &mut Restarts, length: f64, number: u32) {
+        if restarts.is_due(length, number) {
+            let far_x = self.x.restart(&self.scaling.columns);
+            let far_y = self.y.restart(&self.scaling.rows);
+            self.steps.adapt(far_x, far_y);
+            return;
+        }
+        let part = restarts.kept_part();
+        self.x.reflect(part);
+        self.y.reflect(part);
+    }
+
+    /// Keeps the target of y as the best, if its bound is.
+    fn look(&mut self) {
+        let bound = self.problem.bound(&self.y.target);
+        if bound > self.top {
+            self.top = bound;
+            copy(&mut self.best, &self.y.target);
+        }
+    }
+
+    /// Keeps the best y by the rows of the form, of which there are so many. Rows that the trail meets have 0.
+    fn hold(&mut self, rows: usize) {
+        refill(&mut self.held, rows, 0.0);
+        for (row, value) in self.problem.ids.iter().zip(self.best.iter()) {
+            put(&mut self.held, *row, *value);
+        }
+    }
+
+    /// Shifts all multipliers to the best y, where costs are scaled up by so much.
+    fn adopt<C: Count>(&self, multipliers: &mut Multipliers<'_, C>, scale: f64)
+        ensures { IsSameButShifted multipliers.old multipliers.new }
+    {
+        for row in 0..multipliers.form().len() {
+            let nearest = number(at(&self.held, row) * scale + 0.5);
+            shift_to(multipliers, row, Tally::nearest(nearest));
+        }
+    }
+
+    /// Plans in which order the variables without a value are to be decided.
+    fn order<C: Count>(&mut self, multipliers: &Multipliers<'_, C>) {
+        self.plan.clear();
+        for column in 0..multipliers.form().vars() {
+            let var = column + 1;
+            if let Ok(lit) = Lit::new(var, true)
+                && multipliers.is_free(lit)
+            {
+                let place = column as usize;
+                let cost = self.problem.reduced_cost(place, &self.y.target);
+                self.plan.push(var, at(&self.x.target, place), cost);
+            }
+        }
+        self.plan.sort();
+    }
+}

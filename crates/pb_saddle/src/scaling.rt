@@ -1,0 +1,103 @@
+//! By how much the rows and columns of a problem are scaled. Its entries stay as they are: a step along a scaled row or
+//! column is as much longer or shorter, and a distance is measured in scaled rows or columns.
+//!
+//! Each row and column is first scaled again and again to a greatest entry of 1 (Ruiz), and once by the sum of its entries
+//! (Pock and Chambolle), so that the norm of the scaled matrix is at most 1.
+
+use crate::floats::{add, at, refill};
+use crate::problem::Problem;
+use crate::sparse::{Entry, Lines};
+use pb_inst::Memory;
+use std::alloc::Global;
+
+/// How often rows and columns are scaled to a greatest entry of 1.
+const ROUNDS: u32 = 10;
+
+/// How many times all entries are looked at for the scales of a problem.
+pub const VISITS: u64 = 2 * (ROUNDS as u64 + 1);
+
+/// What is to become 1 about the entries of a line.
+#[derive(Clone, Copy)]
+enum Norm {
+    Greatest,
+    Sum,
+}
+
+/// The scales of all rows and columns, all above 0.
+#[derive(Drop)]
+pub struct Scaling {
+    pub rows: Vec<f64>,
+    pub columns: Vec<f64>,
+    /// By how much each row is scaled next.
+    row_factors: Vec<f64>,
+    /// The same of each column.
+    column_factors: Vec<f64>,
+}
+
+impl Scaling {
+    /// No scales, and room for those of so many variables and rows.
+    pub fn new(alloc: Global, vars: usize, rows: usize) -> Result<Scaling, Memory> {
+        Ok(Scaling {
+            rows: Vec::with_capacity(alloc, rows)?,
+            columns: Vec::with_capacity(alloc, vars)?,
+            row_factors: Vec::with_capacity(alloc, rows)?,
+            column_factors: Vec::with_capacity(alloc, vars)?,
+        })
+    }
+
+    /// Finds the scales of the problem.
+    pub fn fit(&mut self, problem: &Problem) {
+        refill(&mut self.rows, problem.rows.len(), 1.0);
+        refill(&mut self.columns, problem.columns.len(), 1.0);
+        for _ in 0..ROUNDS {
+            self.refine(problem, Norm::Greatest);
+        }
+        self.refine(problem, Norm::Sum);
+    }
+
+    /// Scales all rows and columns once, by how their entries are scaled so far.
+    fn refine(&mut self, problem: &Problem, norm: Norm) {
+        let (rows, columns) = (&problem.rows, &problem.columns);
+        find_factors(&mut self.row_factors, rows, &self.rows, &self.columns, norm);
+        find_factors(
+            &mut self.column_factors,
+            columns,
+            &self.columns,
+            &self.rows,
+            norm,
+        );
+        multiply(&mut self.rows, &self.row_factors);
+        multiply(&mut self.columns, &self.column_factors);
+    }
+}
+
+/// Finds by how much each line is to be scaled beside its own scales and those of the other direction.
+fn find_factors(factors: &mut Vec<f64>, lines: &Lines, own: &[f64], others: &[f64], norm: Norm) {
+    factors.clear();
+    for number in 0..lines.len() {
+        let size = at(own, number) * measure(lines.line(number), others, norm);
+        let factor = if size > 0.0 { 1.0 / size.sqrt() } else { 1.0 };
+        add(factors, factor);
+    }
+}
+
+/// The norm of the entries, scaled by the other direction alone.
+fn measure(line: &[Entry], others: &[f64], norm: Norm) -> f64 {
+    let mut whole = 0.0;
+    for entry in line {
+        let size = entry.size.abs() * at(others, entry.index);
+        whole = match norm {
+            Norm::Greatest if size > whole => size,
+            Norm::Greatest => whole,
+            Norm::Sum => whole + size,
+        };
+    }
+    whole
+}
+
+/// Multiplies each scale by its factor.
+fn multiply(scales: &mut [f64], factors: &[f64]) {
+    for (scale, factor) in scales.iter_mut().zip(factors) {
+        *scale = *scale * *factor;
+    }
+}
