@@ -9,10 +9,11 @@ use Rattle.pb_normal.specs.NormalForm.{PositiveRow, NormalForm, MeetsRow}
 use Rattle.pb_trail.specs.Completion.{IsCompletion, IsLowerBound}
 use Rattle.pb_trail.specs.EngineState.{EngineState}
 use Rattle.pb_trail.specs.Propagation.{AddsForced}
-use Rattle.pb_engine.specs.Fixing.{IsForcedWithin}
+use Rattle.pb_engine.specs.Fixing.{IsBelowCompletions, IsForcedWithin}
 use Rattle.pb_trail.proofs.EngineLemmas.{kept_front}
 use Rattle.pb_lagrange.specs.Multipliers.{MultipliersState, IsBelowCosts, IsFixed}
 use Rattle.pb_lagrange.specs.Relaxation.{IsBeside}
+use Rattle.pb_lagrange.specs.declared.relaxation.Fixed.{Fixed}
 
 -- they have followed no more than the trail
 pub beside-within : (form : NormalForm) (trail : List Literal) (m : MultipliersState) → IsBeside form trail m → length m.trail ≤ length trail
@@ -66,6 +67,16 @@ fixed-in e own followed limit l first vars same_form same_trail fixed =
       forced = λ a whole cheap. here.forced a (completion_of_form e.form e.rows e.trail a first whole) cheap;
     }
 
-pub if-fixed-in : (e : EngineState) (own : NormalForm) (followed : List Literal) (limit : ℤ) (found : Option Literal) → take (length e.form.rows) e.rows ≡ e.form.rows → e.vars ≡ e.form.vars → own ≡ e.form → followed ≡ e.trail → IfSome found (IsFixed own followed limit) → IfSome found (IsForcedWithin e limit)
-if-fixed-in e own followed limit (Some l) first vars same_form same_trail fixed = fixed-in e own followed limit l first vars same_form same_trail fixed
+pub if-fixed-in : (e : EngineState) (own : NormalForm) (followed : List Literal) (limit : ℤ) (found : Option Fixed) → take (length e.form.rows) e.rows ≡ e.form.rows → e.vars ≡ e.form.vars → own ≡ e.form → followed ≡ e.trail → IfSome found (λ f. IsFixed own followed limit f.lit) → IfSome found (λ f. IsForcedWithin e limit f.lit)
+if-fixed-in e own followed limit (Some f) first vars same_form same_trail fixed = fixed-in e own followed limit f.lit first vars same_form same_trail fixed
 if-fixed-in e own followed limit None first vars same_form same_trail fixed = tt
+
+-- a bound by multipliers, of all completions
+below-in : (e : EngineState) (own : NormalForm) (followed : List Literal) (bound : ℤ) → take (length e.form.rows) e.rows ≡ e.form.rows → own ≡ e.form → followed ≡ e.trail → IsBelowCosts own followed bound → IsBelowCompletions e bound
+below-in e own followed bound first same_form same_trail below =
+    let here : IsBelowCosts e.form e.trail bound = subst (λ (f : NormalForm). IsBelowCosts f e.trail bound) same_form (subst (λ (t : List Literal). IsBelowCosts own t bound) same_trail below) in
+    λ a whole. here a (completion_of_form e.form e.rows e.trail a first whole)
+
+pub if-below-in : (e : EngineState) (own : NormalForm) (followed : List Literal) (found : Option Fixed) → take (length e.form.rows) e.rows ≡ e.form.rows → own ≡ e.form → followed ≡ e.trail → IfSome found (λ f. IsBelowCosts own followed f.bound) → IfSome found (λ f. IsBelowCompletions e f.bound)
+if-below-in e own followed (Some f) first same_form same_trail below = below-in e own followed f.bound first same_form same_trail below
+if-below-in e own followed None first same_form same_trail below = tt

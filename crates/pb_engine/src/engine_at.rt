@@ -13,14 +13,14 @@ ghost use Rattle.pb_trail.specs.Propagation.{AddsForced, IsBrokenAt};
 ghost use Rattle.pb_trail.specs.EngineState.{trail_before, is_conflict, HasNegativeSlack};
 ghost use Rattle.pb_trail.specs.Soundness.{IsFull, IsSolved, IsSoundTrail};
 ghost use Rattle.pb_engine.specs.DisjointRows.{disjoint_bound};
-ghost use Rattle.pb_engine.specs.Fixing.{IsForcedWithin};
+ghost use Rattle.pb_engine.specs.Fixing.{IsBelowCompletions, IsForcedWithin};
 
 use crate::bound::{bound_with, payment};
 use crate::needs::Needs;
 use pb_bits::Marks;
 use pb_count::Count;
 use pb_inst::{Cube, Lit, Memory, Number};
-use pb_lagrange::Relaxation;
+use pb_lagrange::{Fixed, Relaxation};
 use pb_normal::Form;
 use pb_rows::{Clauses, RowTerms, Rows, TablesSource};
 use pb_trail::{Propagator, Step};
@@ -272,9 +272,10 @@ impl<'a, C: Count> EngineAt<'a, C> {
     }
 
     /// A literal without a value that every completion of the trail that costs no more than the limit makes true, by the
-    /// multipliers; or none. It leaves the trail and the conflict as they are, and takes no memory.
-    pub fn fixed_literal(&mut self, limit: Number) -> Option<Lit>
-        ensures fixed { IfSome result (IsForcedWithin self.old limit) }
+    /// multipliers, with their bound as it is; or none. It leaves the trail and the conflict as they are, and takes no memory.
+    pub fn fixed_literal(&mut self, limit: Number) -> Option<Fixed>
+        ensures fixed { IfSome result (λ f. IsForcedWithin self.old limit f.lit) }
+        ensures bound { IfSome result (λ f. IsBelowCompletions self.old f.bound) }
         ensures unchanged { self.new ≡ self.old }
     {
         let slacks = self.propagator.slacks();
@@ -285,8 +286,8 @@ impl<'a, C: Count> EngineAt<'a, C> {
         relaxation.fixed_literal(&slacks, limit)
     }
 
-    /// Whether the last call of `fixed_literal` gave a literal and nothing was undone since: there may be more, and no bound
-    /// need be asked for before. No more than a hint.
+    /// Whether the last call of `fixed_literal` gave a literal and nothing was undone since: there may be more, and the
+    /// multipliers need not be improved before. No more than a hint.
     pub fn is_fixing(&self) -> bool {
         match &self.relaxation {
             Some(relaxation) => relaxation.is_fixing(),

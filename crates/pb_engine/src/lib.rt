@@ -12,5 +12,6 @@ pub use engine::Engine;
 pub use engine_at::EngineAt;
 pub use laws::clause_laws;
 pub use pb_count::Count;
+pub use pb_lagrange::Fixed;
 pub use pb_rows::{Clauses, MAX_CLAUSES, RowTerms, Rows};
 pub use pb_trail::Step;

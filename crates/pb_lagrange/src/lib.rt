@@ -11,4 +11,4 @@ mod ascent;
 mod relaxation;
 
 pub use account::Account;
-pub use relaxation::Relaxation;
+pub use relaxation::{Fixed, Relaxation};

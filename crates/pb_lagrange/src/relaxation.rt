@@ -32,6 +32,14 @@ const FAR: usize = 256;
 /// About how many variables are looked through for a literal to fix in the time of a term.
 const VARIABLES_OF_A_TERM: u32 = 8;
 
+/// A literal that the multipliers fix, and their bound of the trail at that moment.
+#[derive(Clone, Copy)]
+pub struct Fixed {
+    pub lit: Lit,
+    /// At most the cost of every completion of the trail.
+    pub bound: Number,
+}
+
 /// Multipliers beside the trail of a search. Where they are used they follow the trail, and are shifted at the rows that it
 /// touches. What was shifted below an assumption is taken back with it. An account tells where they are used.
 pub struct Relaxation<'a, C: Count = u64> {
@@ -233,11 +241,12 @@ impl<'a, C: Count> Relaxation<'a, C> {
         true
     }
 
-    /// A literal that every completion of the trail that costs no more than the limit makes true, and that has no value yet; or
-    /// none. None also where the multipliers are not used at the node.
-    pub fn fixed_literal(&mut self, slacks: &Slacks<'_, '_, C>, limit: Number) -> Option<Lit>
+    /// A literal that every completion of the trail that costs no more than the limit makes true, and that has no value yet,
+    /// with the bound of the multipliers as they are; or none. None also where the multipliers are not used at the node.
+    pub fn fixed_literal(&mut self, slacks: &Slacks<'_, '_, C>, limit: Number) -> Option<Fixed>
         requires { IsBeside slacks.now.form slacks.now.trail self.old }
-        ensures fixed { IfSome result (IsFixed slacks.now.form slacks.now.trail limit) }
+        ensures fixed { IfSome result (λ f. IsFixed slacks.now.form slacks.now.trail limit f.lit) }
+        ensures bound { IfSome result (λ f. IsBelowCosts slacks.now.form slacks.now.trail f.bound) }
         ensures beside { IsBeside slacks.now.form slacks.now.trail self.new }
     {
         self.fixing.forget();
@@ -245,14 +254,13 @@ impl<'a, C: Count> Relaxation<'a, C> {
             return None;
         }
         self.catch_up(slacks);
-        if self.multipliers.bound() > limit {
+        let bound = self.multipliers.bound();
+        if bound > limit {
             return None;
         }
-        let found = self.find_fixed(limit);
-        if found.is_some() {
-            self.account.fix();
-        }
-        found
+        let lit = self.find_fixed(limit)?;
+        self.account.fix();
+        Some(Fixed { lit, bound })
     }
 
     /// The same, once the trail is followed. At the root all variables are looked at, and below it some of them.
@@ -272,7 +280,7 @@ impl<'a, C: Count> Relaxation<'a, C> {
     }
 
     /// Whether the last call of `fixed_literal` fixed a literal at the node where the search still is. There may be more, and
-    /// no bound need be asked for before.
+    /// the multipliers need not be improved before.
     pub fn is_fixing(&self) -> bool {
         self.fixing.has_found
     }

@@ -15,9 +15,8 @@ use Rattle.pb_inst.specs.Incumbent.{Incumbent, Solution, IsSolution, solution_of
 use Rattle.pb_inst.proofs.OrderProofs.{none_before_itself}
 use Rattle.pb_normal.specs.NormalForm.{normal_cost}
 use Rattle.pb_engine.specs.Trail.{value_on}
-use Rattle.pb_engine.specs.Completion.{IsLowerBound}
 use Rattle.pb_engine.specs.EngineState.{EngineState}
-use Rattle.pb_engine.specs.Fixing.{IsForcedWithin}
+use Rattle.pb_engine.specs.Fixing.{IsBelowCompletions, IsForcedWithin}
 use Rattle.pb_engine.specs.Soundness.{IsFull, IsSolved, IsSoundTrail}
 use Rattle.pb_search.specs.Held.{IsImprovement}
 use Rattle.pb_search.specs.Solutions.{Completes}
@@ -131,9 +130,9 @@ later_not_before trail b var there zero_there ones a all h =
     ]
 
 -- a bound equal to the best cost, and a trail none of whose completions comes before the best
-pub closed_at_tie : (p : Problem) (s : EngineState) (bound : ℤ) (t : Solution) → IsEngineOf p s → IsLowerBound s.form s.rows s.trail bound → IsSolution p t → t.cost ≤ℤ bound → IsNotBefore s.trail t.assignment → IsClosed p s (Some t)
+pub closed_at_tie : (p : Problem) (s : EngineState) (bound : ℤ) (t : Solution) → IsEngineOf p s → IsBelowCompletions s bound → IsSolution p t → t.cost ≤ℤ bound → IsNotBefore s.trail t.assignment → IsClosed p s (Some t)
 closed_at_tie p s bound t engine low sound over after a h (inl less) =
-    let at_most : bound ≤ℤ normal_cost s.form a = low.below_costs a (record { makes_true = h.makes_true; meets_rows = h.solution.meets_rows }) in
+    let at_most : bound ≤ℤ normal_cost s.form a = low a (record { makes_true = h.makes_true; meets_rows = h.solution.meets_rows }) in
     let same : normal_cost s.form a ≡ cost p a = engine.costs a in
     let is : t.cost ≡ cost p t.assignment = sound.cost_is in omega (arith, ints)
 closed_at_tie p s bound t engine low sound over after a h (inr equal) = after a h.makes_true equal.1

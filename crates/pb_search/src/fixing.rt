@@ -1,17 +1,19 @@
 //! Decisions that have one side alone.
 
 ghost use Rattle.std.specs.Prelude.{◌≡◌, true, IfSome};
+ghost use Rattle.pb_engine.specs.Fixing.{IsBelowCompletions};
 ghost use Rattle.pb_search.specs.SearchState.{IsClosed, IsEngineOf, IsOpenOnOneSide};
 ghost use Rattle.pb_search.specs.AgreedPrefix.{KnowsHeldPrefix};
 
 use crate::agreed_prefix::AgreedPrefix;
 use crate::branch::{Branch, Hints};
-use crate::pruning::{Pruning, check_multipliers, check_rows};
-use pb_engine::{Count, EngineAt};
+use crate::pruning::{Pruning, check_multipliers, check_rows, judge_bound};
+use pb_engine::{Count, EngineAt, Fixed};
 use pb_inst::{Best, Lit, Number};
 
 /// What the bound says of the subtree below the trail, the bound itself, and a literal without a value whose negation has
-/// nothing to give: none where none is known. Where decisions are counted the bound of disjoint rows is compared in each call.
+/// nothing to give: none where none is known. Once something is held a bound is compared in each call; where decisions are
+/// counted that of disjoint rows is among them.
 pub fn judge_node<C: Count>(
     engine: &mut EngineAt<'_, C>,
     best: &Best<'_>,
@@ -25,42 +27,50 @@ pub fn judge_node<C: Count>(
     ensures unchanged { engine.new ≡ engine.old }
     ensures known { KnowsHeldPrefix engine.old.trail best.now.held agreed.new }
 {
-    // Where a literal was fixed just before there are often more: they come without the multipliers' bounds between them.
-    // Without a budget nobody counts the decisions that another bound would save, and taking one costs more than it saves.
+    // Where a literal was fixed just before there are often more. The bound of the multipliers as they are is at hand with each
+    // of them; they are not improved in between, and without a budget that of disjoint rows is left out: nobody counts the
+    // decisions that it would save, and taking it costs more than it saves.
     if !is_counted
         && engine.is_fixing()
-        && let Some(lit) = fixed_literal(engine, best)
+        && let Some(fixed) = fixed_literal(engine, best)
     {
-        return (Pruning::Open, None, Some(lit));
+        let pruning = judge_bound(engine, fixed.bound, best, agreed);
+        return (pruning, None, Some(fixed.lit));
     }
     let (pruning, bound) = check_rows(engine, best, agreed);
     if pruning != Pruning::Closed
         && engine.is_fixing()
-        && let Some(lit) = fixed_literal(engine, best)
+        && let Some(fixed) = fixed_literal(engine, best)
     {
-        return (pruning, bound, Some(lit));
+        let pruning = judge_bound(engine, fixed.bound, best, agreed);
+        return (pruning, bound, Some(fixed.lit));
     }
     let (pruning, bound) = check_multipliers(engine, best, agreed, pruning, bound);
     if pruning == Pruning::Closed {
         return (pruning, bound, None);
     }
     let fixed = fixed_literal(engine, best);
-    (pruning, bound, fixed)
+    match fixed {
+        Some(fixed) => (pruning, bound, Some(fixed.lit)),
+        None => (pruning, bound, None),
+    }
 }
 
-/// A literal without a value whose negation costs too much to come before the best assignment, or none.
-fn fixed_literal<C: Count>(engine: &mut EngineAt<'_, C>, best: &Best<'_>) -> Option<Lit>
+/// A literal without a value whose negation costs too much to come before the best assignment, with a bound that is at hand;
+/// or none.
+fn fixed_literal<C: Count>(engine: &mut EngineAt<'_, C>, best: &Best<'_>) -> Option<Fixed>
     requires engine { IsEngineOf best.now.problem engine.old }
-    ensures fixed { IfSome result (IsOpenOnOneSide best.now.problem engine.old best.now.held) }
+    ensures fixed { IfSome result (λ f. IsOpenOnOneSide best.now.problem engine.old best.now.held f.lit) }
+    ensures bound { IfSome result (λ f. IsBelowCompletions engine.old f.bound) }
     ensures unchanged { engine.new ≡ engine.old }
 {
     let Some(cost) = best.cost() else {
         return None;
     };
-    let Some(lit) = engine.fixed_literal(cost) else {
+    let Some(fixed) = engine.fixed_literal(cost) else {
         return None;
     };
-    Some(lit)
+    Some(fixed)
 }
 
 /// The decision for a literal whose negation has nothing to give: its other value counts as tried.

@@ -2,6 +2,7 @@
 
 ghost use Rattle.std.specs.Prelude.{◌≡◌, false, length, IsTrue, IfSome, ◌⊎◌, true};
 ghost use Rattle.pb_engine.specs.Completion.{IsLowerBound};
+ghost use Rattle.pb_engine.specs.Fixing.{IsBelowCompletions};
 ghost use Rattle.pb_search.specs.SearchState.{IsClosed, IsEngineOf, IsNotBefore};
 ghost use Rattle.pb_search.specs.AgreedPrefix.{KnowsPrefix, KnowsHeldPrefix};
 
@@ -115,14 +116,14 @@ fn closing_bound<C: Count>(
 }
 
 /// Compares a bound of the trail's completions with the best cost. Where they are equal the order of assignments decides.
-fn judge_bound<C: Count>(
+pub fn judge_bound<C: Count>(
     engine: &EngineAt<'_, C>,
     bound: Number,
     best: &Best<'_>,
     agreed: &mut AgreedPrefix,
 ) -> Pruning
     requires engine { IsEngineOf best.now.problem engine.now }
-    requires bound { IsLowerBound engine.now.form engine.now.rows engine.now.trail bound }
+    requires bound { IsBelowCompletions engine.now bound }
     requires known { KnowsHeldPrefix engine.now.trail best.now.held agreed.old }
     ensures closed { result ≡ Pruning.Closed → IsClosed best.now.problem engine.now best.now.held }
     ensures known { KnowsHeldPrefix engine.now.trail best.now.held agreed.new }

@@ -1,7 +1,7 @@
 //! Which literals an engine fixes. No answer rests on it: what is fixed saves decisions.
 
-use pb_engine::{Count, EngineAt};
-use pb_inst::{Lit, Memory, Number};
+use pb_engine::{Count, EngineAt, Fixed};
+use pb_inst::{Memory, Number};
 use pb_normal::{EitherWidth, Form, normalise};
 use pb_read::read_opb;
 use std::alloc::Global;
@@ -16,7 +16,7 @@ fn first_fixed<C: Count>(
     alloc: Global,
     form: &Form<C>,
 ) -> Result<[Option<(u32, bool)>; 2], Memory> {
-    let shown = |lit: Option<Lit>| lit.map(|lit| (lit.var(), lit.positive()));
+    let shown = |fixed: Option<Fixed>| fixed.map(|fixed| (fixed.lit.var(), fixed.lit.positive()));
     let mut engine = EngineAt::new(alloc, form, &[])?;
     let bound = engine.bound();
     engine.relaxed_bound(bound, Number::MAX);

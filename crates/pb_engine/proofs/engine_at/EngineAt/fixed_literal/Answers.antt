@@ -7,7 +7,7 @@ use Rattle.pb_normal.specs.NormalForm.{PositiveRow, NormalForm}
 use Rattle.pb_trail.specs.EngineState.{EngineState}
 use Rattle.pb_trail.specs.Tracked.{Tracked}
 use Rattle.pb_lagrange.specs.Multipliers.{IsFixed}
-use Rattle.pb_engine.proofs.RelaxedLemmas.{if-fixed-in}
+use Rattle.pb_engine.proofs.RelaxedLemmas.{if-fixed-in, if-below-in}
 use Rattle.pb_engine.proofs.engine_at.EngineAt.fixed_literal.Goals as goal
 
 pub returns-clause-fixed : goal.returns-clause-fixed
@@ -22,5 +22,16 @@ returns-clause-fixed g c =
     let vars : s.vars ≡ e.vars = c.slacks-slacks.ensures.vars ∙ ap (λ (k : EngineState). k.vars) c.self.view_is in
     let here : take (length e.form.rows) e.rows ≡ e.form.rows = subst (λ (rs : List PositiveRow). take (length e.form.rows) rs ≡ e.form.rows) rows (subst (λ (f : NormalForm). take (length f.rows) s.rows ≡ f.rows) form first) in
     let given : to_z number_width (of_z number_width c.args.limit) ≡ c.args.limit = to_z-of_z number_width c.args.limit (record { sfits = c.ranges.limit.sfits }) in
-    let fixed : IfSome c.fixed_literal.result (IsFixed s.form s.trail c.args.limit) = subst (λ (z : ℤ). IfSome c.fixed_literal.result (IsFixed s.form s.trail z)) given c.fixed_literal.ensures.fixed in
+    let fixed : IfSome c.fixed_literal.result (λ f. IsFixed s.form s.trail c.args.limit f.lit) = subst (λ (z : ℤ). IfSome c.fixed_literal.result (λ f. IsFixed s.form s.trail z f.lit)) given c.fixed_literal.ensures.fixed in
     if-fixed-in e s.form s.trail c.args.limit c.fixed_literal.result here (sym vars ∙ (count ∙ ap (λ (f : NormalForm). f.vars) form)) form trail fixed
+
+pub returns-clause-bound : goal.returns-clause-bound
+returns-clause-bound g c =
+    let e = c.args.self.now in
+    let s = c.slacks-slacks.result in
+    let first : take (length s.form.rows) s.rows ≡ s.form.rows = subst (λ (k : Tracked). take (length k.form.rows) k.rows ≡ k.form.rows) c.tables.ensures c.vars-vars.ensures.first in
+    let form : s.form ≡ e.form = c.slacks-slacks.ensures.form ∙ ap (λ (k : EngineState). k.form) c.self.view_is in
+    let rows : s.rows ≡ e.rows = c.slacks-slacks.ensures.rows ∙ ap (λ (k : EngineState). k.rows) c.self.view_is in
+    let trail : s.trail ≡ e.trail = c.slacks-slacks.ensures.trail ∙ ap (λ (k : EngineState). k.trail) c.self.view_is in
+    let here : take (length e.form.rows) e.rows ≡ e.form.rows = subst (λ (rs : List PositiveRow). take (length e.form.rows) rs ≡ e.form.rows) rows (subst (λ (f : NormalForm). take (length f.rows) s.rows ≡ f.rows) form first) in
+    if-below-in e s.form s.trail c.fixed_literal.result here form trail c.fixed_literal.ensures.bound
