@@ -37,7 +37,7 @@ SOME_CLAUSES = "".join(f"1 x{1 + place} 1 ~x{2 + place} >= 1 ;\n" for place in r
 # What one worker asks for on each instance of tests/work/ today.
 REQUESTS = {
     "aside": 123,
-    "assignment": 124,
+    "assignment": 142,
     "chain": 123,
     "clauses": 119,
     "colours": 126,
@@ -45,17 +45,17 @@ REQUESTS = {
     "cubes_of_a_contradiction": 375,
     "cubes_of_last_variables": 183,
     "descent": 140,
-    "garden": 128,
-    "groups": 123,
-    "knapsack": 111,
+    "garden": 146,
+    "groups": 141,
+    "knapsack": 129,
     "long_row": 99,
-    "machines": 127,
+    "machines": 145,
     "met_rows": 144,
-    "packages": 123,
-    "short_knapsack": 111,
-    "two_sides": 124,
-    "unconstrained": 99,
-    "wide_knapsack": 115,
+    "packages": 141,
+    "short_knapsack": 129,
+    "two_sides": 142,
+    "unconstrained": 108,
+    "wide_knapsack": 133,
 }
 
 
@@ -81,7 +81,7 @@ def runs(room):
         (room / name).write_text(text)
     cubes = ("--cubes", room / "some.cubes", room / "some.opb")
     yield Run("a long text", (room / "long.opb",), 10, 81, 128.0)
-    yield Run("long rows", ("--nodes", "0", room / "wide.opb"), 0, 178, 11.8)
+    yield Run("long rows", ("--nodes", "0", room / "wide.opb"), 0, 198, 15.7)
     yield Run("many cubes", cubes, 10, 16_189, 1.6)
     yield Run("many cubes, two workers", ("--workers", "2", *cubes), 10, 16_251, 1.6)
     for name, requests in REQUESTS.items():

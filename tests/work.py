@@ -47,7 +47,7 @@ class Today:
 
 TODAY = {
     "aside": Today(44_443, 94),
-    "assignment": Today(71_300, 97),
+    "assignment": Today(71_300, 115),
     "chain": Today(5_500, 91),
     "clauses": Today(33_900, 90),
     "colours": Today(23_500, 95),
@@ -55,17 +55,17 @@ TODAY = {
     "cubes_of_a_contradiction": Today(0, 343),
     "cubes_of_last_variables": Today(43_900, 154),
     "descent": Today(66_300, 113),
-    "garden": Today(64_900, 101),
-    "groups": Today(5_500, 90),
-    "knapsack": Today(4_100, 78),
+    "garden": Today(64_900, 119),
+    "groups": Today(5_500, 108),
+    "knapsack": Today(4_100, 96),
     "long_row": Today(12_100, 69),
-    "machines": Today(83_900, 100),
+    "machines": Today(83_900, 118),
     "met_rows": Today(45_400, 115),
-    "packages": Today(99_300, 96),
-    "short_knapsack": Today(36_300, 82),
-    "two_sides": Today(108_900, 97),
-    "unconstrained": Today(7_900, 67),
-    "wide_knapsack": Today(0, 80),
+    "packages": Today(99_300, 114),
+    "short_knapsack": Today(36_300, 100),
+    "two_sides": Today(108_900, 115),
+    "unconstrained": Today(7_900, 76),
+    "wide_knapsack": Today(0, 98),
 }
 
 

@@ -8,8 +8,3 @@ use Rattle.pb_dual.specs.Multipliers.{MultipliersState}
 pub record IsBeside (form : NormalForm) (trail : List Literal) (m : MultipliersState) : Type 0 where
   pub form_is : m.form ≡ form
   pub trail_is : m.trail ≡ take (length m.trail) trail
-
--- the form and the trail are the same; the multipliers may be others
-pub record IsSameButShifted (old new : MultipliersState) : Type 0 where
-  pub form_is : new.form ≡ old.form
-  pub trail_is : new.trail ≡ old.trail

@@ -7,7 +7,6 @@
 #![tactic(auto)]
 
 mod account;
-mod ascent;
 mod relaxation;
 
 pub use account::Account;

@@ -9,7 +9,8 @@ mod steps;
 
 ghost use Rattle.std.specs.Prelude.{◌≡◌, ◌⊎◌, ◌+◌, ◌^◌, ◌<◌, ◌≤◌, ◌≤ℤ◌, [], true, IfOk, IfSome, length, take};
 ghost use Rattle.pb_dual.specs.Multipliers.{IsBelowCosts, IsFixed};
-ghost use Rattle.pb_lagrange.specs.Relaxation.{IsBeside, IsSameButShifted};
+ghost use Rattle.pb_lagrange.specs.Relaxation.{IsBeside};
+ghost use Rattle.pb_saddle.specs.Shifting.{IsSameButShifted};
 
 use crate::account::Account;
 use fixing::Fixing;
@@ -46,7 +47,7 @@ pub struct Relaxation<'a, C: Count = u64> {
     multipliers: Multipliers<'a, C>,
     schedule: Schedule,
     steps: Steps<C>,
-    passes: Passes<C>,
+    passes: Passes,
     fixing: Fixing,
     account: Account,
     levels: Levels,
@@ -159,7 +160,8 @@ impl<'a, C: Count> Relaxation<'a, C> {
         ensures beside { IsBeside slacks.now.form slacks.now.trail self.new }
     {
         self.count_node(slacks.len());
-        if self.passes.is_climb_due() {
+        let root = self.root_length(slacks);
+        if self.passes.is_climb_due(root, &self.account) {
             self.climb(slacks, goal);
         }
         self.is_used = self.account.is_open();
@@ -190,8 +192,12 @@ impl<'a, C: Count> Relaxation<'a, C> {
             };
             self.take_back_to(changes);
         }
-        self.passes
-            .climb(&mut self.multipliers, &mut self.steps, goal);
+        self.passes.climb(
+            &mut self.multipliers,
+            &mut self.steps,
+            &mut self.account,
+            goal,
+        );
     }
 
     /// Steps all rows beside the root's trail.
@@ -210,11 +216,16 @@ impl<'a, C: Count> Relaxation<'a, C> {
         ensures { IsBeside slacks.now.form slacks.now.trail self.new }
     {
         self.catch_up(slacks);
-        let length = match self.levels.root_end() {
+        let length = self.root_length(slacks);
+        self.multipliers.unassign_to(length);
+    }
+
+    /// How many literals of the trail are the root's.
+    fn root_length(&self, slacks: &Slacks<'_, '_, C>) -> usize {
+        match self.levels.root_end() {
             Some(mark) => mark.length.min(slacks.len()),
             None => slacks.len(),
-        };
-        self.multipliers.unassign_to(length);
+        }
     }
 
     /// Counts a node of the search whose trail has so many literals.

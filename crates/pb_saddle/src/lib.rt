@@ -26,4 +26,3 @@ mod step;
 
 pub use problem::count_terms;
 pub use saddle::Saddle;
-pub use shifting::{shift_for_good, shift_to};

@@ -101,6 +101,12 @@ impl Problem {
         }
     }
 
+    /// How many numbers a look at all of it takes: entries, rows and columns.
+    pub fn size(&self) -> u64 {
+        let lines = self.rows.len().saturating_add(self.columns.len());
+        self.rows.entries().saturating_add(lines) as u64
+    }
+
     /// What the row lacks at this x; below 0 what it has too much.
     pub fn lack(&self, row: usize, x: &[f64]) -> f64 {
         at(&self.needs, row) - product(self.rows.line(row), x)
@@ -125,6 +131,21 @@ impl Problem {
             }
         }
         bound
+    }
+    /// The costs of x, and twice what its lacks are worth by these multipliers. Near a point of least costs it is about an
+    /// upper bound of them.
+    pub fn price(&self, x: &[f64], y: &[f64]) -> f64 {
+        let mut price = 0.0;
+        for (cost, value) in self.costs.iter().zip(x) {
+            price = price + *cost * *value;
+        }
+        for row in 0..self.rows.len() {
+            let lack = self.lack(row, x);
+            if lack > 0.0 {
+                price = price + 2.0 * lack * at(y, row);
+            }
+        }
+        price
     }
 }
 

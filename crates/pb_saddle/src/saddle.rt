@@ -16,14 +16,20 @@ use pb_inst::{Lit, Memory, Number};
 use pb_normal::Form;
 use std::alloc::Global;
 
-/// The most terms that a form may have: above, nothing is proposed.
-const MOST_TERMS: u64 = 8_000_000;
+/// The most terms that a form may have: above, one call could make too few steps to be worth it, and nothing is proposed.
+const MOST_TERMS: u64 = 1_000_000;
 
-/// How many entries one call looks at, at most: some tenths of a second.
+/// How many numbers one call looks at, at most: some tenths of a second.
 const MOST_VISITS: u64 = 100_000_000;
 
 /// How many steps there are from one look at the bound to the next.
 const LOOK: u32 = 25;
+
+/// How far the bound may be below what it can be, about, where more steps are not worth it: a part of a cost.
+const NEAR: f64 = 1.0 / 64.0;
+
+/// The same as a part of the bound, where costs are great.
+const NEAR_PART: f64 = 1.0e-6;
 
 /// The problem that a trail leaves, and where the method stands in it.
 pub struct Saddle {
@@ -88,7 +94,7 @@ impl Saddle {
 
     /// Improves the multipliers for the trail as it is, by at most so many steps from where they are; none follows once their
     /// bound is over the limit. They are shifted for good, each to the nearest of their numbers, and only where their bound
-    /// rises. Gives how many terms were looked at.
+    /// rises. Gives how many numbers were looked at.
     pub fn improve<C: Count>(
         &mut self,
         multipliers: &mut Multipliers<'_, C>,
@@ -114,7 +120,7 @@ impl Saddle {
     }
 
     /// Approaches a point of least cost under the trail as it is, by so many steps from the last point on, and plans anew in
-    /// which order its variables are to be decided. Gives how many terms were looked at.
+    /// which order its variables are to be decided. Gives how many numbers were looked at.
     pub fn approach<C: Count>(&mut self, multipliers: &Multipliers<'_, C>, steps: u32) -> u64 {
         if !self.is_open {
             return 0;
@@ -182,23 +188,25 @@ impl Saddle {
         self.look();
     }
 
-    /// Makes so many steps, or fewer where the bound comes over the end, or they would look at too many terms. Gives at how
-    /// many they looked.
+    /// Makes so many steps, or fewer where the bound comes over the end or near to the greatest, or they would look at too
+    /// much. Gives at how many numbers they looked.
     fn run(&mut self, steps: u32, end: f64) -> u64 {
-        let terms = (self.problem.rows.entries() as u64).max(1);
-        let mut visits = terms.saturating_mul(VISITS);
+        let size = self.problem.size();
+        let mut visits = size.saturating_mul(VISITS);
         let mut restarts = Restarts::new();
         for number in 0..steps {
             if visits > MOST_VISITS || self.top > end {
                 break;
             }
-            visits = visits.saturating_add(terms.saturating_mul(2));
+            visits = visits.saturating_add(size.saturating_mul(2));
             let length = self
                 .steps
                 .step(&self.problem, &self.scaling, &mut self.x, &mut self.y);
             if number % LOOK == LOOK - 1 {
-                self.look();
-                visits = visits.saturating_add(terms);
+                visits = visits.saturating_add(size.saturating_mul(2));
+                if self.look() {
+                    break;
+                }
             }
             self.go_on(&mut restarts, length, number);
         }
@@ -218,13 +226,15 @@ impl Saddle {
         self.y.reflect(part);
     }
 
-    /// Keeps the target of y as the best, if its bound is.
-    fn look(&mut self) {
+    /// Keeps the target of y as the best, if its bound is. Answers whether it is near to the greatest.
+    fn look(&mut self) -> bool {
         let bound = self.problem.bound(&self.y.target);
         if bound > self.top {
             self.top = bound;
             copy(&mut self.best, &self.y.target);
         }
+        let price = self.problem.price(&self.x.target, &self.y.target);
+        price - self.top <= NEAR + NEAR_PART * self.top.abs()
     }
 
     /// Keeps the best y by the rows of the form, of which there are so many. Rows that the trail meets have 0.

@@ -13,7 +13,7 @@ use std::alloc::Global;
 /// How often rows and columns are scaled to a greatest entry of 1.
 const ROUNDS: u32 = 10;
 
-/// How many times all entries are looked at for the scales of a problem.
+/// How many times all of a problem is looked at for its scales.
 pub const VISITS: u64 = 2 * (ROUNDS as u64 + 1);
 
 /// What is to become 1 about the entries of a line.

@@ -6,23 +6,15 @@ ghost use Rattle.pb_saddle.specs.Shifting.{IsSameButShifted};
 use pb_count::{Count, Tally};
 use pb_dual::{Multipliers, Signed};
 
-/// Shifts the multiplier of the row by the amount, and keeps it so: the change can't be taken back. Where there is no room
-/// for a change the multiplier stays.
-pub fn shift_for_good<C: Count>(multipliers: &mut Multipliers<'_, C>, row: usize, amount: Signed<C>)
-    requires { row < length multipliers.old.form.rows }
-    ensures { IsSameButShifted multipliers.old multipliers.new }
-{
-    if !amount.is_zero() && multipliers.has_room() {
-        multipliers.shift(row, amount);
-        multipliers.keep();
-    }
-}
-
-/// Shifts the multiplier of the row to this number, or as near to it as its range and the room for changes let it, for good.
+/// Shifts the multiplier of the row to this number, or as near to it as its range lets it, and keeps it so: the change can't
+/// be taken back. Where there is no room for a change the multiplier stays.
 pub fn shift_to<C: Count>(multipliers: &mut Multipliers<'_, C>, row: usize, to: Tally<C>)
     requires { row < length multipliers.old.form.rows }
     ensures { IsSameButShifted multipliers.old multipliers.new }
 {
     let amount = Signed::of(to).minus(Signed::of(multipliers.multiplier(row)));
-    shift_for_good(multipliers, row, amount);
+    if !amount.is_zero() && multipliers.has_room() {
+        multipliers.shift(row, amount);
+        multipliers.keep();
+    }
 }

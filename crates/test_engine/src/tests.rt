@@ -7,5 +7,6 @@ mod courses;
 mod engines;
 mod forms;
 mod player;
+mod saddle;
 mod widths;
 mod worked_rows;

@@ -1,14 +1,14 @@
 //! When all rows are stepped: at the first node, and once the search has gone on for some nodes.
 
-ghost use Rattle.pb_lagrange.specs.Relaxation.{IsSameButShifted};
+ghost use Rattle.pb_saddle.specs.Shifting.{IsSameButShifted};
 
 use super::steps::Steps;
 use crate::account::Account;
-use crate::ascent::Ascent;
 use pb_count::Count;
 use pb_dual::Multipliers;
 use pb_inst::{Memory, Number};
 use pb_normal::Form;
+use pb_saddle::{Saddle, count_terms};
 use std::alloc::Global;
 
 /// How often all rows are gone through at the first node, forwards and backwards in turn.
@@ -23,26 +23,41 @@ const PASSES: u32 = 20;
 /// After how many nodes all rows are shifted at once, to make the first multipliers better still.
 const LONG_PATIENCE: u32 = 20;
 
+/// How many steps of the first-order method there are then at most.
+const STEPS: u32 = 500;
+
+/// The same where it is made again.
+const LATER_STEPS: u32 = 300;
+
+/// By which part of the variables that are free, 1 in so many, the root's trail grows until it is made again.
+const GROWTH: usize = 8;
+
+/// How many numbers the method looks at in the time of a term.
+const NUMBERS_OF_A_TERM: u64 = 4;
+
 /// What was done to all rows, and what the next passes wait for.
 #[derive(Drop)]
-pub struct Passes<C: Count> {
-    ascent: Ascent<C>,
+pub struct Passes {
+    saddle: Saddle,
     /// The number of terms of all rows.
     terms: u64,
     /// How many nodes were counted.
     nodes: u32,
     /// How often all rows were gone through.
     passes: u32,
+    /// At how many literals of the root's trail all rows are shifted at once again.
+    next_root: usize,
 }
 
-impl<C: Count> Passes<C> {
+impl Passes {
     /// None yet over the rows of the form.
-    pub fn new(alloc: Global, form: &Form<C>) -> Result<Passes<C>, Memory> {
+    pub fn new<C: Count>(alloc: Global, form: &Form<C>) -> Result<Passes, Memory> {
         Ok(Passes {
-            ascent: Ascent::new(alloc, form.len())?,
-            terms: all_terms(form),
+            saddle: Saddle::new(alloc, form)?,
+            terms: count_terms(form),
             nodes: 0,
             passes: 0,
+            next_root: 0,
         })
     }
 
@@ -73,7 +88,7 @@ impl<C: Count> Passes<C> {
     }
 
     /// Goes through all rows until that was done as often as it is to be by now. The multipliers are kept for good.
-    pub fn ascend(
+    pub fn ascend<C: Count>(
         &mut self,
         multipliers: &mut Multipliers<'_, C>,
         steps: &mut Steps<C>,
@@ -89,22 +104,38 @@ impl<C: Count> Passes<C> {
         self.passes = end;
     }
 
-    /// Whether all rows are to be shifted at once, again and again: once, when the search has gone on for long enough.
-    pub fn is_climb_due(&self) -> bool {
-        self.nodes == LONG_PATIENCE
+    /// Whether all rows are to be shifted at once: when the search has gone on for long enough, and again where the root's
+    /// trail, of so many literals, has grown much since and that is not too dear.
+    pub fn is_climb_due(&self, root: usize, account: &Account) -> bool {
+        if self.nodes <= LONG_PATIENCE {
+            return self.nodes == LONG_PATIENCE;
+        }
+        let numbers = self.terms.saturating_mul(2 * LATER_STEPS as u64);
+        root >= self.next_root && account.is_open() && account.affords(numbers / NUMBERS_OF_A_TERM)
     }
 
-    /// Shifts all rows at once, again and again, and steps them twice after that. The multipliers are kept for good. That is
-    /// done once, so the account leaves it out.
-    pub fn climb(
+    /// Shifts all rows at once, to what the first-order method finds, and steps them twice after that. The multipliers are kept
+    /// for good. The account leaves out the first time.
+    pub fn climb<C: Count>(
         &mut self,
         multipliers: &mut Multipliers<'_, C>,
         steps: &mut Steps<C>,
+        account: &mut Account,
         limit: Number,
     )
         ensures { IsSameButShifted multipliers.old multipliers.new }
     {
-        self.ascent.climb(multipliers, self.terms, limit);
+        if self.nodes == LONG_PATIENCE {
+            self.saddle.improve(multipliers, STEPS, limit);
+        } else {
+            let numbers = self.saddle.improve(multipliers, LATER_STEPS, limit);
+            account.count_multipliers(numbers / NUMBERS_OF_A_TERM);
+        }
+        let free = (multipliers.form().vars() as usize).saturating_sub(multipliers.len());
+        self.next_root = multipliers
+            .len()
+            .saturating_add(free / GROWTH)
+            .saturating_add(1);
         pass(multipliers, steps, false);
         pass(multipliers, steps, true);
     }
@@ -120,13 +151,4 @@ fn pass<C: Count>(multipliers: &mut Multipliers<'_, C>, steps: &mut Steps<C>, ba
         steps.step(multipliers, row);
         multipliers.keep();
     }
-}
-
-/// The number of terms of all rows.
-fn all_terms<C: Count>(form: &Form<C>) -> u64 {
-    let mut count = 0_u64;
-    for row in 0..form.len() {
-        count = count.saturating_add(form.terms(row).len() as u64);
-    }
-    count
 }

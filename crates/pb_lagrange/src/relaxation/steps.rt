@@ -1,7 +1,7 @@
 //! How far the multiplier of one row is shifted: to where the bound is greatest beside the other multipliers as they are.
 
 ghost use Rattle.std.specs.Prelude.{◌<◌, length};
-ghost use Rattle.pb_lagrange.specs.Relaxation.{IsSameButShifted};
+ghost use Rattle.pb_saddle.specs.Shifting.{IsSameButShifted};
 
 use pb_count::{Count, Tally};
 use pb_dual::{Multipliers, Signed};

@@ -1,5 +1,5 @@
 use Rattle.std.proofs.Common.{◌-◌, length}
-use Rattle.pb_lagrange.specs.Relaxation.{IsSameButShifted}
+use Rattle.pb_saddle.specs.Shifting.{IsSameButShifted}
 use Rattle.pb_lagrange.proofs.relaxation.Relaxation.tighten.Given as goal
 
 abbrev pub invariant-loop-row : goal.invariant-loop-row

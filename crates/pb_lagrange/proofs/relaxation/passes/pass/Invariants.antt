@@ -1,4 +1,4 @@
-use Rattle.pb_lagrange.specs.Relaxation.{IsSameButShifted}
+use Rattle.pb_saddle.specs.Shifting.{IsSameButShifted}
 use Rattle.pb_lagrange.proofs.relaxation.passes.pass.Given as goal
 
 abbrev pub invariant-loop-place : goal.invariant-loop-place

@@ -1,0 +1,89 @@
+//! Multipliers and a point of a first-order method, beside worked rows.
+
+use super::forms::{Terms, form, is_lit, lit};
+use pb_count::Count;
+use pb_dual::Multipliers;
+use pb_inst::{Magnitude, Number};
+use pb_normal::Form;
+use pb_saddle::Saddle;
+use std::alloc::Global;
+use std::process::Abort;
+
+/// Each two of three variables need one; each costs 2 units. The least costs of the relaxation are 3 units, at a half of each.
+fn triangle<C: Count>(rt: &impl Abort, alloc: Global, unit: Number) -> Form<C> {
+    let cost = unit.saturating_mul(2);
+    let objective: Terms<'_> = &[(cost, 1), (cost, 2), (cost, 3)];
+    let rows: &[(Terms<'_>, Number)] = &[
+        (&[(1, 1), (1, 2)], 1),
+        (&[(1, 2), (1, 3)], 1),
+        (&[(1, 1), (1, 3)], 1),
+    ];
+    form(rt, alloc, 3, objective, rows)
+}
+
+/// The multipliers of the form.
+fn multipliers<'a, C: Count>(
+    rt: &impl Abort,
+    alloc: Global,
+    form: &'a Form<C>,
+) -> Multipliers<'a, C> {
+    Multipliers::new(alloc, form, 8)
+        .expect(rt, "memory")
+        .expect(rt, "a scale")
+}
+
+/// Looks whether the bound comes to 3 units within a part of one.
+fn climbs<C: Count>(rt: &impl Abort, alloc: Global, unit: Number) {
+    let form: Form<C> = triangle(rt, alloc, unit);
+    let mut multipliers = multipliers(rt, alloc, &form);
+    let mut saddle = Saddle::new(alloc, &form).expect(rt, "memory");
+    let numbers = saddle.improve(&mut multipliers, 200, Number::MAX);
+    assert!(rt; numbers > 0);
+    let least = unit.saturating_mul(3);
+    assert!(rt; multipliers.bound() <= least);
+    assert!(rt; multipliers.bound() >= least.saturating_sub(unit / 16));
+}
+
+#[test]
+fn the_bound_comes_to_that_of_the_relaxation(rt: HostRuntime) {
+    climbs::<u64>(&rt, rt.alloc(), 1);
+    climbs::<u64>(&rt, rt.alloc(), 1_000);
+    climbs::<Magnitude>(&rt, rt.alloc(), 1 << 90);
+}
+
+/// Where one variable is true the two others have one row left, which costs 2 more.
+#[test]
+fn met_rows_are_left_out(rt: HostRuntime) {
+    let alloc = rt.alloc();
+    let form: Form<u64> = triangle(&rt, alloc, 1);
+    let mut multipliers = multipliers(&rt, alloc, &form);
+    let first = lit(&rt, 1);
+    if multipliers.is_free(first) {
+        multipliers.assign(first);
+    }
+    let mut saddle = Saddle::new(alloc, &form).expect(&rt, "memory");
+    saddle.improve(&mut multipliers, 200, Number::MAX);
+    assert_eq!(rt; multipliers.bound(), 4);
+    saddle.approach(&multipliers, 200);
+    assert!(rt; saddle.planned(1).is_some());
+    assert!(rt; saddle.planned(2).is_none());
+}
+
+/// A point that is whole tells each value, and those that cost most to leave come first.
+#[test]
+fn a_point_is_planned_by_what_it_leaves_open(rt: HostRuntime) {
+    let alloc = rt.alloc();
+    let objective: Terms<'_> = &[(1, 1), (9, 2), (3, 3)];
+    let rows: &[(Terms<'_>, Number)] = &[(&[(1, 1), (1, 2)], 1)];
+    let form: Form<u64> = form(&rt, alloc, 3, objective, rows);
+    let multipliers = multipliers(&rt, alloc, &form);
+    let mut saddle = Saddle::new(alloc, &form).expect(&rt, "memory");
+    saddle.approach(&multipliers, 300);
+    assert!(rt; saddle.value(1) > 0.9);
+    assert!(rt; saddle.value(2) < 0.1);
+    assert!(rt; saddle.value(4) == 0.0);
+    for (place, number) in [1, -2, -3].iter().enumerate() {
+        let planned = saddle.planned(place).expect(&rt, "a literal");
+        assert!(rt; is_lit(planned, *number));
+    }
+}
