@@ -160,8 +160,7 @@ impl<'a, C: Count> Relaxation<'a, C> {
         ensures beside { IsBeside slacks.now.form slacks.now.trail self.new }
     {
         self.count_node(slacks.len());
-        let root = self.root_length(slacks);
-        if self.passes.is_climb_due(root, &self.account) {
+        if self.passes.is_climb_due() {
             self.climb(slacks, goal);
         }
         self.is_used = self.account.is_open();
@@ -192,12 +191,8 @@ impl<'a, C: Count> Relaxation<'a, C> {
             };
             self.take_back_to(changes);
         }
-        self.passes.climb(
-            &mut self.multipliers,
-            &mut self.steps,
-            &mut self.account,
-            goal,
-        );
+        self.passes
+            .climb(&mut self.multipliers, &mut self.steps, goal);
     }
 
     /// Steps all rows beside the root's trail.
@@ -216,16 +211,11 @@ impl<'a, C: Count> Relaxation<'a, C> {
         ensures { IsBeside slacks.now.form slacks.now.trail self.new }
     {
         self.catch_up(slacks);
-        let length = self.root_length(slacks);
-        self.multipliers.unassign_to(length);
-    }
-
-    /// How many literals of the trail are the root's.
-    fn root_length(&self, slacks: &Slacks<'_, '_, C>) -> usize {
-        match self.levels.root_end() {
+        let length = match self.levels.root_end() {
             Some(mark) => mark.length.min(slacks.len()),
             None => slacks.len(),
-        }
+        };
+        self.multipliers.unassign_to(length);
     }
 
     /// Counts a node of the search whose trail has so many literals.

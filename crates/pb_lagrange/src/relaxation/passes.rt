@@ -26,15 +26,6 @@ const LONG_PATIENCE: u32 = 20;
 /// How many steps of the first-order method there are then at most.
 const STEPS: u32 = 500;
 
-/// The same where it is made again.
-const LATER_STEPS: u32 = 300;
-
-/// By which part of the variables that are free, 1 in so many, the root's trail grows until it is made again.
-const GROWTH: usize = 8;
-
-/// How many numbers the method looks at in the time of a term.
-const NUMBERS_OF_A_TERM: u64 = 4;
-
 /// What was done to all rows, and what the next passes wait for.
 #[derive(Drop)]
 pub struct Passes {
@@ -45,8 +36,6 @@ pub struct Passes {
     nodes: u32,
     /// How often all rows were gone through.
     passes: u32,
-    /// At how many literals of the root's trail all rows are shifted at once again.
-    next_root: usize,
 }
 
 impl Passes {
@@ -57,7 +46,6 @@ impl Passes {
             terms: count_terms(form),
             nodes: 0,
             passes: 0,
-            next_root: 0,
         })
     }
 
@@ -104,38 +92,22 @@ impl Passes {
         self.passes = end;
     }
 
-    /// Whether all rows are to be shifted at once: when the search has gone on for long enough, and again where the root's
-    /// trail, of so many literals, has grown much since and that is not too dear.
-    pub fn is_climb_due(&self, root: usize, account: &Account) -> bool {
-        if self.nodes <= LONG_PATIENCE {
-            return self.nodes == LONG_PATIENCE;
-        }
-        let numbers = self.terms.saturating_mul(2 * LATER_STEPS as u64);
-        root >= self.next_root && account.is_open() && account.affords(numbers / NUMBERS_OF_A_TERM)
+    /// Whether all rows are to be shifted at once: once, when the search has gone on for long enough.
+    pub fn is_climb_due(&self) -> bool {
+        self.nodes == LONG_PATIENCE
     }
 
     /// Shifts all rows at once, to what the first-order method finds, and steps them twice after that. The multipliers are kept
-    /// for good. The account leaves out the first time.
+    /// for good. That is done once, so the account leaves it out.
     pub fn climb<C: Count>(
         &mut self,
         multipliers: &mut Multipliers<'_, C>,
         steps: &mut Steps<C>,
-        account: &mut Account,
         limit: Number,
     )
         ensures { IsSameButShifted multipliers.old multipliers.new }
     {
-        if self.nodes == LONG_PATIENCE {
-            self.saddle.improve(multipliers, STEPS, limit);
-        } else {
-            let numbers = self.saddle.improve(multipliers, LATER_STEPS, limit);
-            account.count_multipliers(numbers / NUMBERS_OF_A_TERM);
-        }
-        let free = (multipliers.form().vars() as usize).saturating_sub(multipliers.len());
-        self.next_root = multipliers
-            .len()
-            .saturating_add(free / GROWTH)
-            .saturating_add(1);
+        self.saddle.improve(multipliers, STEPS, limit);
         pass(multipliers, steps, false);
         pass(multipliers, steps, true);
     }
