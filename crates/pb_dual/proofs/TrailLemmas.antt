@@ -14,14 +14,15 @@ use Rattle.pb_inst.specs.Literal.{Literal}
 use Rattle.pb_inst.specs.Meaning.{literal_value}
 use Rattle.pb_normal.specs.NormalForm.{NormalForm, IsNormal, normal_cost, positive_value, total_coefficient}
 use Rattle.pb_normal.specs.Literals.{weight_of}
+use Rattle.pb_normal.proofs.RowLemmas.{positive_value-opposite}
 use Rattle.pb_rows.specs.Index.{literal_place}
-use Rattle.pb_trail.specs.Completion.{IsCompletion}
+use Rattle.pb_trail.specs.Completion.{HasNoCompletion, IsCompletion}
 use Rattle.pb_trail.specs.Tracked.{AreValues}
 use Rattle.pb_trail.specs.Trail.{value_on}
 use Rattle.pb_trail.proofs.TrailLemmas.{value_on-same, value_on-other}
 use Rattle.pb_dual.specs.Changes.{Change}
 use Rattle.pb_dual.specs.ReducedCosts.{promised, taken_off, reduced_cost, IsReducedCost, AreReducedCosts, cost_at, over_variables, least_cost, part, part_on, parts, parts_on}
-use Rattle.pb_dual.specs.Multipliers.{MultipliersState, bound_from, dual_bound, penalty, IsBelowCosts, IsBelowCostsWith, AreKept}
+use Rattle.pb_dual.specs.Multipliers.{MultipliersState, bound_from, dual_bound, penalty, promised_above, IsBelowCosts, IsBelowCostsWith, AreKept}
 use Rattle.pb_dual.proofs.SoundLemmas.{over-same, sound, weight-most}
 use Rattle.pb_dual.proofs.ChangeLemmas.{over-changed, over-most, promised-most, sum-fits}
 
@@ -194,6 +195,18 @@ below_cost s n a low most =
 -- the bound holds for every completion
 pub bound_below : (s : MultipliersState) → IsNormal s.form → 1 ≤ s.scale → length s.multipliers ≡ length s.form.rows → promised s.multipliers s.form.rows ≤ s.origin → IsBelowCosts s.form s.trail (dual_bound s)
 bound_below s normal low count fits a whole = below_cost s (parts_on s.origin s.scale s.form s.multipliers s.trail) a low (sound s.origin s.scale s.form s.multipliers s.trail a normal count fits whole)
+
+-- where more than all costs together is promised there is no completion
+pub none_below : (s : MultipliersState) → IsNormal s.form → length s.multipliers ≡ length s.form.rows → promised s.multipliers s.form.rows ≤ s.origin → s.scale * total_coefficient s.form.objective < promised_above s → HasNoCompletion s.form.rows s.trail
+none_below s normal count fits over a whole =
+    let value = positive_value a s.form.objective in
+    let total = total_coefficient s.form.objective in
+    let most : value ≤ total = omega (arith, positive_value-opposite a s.form.objective) in
+    beyond (promised s.multipliers s.form.rows + parts_on s.origin s.scale s.form s.multipliers s.trail) (s.form.vars * s.origin) (s.scale * value) (s.scale * total)
+    (sound s.origin s.scale s.form s.multipliers s.trail a normal count fits whole) (mul-le s.scale value s.scale total (omega arith) most) over
+  where
+    beyond : (sum floor value total : ℕ) → sum ≤ floor + value → value ≤ total → total < sum - floor → ⊥
+    beyond sum floor value total h low over = omega arith
 
 -- with a literal more, for those that make it true
 pub bound_with_below : (s : MultipliersState) (l : Literal) → IsNormal s.form → 1 ≤ s.scale → length s.multipliers ≡ length s.form.rows → promised s.multipliers s.form.rows ≤ s.origin → 1 ≤ l.var → l.var ≤ s.form.vars → value_on s.trail l.var ≡ None → IsBelowCostsWith s.form s.trail l (bound_from s (parts_on s.origin s.scale s.form s.multipliers s.trail + penalty s l))

@@ -1,5 +1,5 @@
 -- Multipliers for the rows of a normal form, and what they say of a trail's completions.
-use Rattle.std.specs.Prelude.{◌≡◌, ℕ, ◌+◌, ◌-◌, ◌*◌, ◌/◌, ◌<◌, ◌≤◌, Bool, List, [], ◌∷◌, ◌++◌, Option, None, All, length, min, slice_index, slice_set, ℤ, pos, ◌+ℤ◌, ◌≤ℤ◌, int_lt, unsigned_abs, if◌then◌else◌}
+use Rattle.std.specs.Prelude.{◌≡◌, ℕ, ◌+◌, ◌-◌, ◌*◌, ◌/◌, ◌<◌, ◌≤◌, Bool, List, [], ◌∷◌, ◌++◌, Option, None, All, length, min, nat_lt, slice_index, slice_set, ℤ, pos, ◌+ℤ◌, ◌≤ℤ◌, int_lt, unsigned_abs, if◌then◌else◌}
 use Rattle.std.specs.Int.{div_ceil}
 use Rattle.pb_inst.specs.declared.TheConstants.{MAX_VARS}
 use Rattle.pb_inst.specs.Literal.{Literal}
@@ -46,6 +46,13 @@ bound_from s parts =
 
 abbrev pub dual_bound : MultipliersState → ℤ
 dual_bound s = bound_from s (parts_on s.origin s.scale s.form s.multipliers s.trail)
+
+-- what is promised above the base, times the scale, and whether it is more than all costs together
+abbrev pub promised_above : MultipliersState → ℕ
+promised_above s = (promised s.multipliers s.form.rows + parts_on s.origin s.scale s.form s.multipliers s.trail) - s.form.vars * s.origin
+
+abbrev pub is_over_all_costs : MultipliersState → Bool
+is_over_all_costs s = nat_lt (s.scale * total_coefficient s.form.objective) (promised_above s)
 
 -- what the literal adds to that by joining the trail, times the scale
 abbrev pub penalty : MultipliersState → Literal → ℕ

@@ -2,11 +2,12 @@
 
 ghost use Rattle.std.specs.Prelude.{◌≡◌, ◌⊎◌, ℕ, ◌+◌, ◌-◌, ◌*◌, ◌^◌, ◌<◌, ◌≤◌, [], ◌∷◌, ◌++◌, false, true, Ok, None, IfOk, IfSome, IsTrue, length, take, drop, replicate, min, slice_index, slice_set, slice_index_or, pos, ◌≤ℤ◌, ltb};
 ghost use Rattle.pb_inst.specs.declared.TheConstants.{MAX_VARS};
+ghost use Rattle.pb_trail.specs.Completion.{HasNoCompletion};
 ghost use Rattle.pb_trail.specs.Trail.{value_on};
 ghost use Rattle.pb_rows.specs.Constraints.{row_at};
 ghost use Rattle.pb_normal.specs.NormalForm.{total_coefficient};
 ghost use Rattle.pb_dual.specs.ReducedCosts.{parts_on};
-ghost use Rattle.pb_dual.specs.Multipliers.{undone, changed, shifted, bound_from, dual_bound, penalty, IsFixed, IsBelowCosts, IsBelowCostsWith, IsWithinShare};
+ghost use Rattle.pb_dual.specs.Multipliers.{undone, changed, shifted, bound_from, dual_bound, penalty, promised_above, is_over_all_costs, IsFixed, IsBelowCosts, IsBelowCostsWith, IsWithinShare};
 
 use crate::changes::Change;
 use crate::reduced_costs::{initial_costs, part, reprice, revalue};
@@ -225,6 +226,16 @@ impl<'a, C: Count> Multipliers<'a, C> {
         self.costs[place_of(lit)].above(least)
     }
 
+    /// Whether more than all costs together is promised. Then nothing completes the trail: no assignment costs more than that.
+    pub fn refutes(&self) -> bool
+        ensures value { result ≡ is_over_all_costs self.now }
+        ensures no_completion { result ≡ true → HasNoCompletion self.now.form.rows self.now.trail }
+    {
+        let _vars = self.form.vars();
+        let most = self.scale * self.total;
+        most.number() < self.above()
+    }
+
     /// A literal without a value that every completion of the trail that costs no more than the limit makes true, or none. It
     /// is looked for among the variables after the first `from`, and among some hundred of them alone.
     pub fn fixed_literal(&self, from: u32, limit: Number) -> Option<Lit>
@@ -268,7 +279,10 @@ impl<'a, C: Count> Multipliers<'a, C> {
     }
 
     /// The same, however great.
-    fn above(&self) -> u128 {
+    fn above(&self) -> u128
+        ensures { result ≡ promised_above self.now }
+    {
+        let _vars = self.form.vars();
         self.sum
             .saturating_add(self.degrees.number())
             .saturating_sub(self.floor())

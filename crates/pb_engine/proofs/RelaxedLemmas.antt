@@ -6,7 +6,7 @@ use Rattle.std.proofs.lemmas.List.{take-append-le, length-take}
 use Rattle.std.proofs.lemmas.List.Elements.{All-take}
 use Rattle.pb_inst.specs.Literal.{Literal}
 use Rattle.pb_normal.specs.NormalForm.{PositiveRow, NormalForm, MeetsRow}
-use Rattle.pb_trail.specs.Completion.{IsCompletion, IsLowerBound}
+use Rattle.pb_trail.specs.Completion.{HasNoCompletion, IsCompletion, IsLowerBound}
 use Rattle.pb_trail.specs.EngineState.{EngineState}
 use Rattle.pb_trail.specs.Propagation.{AddsForced}
 use Rattle.pb_engine.specs.Fixing.{IsBelowCompletions, IsForcedWithin}
@@ -75,6 +75,12 @@ if-fixed-in e own followed limit None first vars same_form same_trail fixed = tt
 below-in : (e : EngineState) (own : NormalForm) (followed : List Literal) (bound : ℤ) → take (length e.form.rows) e.rows ≡ e.form.rows → own ≡ e.form → followed ≡ e.trail → IsBelowCosts own followed bound → IsBelowCompletions e bound
 below-in e own followed bound first same_form same_trail below =
     let here : IsBelowCosts e.form e.trail bound = subst (λ (f : NormalForm). IsBelowCosts f e.trail bound) same_form (subst (λ (t : List Literal). IsBelowCosts own t bound) same_trail below) in
+    λ a whole. here a (completion_of_form e.form e.rows e.trail a first whole)
+
+-- what the multipliers tell of the form's rows, of all rows
+pub none-in : (e : EngineState) (own : NormalForm) (followed : List Literal) → take (length e.form.rows) e.rows ≡ e.form.rows → own ≡ e.form → followed ≡ e.trail → HasNoCompletion own.rows followed → HasNoCompletion e.rows e.trail
+none-in e own followed first same_form same_trail none =
+    let here : HasNoCompletion e.form.rows e.trail = subst (λ (f : NormalForm). HasNoCompletion f.rows e.trail) same_form (subst (λ (t : List Literal). HasNoCompletion own.rows t) same_trail none) in
     λ a whole. here a (completion_of_form e.form e.rows e.trail a first whole)
 
 pub if-below-in : (e : EngineState) (own : NormalForm) (followed : List Literal) (found : Option Fixed) → take (length e.form.rows) e.rows ≡ e.form.rows → own ≡ e.form → followed ≡ e.trail → IfSome found (λ f. IsBelowCosts own followed f.bound) → IfSome found (λ f. IsBelowCompletions e f.bound)

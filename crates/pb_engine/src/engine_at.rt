@@ -259,16 +259,18 @@ impl<'a, C: Count> EngineAt<'a, C> {
         relaxation.raise(&slacks, bound, goal)
     }
 
-    /// Improves the multipliers, if there are any, where no bound is asked for. It leaves the trail and the conflict as they
-    /// are, and takes no memory.
-    pub fn adjust(&mut self)
-        ensures { self.new ≡ self.old }
+    /// Improves the multipliers, if there are any, where no bound is asked for. Answers whether they tell that nothing completes
+    /// the trail. It leaves the trail and the conflict as they are, and takes no memory.
+    pub fn adjust(&mut self) -> bool
+        ensures no_completion { result ≡ true → HasNoCompletion self.old.rows self.old.trail }
+        ensures unchanged { self.new ≡ self.old }
     {
         let slacks = self.propagator.slacks();
         let _vars = slacks.tables().vars();
-        if let Some(relaxation) = &mut self.relaxation {
-            relaxation.adjust(&slacks);
-        }
+        let Some(relaxation) = &mut self.relaxation else {
+            return false;
+        };
+        relaxation.adjust(&slacks)
     }
 
     /// A literal without a value that every completion of the trail that costs no more than the limit makes true, by the

@@ -9,6 +9,7 @@ mod steps;
 
 ghost use Rattle.std.specs.Prelude.{◌≡◌, ◌⊎◌, ◌+◌, ◌^◌, ◌<◌, ◌≤◌, ◌≤ℤ◌, [], true, IfOk, IfSome, length, take};
 ghost use Rattle.pb_dual.specs.Multipliers.{IsBelowCosts, IsFixed};
+ghost use Rattle.pb_trail.specs.Completion.{HasNoCompletion};
 ghost use Rattle.pb_lagrange.specs.Relaxation.{IsBeside};
 ghost use Rattle.pb_saddle.specs.Shifting.{IsSameButShifted};
 
@@ -144,12 +145,21 @@ impl<'a, C: Count> Relaxation<'a, C> {
         relaxed
     }
 
-    /// Follows the trail and improves the multipliers, where they are used, as `raise` does; no bound is asked for.
-    pub fn adjust(&mut self, slacks: &Slacks<'_, '_, C>)
+    /// Follows the trail and improves the multipliers, where they are used, as `raise` does; no bound is asked for. Answers
+    /// whether they tell that nothing completes the trail. Now and then that is left out, to see what it saves.
+    pub fn adjust(&mut self, slacks: &Slacks<'_, '_, C>) -> bool
         requires { IsBeside slacks.now.form slacks.now.trail self.old }
-        ensures { IsBeside slacks.now.form slacks.now.trail self.new }
+        ensures no_completion { result ≡ true → HasNoCompletion slacks.now.form.rows slacks.now.trail }
+        ensures beside { IsBeside slacks.now.form slacks.now.trail self.new }
     {
-        self.use_at(slacks, Number::MAX);
+        let is_used = self.use_at(slacks, Number::MAX);
+        if !is_used {
+            return false;
+        }
+        if !self.multipliers.refutes() {
+            return false;
+        }
+        !self.is_tried(Number::MAX, Number::MAX)
     }
 
     /// Uses the multipliers at the node, if they pay: they follow the trail to its end, and are improved where their bound is

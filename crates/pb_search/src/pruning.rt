@@ -78,8 +78,11 @@ pub fn check_multipliers<C: Count>(
     ensures unchanged { engine.new ≡ engine.old }
     ensures known { KnowsHeldPrefix engine.old.trail best.now.held agreed.new }
 {
+    // Where nothing is held every completion counts, and what closes the subtree is that there is none.
     let Some(bound) = bound else {
-        engine.adjust();
+        if engine.adjust() {
+            return (Pruning::Closed, None);
+        }
         return (pruning, None);
     };
     if pruning == Pruning::Closed {
