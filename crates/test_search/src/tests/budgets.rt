@@ -166,25 +166,6 @@ fn fixed_literals_wait_for_the_bound(rt: HostRuntime) {
     }
 }
 
-/// What is held costs 1. The two rows force x2 to be false together, which the multipliers see for a half of its cost, and
-/// the bound of disjoint rows for none of it. The 5 that its negation costs fix x1. Below it the bound of the multipliers,
-/// as it stands beside the next literal that they fix, is the best cost, and the trail with zeros elsewhere is what is held.
-#[test]
-fn fixed_literals_wait_for_the_multipliers(rt: HostRuntime) {
-    let alloc = rt.alloc();
-    let costs: &[(Number, i32)] = &[(5, -1), (1, -2), (5, 4), (5, 5)];
-    let rows: &[Row<'_>] = &[
-        (&[(1, -2), (1, 3)], Relation::AtLeast, 1),
-        (&[(1, -2), (1, -3)], Relation::AtLeast, 1),
-    ];
-    let half_seen = instance(&rt, alloc, 5, costs, rows);
-    let moves: &[(u64, &str)] = &[(0, "Cut 0, 1: x1"), (1, "Whole 1, 1: x1")];
-    for (budget, want) in moves {
-        let got = run_after(&rt, alloc, &half_seen, &[], &[1], *budget);
-        assert!(rt; got.as_str() == *want, "{got}");
-    }
-}
-
 /// Without a decision: nothing to decide, nothing feasible, and a cut.
 #[test]
 fn no_decisions(rt: HostRuntime) {
