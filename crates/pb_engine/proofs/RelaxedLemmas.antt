@@ -86,3 +86,7 @@ none-in e own followed first same_form same_trail none =
 pub if-below-in : (e : EngineState) (own : NormalForm) (followed : List Literal) (found : Option Fixed) → take (length e.form.rows) e.rows ≡ e.form.rows → own ≡ e.form → followed ≡ e.trail → IfSome found (λ f. IsBelowCosts own followed f.bound) → IfSome found (λ f. IsBelowCompletions e f.bound)
 if-below-in e own followed (Some f) first same_form same_trail below = below-in e own followed f.bound first same_form same_trail below
 if-below-in e own followed None first same_form same_trail below = tt
+
+pub if-bound-in : (e : EngineState) (own : NormalForm) (followed : List Literal) (found : Option ℤ) → take (length e.form.rows) e.rows ≡ e.form.rows → own ≡ e.form → followed ≡ e.trail → IfSome found (IsBelowCosts own followed) → IfSome found (IsBelowCompletions e)
+if-bound-in e own followed (Some bound) first same_form same_trail below = below-in e own followed bound first same_form same_trail below
+if-bound-in e own followed None first same_form same_trail below = tt

@@ -259,6 +259,20 @@ impl<'a, C: Count> EngineAt<'a, C> {
         relaxation.raise(&slacks, bound, goal)
     }
 
+    /// The bound of the multipliers as they are, where there are any and they were used at the node that was judged last: at most
+    /// the cost of every completion of the trail. It leaves the trail and the conflict as they are, and takes no memory.
+    pub fn bound_at_hand(&mut self) -> Option<Number>
+        ensures bound { IfSome result (IsBelowCompletions self.old) }
+        ensures unchanged { self.new ≡ self.old }
+    {
+        let slacks = self.propagator.slacks();
+        let _vars = slacks.tables().vars();
+        let Some(relaxation) = &mut self.relaxation else {
+            return None;
+        };
+        relaxation.bound_at_hand(&slacks)
+    }
+
     /// Improves the multipliers, if there are any, where no bound is asked for. Answers whether they tell that nothing completes
     /// the trail. It leaves the trail and the conflict as they are, and takes no memory.
     pub fn adjust(&mut self) -> bool

@@ -252,6 +252,22 @@ impl<'a, C: Count> Relaxation<'a, C> {
         true
     }
 
+    /// The bound of the multipliers as they are, where they were used at the node that was judged last. They follow the trail,
+    /// but no row is touched by that: what is asked for here is taken back at once.
+    pub fn bound_at_hand(&mut self, slacks: &Slacks<'_, '_, C>) -> Option<Number>
+        requires { IsBeside slacks.now.form slacks.now.trail self.old }
+        ensures bound { IfSome result (IsBelowCosts slacks.now.form slacks.now.trail) }
+        ensures beside { IsBeside slacks.now.form slacks.now.trail self.new }
+    {
+        if !self.was_used {
+            return None;
+        }
+        while self.multipliers.len() < slacks.len() {
+            self.follow_quietly(slacks);
+        }
+        Some(self.multipliers.bound())
+    }
+
     /// A literal that every completion of the trail that costs no more than the limit makes true, and that has no value yet,
     /// with the bound of the multipliers as they are; or none. None also where the multipliers are not used at the node.
     pub fn fixed_literal(&mut self, slacks: &Slacks<'_, '_, C>, limit: Number) -> Option<Fixed>
@@ -420,6 +436,18 @@ impl<'a, C: Count> Relaxation<'a, C> {
         }
     }
 
+    /// Follows the trail for one literal.
+    fn follow_quietly(&mut self, slacks: &Slacks<'_, '_, C>)
+        requires beside { IsBeside slacks.now.form slacks.now.trail self.old }
+        requires more { length self.old.trail < length slacks.now.trail }
+        ensures form { self.new.form ≡ self.old.form }
+        ensures trail { self.new.trail ≡ take (length self.old.trail + 1) slacks.now.trail }
+    {
+        let (_vars, _length) = (slacks.tables().vars(), slacks.len());
+        let lit = slacks.literal(self.multipliers.len());
+        self.multipliers.assign(lit);
+    }
+
     /// Follows the trail for one literal, and notes the rows of its variable.
     fn follow(&mut self, slacks: &Slacks<'_, '_, C>)
         requires beside { IsBeside slacks.now.form slacks.now.trail self.old }
@@ -427,10 +455,9 @@ impl<'a, C: Count> Relaxation<'a, C> {
         ensures form { self.new.form ≡ self.old.form }
         ensures trail { self.new.trail ≡ take (length self.old.trail + 1) slacks.now.trail }
     {
-        let tables = slacks.tables();
-        let (_vars, _length) = (tables.vars(), slacks.len());
+        let (tables, _length) = (slacks.tables(), slacks.len());
         let lit = slacks.literal(self.multipliers.len());
-        self.multipliers.assign(lit);
+        self.follow_quietly(slacks);
         self.schedule.touch(tables, lit);
     }
 }

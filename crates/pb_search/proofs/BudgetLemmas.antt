@@ -13,3 +13,11 @@ left_onward None left (Some n) h e = let bad : ⊥ = cc in absurd bad
 left_onward (Some b) None less h e = absurd h
 left_onward (Some b) (Some m) None h e = let bad : ⊥ = cc in absurd bad
 left_onward (Some b) (Some m) (Some n) h e = let same : m ≡ n + 1 = cc in omega arith
+
+-- what may be left of what may be left
+pub left_after : (budget left less : Option ℕ) → IsLeftOf budget left → IsLeftOf left less → IsLeftOf budget less
+left_after None None less h e = e
+left_after None (Some n) less h e = let bad : ⊥ = cc in absurd bad
+left_after (Some b) None less h e = absurd h
+left_after (Some b) (Some m) None h e = absurd e
+left_after (Some b) (Some m) (Some n) h e = omega arith

@@ -1,6 +1,6 @@
 -- Full trails, and subtrees that may be left.
 use Rattle.std.proofs.Common.{◌≡◌, ◌≢◌, ℕ, ◌+◌, ◌-◌, ◌≤◌, List, length, refl, sym, ◌∙◌, ap, subst, arith, Bool, true, false, cond, inl, inr, ◌⊎◌, Option, None, Some}
-use Rattle.std.specs.Prelude.{slice_index_or, unwrap_or, ℤ, ◌≤ℤ◌, IsSomeAnd, IfSome}
+use Rattle.std.specs.Prelude.{slice_index_or, unwrap_or, ℤ, ◌≤ℤ◌, ◌<ℤ◌, IsSomeAnd, IfSome}
 use Rattle.std.specs.Option.{option_map}
 use Rattle.std.proofs.lemmas.List.{ext_get_or}
 use Rattle.std.proofs.Math.ListN.{get_or-eq_default}
@@ -136,6 +136,22 @@ closed_at_tie p s bound t engine low sound over after a h (inl less) =
     let same : normal_cost s.form a ≡ cost p a = engine.costs a in
     let is : t.cost ≡ cost p t.assignment = sound.cost_is in omega (arith, ints)
 closed_at_tie p s bound t engine low sound over after a h (inr equal) = after a h.makes_true equal.1
+
+-- a bound over the best cost
+closed_over : (p : Problem) (s : EngineState) (bound : ℤ) (t : Solution) → IsEngineOf p s → IsBelowCompletions s bound → IsSolution p t → t.cost <ℤ bound → IsClosed p s (Some t)
+closed_over p s bound t engine low sound over a h before =
+    let at_most : bound ≤ℤ normal_cost s.form a = low a (record { makes_true = h.makes_true; meets_rows = h.solution.meets_rows }) in
+    let same : normal_cost s.form a ≡ cost p a = engine.costs a in
+    let is : t.cost ≡ cost p t.assignment = sound.cost_is in
+    elim before [
+      | inl less ↦ omega (arith, ints)
+      | inr equal ↦ omega (arith, ints, equal.0)
+    ]
+
+-- the same for what is held
+pub closed_over_held : (p : Problem) (s : EngineState) (held : Option Solution) (limit bound : ℤ) → IsEngineOf p s → IfSome held (λ t. IsSolution p t) → option_map (λ (t : Solution). t.cost) held ≡ Some limit → IsBelowCompletions s bound → limit <ℤ bound → IsClosed p s held
+closed_over_held p s None limit bound engine sound is low over = let bad : ⊥ = cc in absurd bad
+closed_over_held p s (Some t) limit bound engine sound is low over = let cost_is : t.cost ≡ limit = cc in closed_over p s bound t engine low sound (subst (λ (z : ℤ). z <ℤ bound) (sym cost_is) over)
 
 -- a literal that is forced within the best cost
 pub one_sided_within : (p : Problem) (s : EngineState) (t : Solution) (limit : ℤ) (l : Literal) → IsEngineOf p s → IsSolution p t → t.cost ≡ limit → IsForcedWithin s limit l → IsOpenOnOneSide p s (Some t) l

@@ -1,12 +1,12 @@
 -- How open branches and the steps that are left change when the path does.
-use Rattle.std.proofs.Common.{◌≡◌, ℕ, ◌+◌, ◌*◌, ◌-◌, ◌^◌, ◌<◌, ◌≤◌, List, [], ◌∷◌, ◌++◌, length, refl, arith, suc, zero, Bool, true, false, not, cond, inl, inr, ◌⊎◌}
+use Rattle.std.proofs.Common.{◌≡◌, ℕ, ◌+◌, ◌*◌, ◌-◌, ◌^◌, ◌<◌, ◌≤◌, List, [], ◌∷◌, ◌++◌, length, refl, ap, ◌∙◌, arith, suc, zero, Bool, true, false, not, cond, inl, inr, ◌⊎◌}
 use Rattle.std.specs.Prelude.{if◌then◌else◌, slice_index_or}
 use Rattle.std.proofs.lemmas.List.Elements.{All-nil, All-cons}
 use Rattle.pb_inst.specs.Literal.{Literal}
 use Rattle.pb_inst.specs.Meaning.{literal_value}
 use Rattle.pb_inst.specs.Cubes.{MakesTrue}
 use Rattle.pb_search.specs.declared.branch.Branch.{Branch}
-use Rattle.pb_search.specs.Paths.{decided, LeavesOpen, LiesOpen, steps_left, IsOtherValue}
+use Rattle.pb_search.specs.Paths.{decided, LeavesOpen, LiesOpen, steps_left, search_steps, IsOtherValue}
 use Rattle.pb_inst.proofs.SumProofs.{literal_cases}
 
 -- a false literal's negation is true
@@ -47,6 +47,12 @@ leaves_last a (c ∷ path) b (inl on) = elim (leaves_last a path b on.1) [
   | inr here ↦ inr (All-cons (λ l. literal_value a l ≡ 1) c.lit (decided path) on.0 here.0, here.1)
 ]
 
+-- what lies open below a branch does without it
+pub back_keeps : (a : List Bool) (path : List Branch) (b : Branch) → LiesOpen a (path ++ b ∷ []) → LiesOpen a path
+back_keeps a [] b h = tt
+back_keeps a (c ∷ path) b (inl on) = inl (on.0, back_keeps a path b on.1)
+back_keeps a (c ∷ path) b (inr off) = inr off
+
 -- turning to the other value of the last branch keeps all that leaves the path open
 pub turn_keeps : (a : List Bool) (path : List Branch) (last next : Branch) → IsOtherValue last next → LeavesOpen a (path ++ last ∷ []) → LiesOpen a (path ++ next ∷ [])
 turn_keeps a [] last next other (inl on) = absurd on.1
@@ -81,3 +87,34 @@ decide_falls n (c ∷ path) b lt = omega (arith, decide_falls (n - 1) path b (om
 pub turn_falls : (n : ℕ) (kept taken_back : List Branch) (last next : Branch) → last.flipped ≡ false → next.flipped ≡ true → steps_left n (kept ++ next ∷ []) < steps_left n (kept ++ last ∷ taken_back)
 turn_falls n [] taken_back last next was_open flipped = rw (was_open, flipped) (omega (arith, steps_positive (n - 1) taken_back))
 turn_falls n (c ∷ kept) taken_back last next was_open flipped = omega (arith, turn_falls (n - 1) kept taken_back last next was_open flipped)
+
+-- no more steps than with no decision
+steps_most : (n : ℕ) (path : List Branch) → length path ≤ n → steps_left n path ≤ 3 ^ n
+steps_most n [] few = omega arith
+steps_most n (b ∷ path) few =
+    let rest : steps_left (n - 1) path ≤ 3 ^ (n - 1) = steps_most (n - 1) path (omega arith) in
+    omega (arith, last_falls n b.flipped (omega arith), rest)
+
+-- a decision or a turn leaves fewer steps to the search
+pub fewer_steps : (n r s : ℕ) (old new : List Branch) → s ≤ r → steps_left n new < steps_left n old → search_steps n s new < search_steps n r old
+fewer_steps n r s old new less falls =
+    let most : s * 3 ^ n ≤ r * 3 ^ n = grind arith in
+    omega arith
+
+times_next : (s m : ℕ) → (s + 1) * m ≡ s * m + m
+times_next s m = grind arith
+
+-- a step back to the root, and a decision there
+pub step_back_falls : (n r s : ℕ) (old new : List Branch) (b : Branch) → r ≡ s + 1 → length new < n → search_steps n s (new ++ b ∷ []) < search_steps n r old
+step_back_falls n r s old new b one few =
+    let most : steps_left n new ≤ 3 ^ n = steps_most n new (omega arith) in
+    let falls : steps_left n (new ++ b ∷ []) < steps_left n new = decide_falls n new b few in
+    let some : 1 ≤ steps_left n old = steps_positive n old in
+    let more : r * 3 ^ n ≡ s * 3 ^ n + 3 ^ n = ap (λ (x : ℕ). x * 3 ^ n) one ∙ times_next s (3 ^ n) in
+    omega arith
+
+-- with more steps back left there are no fewer steps
+pub fewer_from : (n x r s : ℕ) (path : List Branch) → s ≤ r → x < search_steps n s path → x < search_steps n r path
+fewer_from n x r s path less h =
+    let most : s * 3 ^ n ≤ r * 3 ^ n = grind arith in
+    omega arith

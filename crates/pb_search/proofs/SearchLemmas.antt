@@ -14,14 +14,15 @@ use Rattle.pb_engine.specs.Completion.{HasNoCompletion}
 use Rattle.pb_engine.specs.Soundness.{assumptions, literal_at, IsSoundTrail}
 use Rattle.pb_search.specs.declared.branch.Branch.{Branch}
 use Rattle.pb_search.specs.declared.search_state.SearchState.{SearchState}
+use Rattle.pb_search.specs.declared.root_work.RootWork.{RootWork}
 use Rattle.pb_cubes.specs.Pieces.{CubeList}
 use Rattle.pb_search.specs.Layout.{IsLaidOut}
 use Rattle.pb_search.specs.Held.{IsNotAfter}
-use Rattle.pb_search.specs.Paths.{decided, steps_left, LiesOpen, LeavesOpen, IsOtherValue}
+use Rattle.pb_search.specs.Paths.{decided, search_steps, LiesOpen, LeavesOpen, IsOtherValue}
 use Rattle.pb_search.specs.Solutions.{SameConstraints, Satisfies, SatisfiesUnder, Completes}
-use Rattle.pb_search.specs.SearchState.{IsEngineOf, IsStateOf, IsAtPath, IsFree, IsClosed, IsFreshOrOneSided, SameBranches, IsUnderWay, IsLeaving, IsNext, LeavesFewer, IsOwn}
-use Rattle.pb_search.proofs.HeldLemmas.{improvement_on_earlier}
-use Rattle.pb_search.proofs.PathLemmas.{decide_keeps, decide_keeps_one_sided, leaves_open, leaves_last, turn_keeps}
+use Rattle.pb_search.specs.SearchState.{IsEngineOf, IsStateOf, IsAtPath, IsFree, IsClosed, IsFreshOrOneSided, IsOpenOnOneSide, SameBranches, IsUnderWay, IsLeaving, IsNext, LeavesFewer, IsOwn}
+use Rattle.pb_search.proofs.HeldLemmas.{improvement_on_earlier, not_after_itself}
+use Rattle.pb_search.proofs.PathLemmas.{decide_keeps, decide_keeps_one_sided, back_keeps, leaves_open, leaves_last, turn_keeps}
 use Rattle.pb_search.proofs.Engines.{same_constraints_onward, same_constraints_itself}
 use Rattle.pb_search.proofs.Moves.{All_front, free_other}
 
@@ -43,7 +44,7 @@ same_engine p s t same h = record {
 }
 
 -- what makes the trail true makes the assumptions true
-assumptions_true : (a : List Bool) (s : EngineState) → IsSoundTrail s → MakesTrue a s.trail → MakesTrue a (assumptions s)
+pub assumptions_true : (a : List Bool) (s : EngineState) → IsSoundTrail s → MakesTrue a s.trail → MakesTrue a (assumptions s)
 assumptions_true a s sound h k d lt =
     let n : length (assumptions s) ≡ length s.levels = simp length-map refl in
     let low : k < length s.levels = omega arith in
@@ -93,23 +94,47 @@ state_moves p u w same room candidate h = record {
   room = subst (λ (n : ℕ). p.vars ≤ n) (sym room) h.room;
 }
 
+-- what leaves the engine and the decisions as they are keeps the place
+pub same_place : {C : Type 0} (t u : SearchState C) → u.engine ≡ t.engine → u.branches ≡ t.branches → u.candidate ≡ t.candidate → u.root_work.returns ≡ t.root_work.returns → SameBranches t u
+same_place t u engine branches candidate returns = record {
+  constraints = subst (λ (e : EngineState). SameConstraints t.engine e) (sym engine) (same_constraints_itself t.engine);
+  assumptions = ap (λ (e : EngineState). assumptions e) engine;
+  branches = branches;
+  room = ap (λ (a : List Bool). length a) candidate;
+  returns = returns;
+}
+
+-- expanding a node keeps what is under way
+pub stays_under_way : {C : Type 0} (p : Problem) (start : EngineState) (t u : SearchState C) (old new : Option Solution) → SameBranches t u → IsSoundTrail u.engine → IsNotAfter p old new → IsUnderWay p start t old → IsUnderWay p start u new
+stays_under_way p start t u old new same sound later h = record {
+  made_for = expanded_state p t u same h.made_for;
+  at_path = expanded_at (assumptions start) t u same sound h.at_path;
+  constraints = same_constraints_onward start t.engine u.engine h.constraints same.constraints;
+  all_open = λ a below better. subst (λ v. LiesOpen a v.items) (sym same.branches) (h.all_open a below (improvement_on_earlier p a old new later better));
+}
+
+-- a decision where the search stands
+pub decide_next : {C : Type 0} (p : Problem) (start : EngineState) (t : SearchState C) (next : Branch) (held : Option Solution) → IsFree t.engine next.lit → IsFreshOrOneSided p t.engine held next → IsUnderWay p start t held → IsNext p start t next held
+decide_next p start t next held free sides h = record {
+  made_for = h.made_for;
+  at_path = h.at_path;
+  constraints = h.constraints;
+  free = free;
+  all_open = λ a below better.
+      let lies : LiesOpen a t.branches.items = h.all_open a below better in
+      elim sides [
+        | inl fresh ↦ decide_keeps a t.branches.items next fresh lies
+        | inr one_sided ↦ decide_keeps_one_sided a t.branches.items next (λ follows. one_sided a (completes (assumptions start) start t.engine t.branches.items a h.constraints h.at_path below follows) better) lies
+      ];
+}
+
+-- a literal whose negation has nothing to give may be assumed
+pub free_open : (p : Problem) (s : EngineState) (l : Literal) (held : Option Solution) → s.conflict ≡ false → IsOpenOnOneSide p s held l → IsFree s l
+free_open p s l held none h = record { variable = h.variable; no_value = h.no_value; no_conflict = none }
+
 -- after an expansion that left the node open
 pub open_next : {C : Type 0} (p : Problem) (start : EngineState) (t u : SearchState C) (next : Branch) (old new : Option Solution) → SameBranches t u → IsSoundTrail u.engine → IsFree u.engine next.lit → IsFreshOrOneSided p u.engine new next → IsNotAfter p old new → IsUnderWay p start t old → IsNext p start u next new
-open_next p start t u next old new same sound free sides later h =
-    let at = expanded_at (assumptions start) t u same sound h.at_path in
-    let constraints = same_constraints_onward start t.engine u.engine h.constraints same.constraints in
-    record {
-      made_for = expanded_state p t u same h.made_for;
-      at_path = at;
-      constraints = constraints;
-      free = free;
-      all_open = λ a below better.
-          let lies : LiesOpen a u.branches.items = subst (λ v. LiesOpen a v.items) (sym same.branches) (h.all_open a below (improvement_on_earlier p a old new later better)) in
-          elim sides [
-            | inl fresh ↦ decide_keeps a u.branches.items next fresh lies
-            | inr one_sided ↦ decide_keeps_one_sided a u.branches.items next (λ follows. one_sided a (completes (assumptions start) start u.engine u.branches.items a constraints at below follows) better) lies
-          ];
-    }
+open_next p start t u next old new same sound free sides later h = decide_next p start u next new free sides (stays_under_way p start t u old new same sound later h)
 
 -- after an expansion that closed the node
 pub closed_leaving : {C : Type 0} (p : Problem) (start : EngineState) (t u : SearchState C) (old new : Option Solution) → SameBranches t u → IsSoundTrail u.engine → IsClosed p u.engine new → IsNotAfter p old new → IsUnderWay p start t old → IsLeaving p start u new
@@ -144,6 +169,23 @@ step_of p t u e b popped same at free room candidate is =
       free = subst (λ (x : EngineState). IsFree x b.lit) (sym is) free;
     }
 
+-- what is under way stays so without its last decision
+pub under_way_without : {C : Type 0} (p : Problem) (start : EngineState) (t u : SearchState C) (b : Branch) (held : Option Solution) → IsStep p t u b → IsUnderWay p start t held → IsUnderWay p start u held
+under_way_without p start t u b held step h = record {
+  made_for = step.made_for h.made_for;
+  at_path = step.at_path (assumptions start) h.at_path;
+  constraints = same_constraints_onward start t.engine u.engine h.constraints step.constraints;
+  all_open = λ a below better. back_keeps a u.branches.items b (subst (λ (x : List Branch). LiesOpen a x) step.popped (h.all_open a below better));
+}
+
+-- the same where the last decision is one that there may be
+pub under_way_before : {C : Type 0} (p : Problem) (start : EngineState) (t u : SearchState C) (o : Option Branch) (n : ℕ) (held : Option Solution) → IfSome o (λ b. t.branches.items ≡ u.branches.items ++ b ∷ []) → IfSome o (λ b. IsFree u.engine b.lit) → IfNone o (t.branches.items ≡ []) → n < length t.branches.items → SameConstraints t.engine u.engine → ((root : List Literal) → IsAtPath root t.engine t.branches.items → IsAtPath root u.engine u.branches.items) → vec_capacity u.branches ≡ vec_capacity t.branches → length u.candidate ≡ length t.candidate → IsUnderWay p start t held → IsUnderWay p start u held
+under_way_before p start t u None n held popped free none some same at room candidate h =
+    let empty : length t.branches.items ≡ 0 = ap (λ (x : List Branch). length x) none in
+    absurd (omega arith)
+under_way_before p start t u (Some b) n held popped free none some same at room candidate h =
+    under_way_without p start t u b held (step_of p t u u.engine b popped same at free room candidate refl) h
+
 -- nothing is left to try at the decision that was taken back
 pub leaving_on : {C : Type 0} (p : Problem) (start : EngineState) (t u : SearchState C) (b : Branch) (held : Option Solution) → IsStep p t u b → (b.flipped ≡ true) ⊎ IsClosed p u.engine held → IsLeaving p start t held → IsLeaving p start u held
 leaving_on p start t u b held step spent h =
@@ -164,6 +206,27 @@ leaving_on p start t u b held step spent h =
     no_choice : (flipped : Bool) → (flipped ≡ true) ⊎ IsClosed p u.engine held → flipped ≡ false → (IsClosed p u.engine held → ⊥) → ⊥
     no_choice flipped (inl is) isnt none = let e : true ≡ false = sym is ∙ isnt in let bad : ⊥ = cc in bad
     no_choice flipped (inr closed) isnt none = none closed
+
+-- what is under way doesn't depend on what is noted beside it
+pub beside_work : {C : Type 0} (p : Problem) (start : EngineState) (t u : SearchState C) (held : Option Solution) → SameBranches t u → IsSoundTrail u.engine → IsUnderWay p start t held → IsUnderWay p start u held
+beside_work p start t u held same sound h = stays_under_way p start t u held held same sound (not_after_itself p held) h
+
+-- other notes of the work at the root
+pub with_work : {C : Type 0} (p : Problem) (start : EngineState) (t : SearchState C) (w : RootWork) (held : Option Solution) → IsUnderWay p start t held → IsUnderWay p start (record t { root_work = w }) held
+with_work p start t w held h = record {
+  made_for = record { engine = h.made_for.engine; few_variables = h.made_for.few_variables; candidate = h.made_for.candidate; room = h.made_for.room };
+  at_path = h.at_path;
+  constraints = h.constraints;
+  all_open = h.all_open;
+}
+
+pub leaving_with_work : {C : Type 0} (p : Problem) (start : EngineState) (t : SearchState C) (w : RootWork) (held : Option Solution) → IsLeaving p start t held → IsLeaving p start (record t { root_work = w }) held
+leaving_with_work p start t w held h = record {
+  made_for = record { engine = h.made_for.engine; few_variables = h.made_for.few_variables; candidate = h.made_for.candidate; room = h.made_for.room };
+  at_path = h.at_path;
+  constraints = h.constraints;
+  all_leave = h.all_leave;
+}
 
 -- the other value of the decision that was taken back is tried next
 pub turn_next : {C : Type 0} (p : Problem) (start : EngineState) (t u : SearchState C) (b next : Branch) (held : Option Solution) → IsStep p t u b → IsOtherValue b next → IsLeaving p start t held → IsNext p start u next held
@@ -225,6 +288,18 @@ pub if_none_map : (o : Option Branch) (P Q : Type 0) → (P → Q) → IfNone o 
 if_none_map None P Q f h = f h
 if_none_map (Some b) P Q f h = h
 
+pub some_and_map : (o : Option Branch) (P Q : Branch → Type 0) → ((b : Branch) → P b → Q b) → IsSomeAnd o P → IfSome o Q
+some_and_map None P Q f h = absurd h
+some_and_map (Some b) P Q f h = f b h
+
+pub some_and_unit : (o : Option Branch) (P : Branch → Type 0) → IsSomeAnd o P → IsSomeAnd o (λ _. Unit {0})
+some_and_unit None P h = h
+some_and_unit (Some b) P h = tt
+
+pub some_and_none : (o : Option Branch) (P : Branch → Type 0) (Q : Type 0) → IsSomeAnd o P → IfNone o Q
+some_and_none None P Q h = absurd h
+some_and_none (Some b) P Q h = tt
+
 -- a search is laid out as before where the state of the remainder has the same constraints
 pub rest_laid_out : {C : Type 0} (p : Problem) (pieces : CubeList) (cube : Option (SearchState C)) (rest new : SearchState C) → IsLaidOut p pieces cube rest → IsStateOf p new → SameConstraints rest.engine new.engine → IsLaidOut p pieces cube new
 rest_laid_out p pieces cube rest new h made same = record {
@@ -240,8 +315,8 @@ pub at_next : {C : Type 0} (p q : Problem) (start : EngineState) (t u : SearchSt
 at_next p q start t u b old new same f h = at_problem p q (λ (x : Problem). IsUnderWay x start t old) (λ (x : Problem). IsNext x start u b new) same f h
 
 -- the decision that is made leaves fewer steps
-pub next_falls : (p q : Problem) (vars : ℕ) (old new path : List Branch) (b : Branch) → q ≡ p → LeavesFewer q old new b → path ≡ new ++ b ∷ [] → length path ≤ vars → vars ≡ p.vars → steps_left p.vars path < steps_left p.vars old
+pub next_falls : {C : Type 0} (p q : Problem) (vars : ℕ) (old new : SearchState C) (path : List Branch) (b : Branch) → q ≡ p → LeavesFewer q old new b → path ≡ new.branches.items ++ b ∷ [] → length path ≤ vars → vars ≡ p.vars → search_steps p.vars new.root_work.returns path < search_steps p.vars old.root_work.returns old.branches.items
 next_falls p q vars old new path b same fewer added few is =
-    let n : length path ≡ length new + 1 = ap (λ (x : List Branch). length x) added ∙ length-append new (b ∷ []) in
-    let low : length new < p.vars = omega arith in
-    subst (λ (x : List Branch). steps_left p.vars x < steps_left p.vars old) (sym added) (subst (λ (x : Problem). LeavesFewer x old new b) same fewer low)
+    let n : length path ≡ length new.branches.items + 1 = ap (λ (x : List Branch). length x) added ∙ length-append new.branches.items (b ∷ []) in
+    let low : length new.branches.items < p.vars = omega arith in
+    subst (λ (x : List Branch). search_steps p.vars new.root_work.returns x < search_steps p.vars old.root_work.returns old.branches.items) (sym added) (subst (λ (x : Problem). LeavesFewer x old new b) same fewer low)

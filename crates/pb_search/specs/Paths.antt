@@ -1,5 +1,5 @@
 -- The path from the root of the search tree to where the search stands: the decisions, the earliest first.
-use Rattle.std.specs.Prelude.{◌≡◌, ℕ, ◌+◌, ◌-◌, ◌^◌, Bool, true, false, not, List, [], ◌∷◌, map, ◌⊎◌, if◌then◌else◌}
+use Rattle.std.specs.Prelude.{◌≡◌, ℕ, ◌+◌, ◌*◌, ◌-◌, ◌^◌, Bool, true, false, not, List, [], ◌∷◌, map, ◌⊎◌, if◌then◌else◌}
 use Rattle.pb_inst.specs.Literal.{Literal}
 use Rattle.pb_inst.specs.Meaning.{literal_value}
 use Rattle.pb_search.specs.declared.branch.Branch.{Branch}
@@ -22,6 +22,10 @@ LiesOpen a (b ∷ path) = ((literal_value a b.lit ≡ 1) × LiesOpen a path) ⊎
 abbrev pub steps_left : ℕ → List Branch → ℕ
 steps_left n [] = 3 ^ n
 steps_left n (b ∷ path) = (if b.flipped then 0 else 3 ^ (n - 1)) + steps_left (n - 1) path
+
+-- the same for a search that may still step back to its root so many times
+abbrev pub search_steps : ℕ → ℕ → List Branch → ℕ
+search_steps n returns path = returns * 3 ^ n + steps_left n path
 
 -- the decision is that of the other value
 pub record IsOtherValue (first second : Branch) : Type 0 where

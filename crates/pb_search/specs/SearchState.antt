@@ -14,7 +14,7 @@ use Rattle.pb_engine.specs.Soundness.{assumptions, IsSoundTrail}
 use Rattle.pb_search.specs.declared.branch.Branch.{Branch}
 use Rattle.pb_search.specs.declared.search_state.SearchState.{SearchState}
 use Rattle.pb_search.specs.Held.{IsImprovement}
-use Rattle.pb_search.specs.Paths.{decided, LiesOpen, LeavesOpen, steps_left}
+use Rattle.pb_search.specs.Paths.{decided, LiesOpen, LeavesOpen, search_steps}
 use Rattle.pb_search.specs.Solutions.{SameConstraints, SatisfiesUnder, Completes}
 
 -- the engine has the instance's variables and costs, and who meets its rows is feasible
@@ -47,12 +47,13 @@ pub record IsFree (s : EngineState) (l : Literal) : Type 0 where
   pub no_value : value_on s.trail l.var ≡ None
   pub no_conflict : s.conflict ≡ false
 
--- the constraints, assumptions, decisions and room are the same
+-- the constraints, assumptions, decisions and room are the same, and as many steps back to the root are left
 pub record SameBranches {C : Type 0} (old new : SearchState C) : Type 0 where
   pub constraints : SameConstraints old.engine new.engine
   pub assumptions : assumptions new.engine ≡ assumptions old.engine
   pub branches : new.branches ≡ old.branches
   pub room : length new.candidate ≡ length old.candidate
+  pub returns : new.root_work.returns ≡ old.root_work.returns
 
 -- the value of a variable on the trail, with zeros elsewhere
 abbrev pub bit_on : List Literal → ℕ → Bool
@@ -121,8 +122,8 @@ pub record IsNext {C : Type 0} (p : Problem) (start : EngineState) (t : SearchSt
   pub all_open : (a : List Bool) → SatisfiesUnder start (assumptions start) a → IsImprovement p a held → LiesOpen a (t.branches.items ++ next ∷ [])
 
 -- the decision leaves fewer steps
-abbrev pub LeavesFewer : Problem → List Branch → List Branch → Branch → Type 0
-LeavesFewer p old new next = length new < p.vars → steps_left p.vars (new ++ next ∷ []) < steps_left p.vars old
+abbrev pub LeavesFewer : {C : Type 0} → Problem → SearchState C → SearchState C → Branch → Type 0
+LeavesFewer {C} p old new next = length new.branches.items < p.vars → search_steps p.vars new.root_work.returns (new.branches.items ++ next ∷ []) < search_steps p.vars old.root_work.returns old.branches.items
 
 -- no solution below the start is before what is held
 abbrev pub IsSearched : Problem → EngineState → Option Solution → Type 0

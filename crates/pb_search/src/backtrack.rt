@@ -16,7 +16,7 @@ use pb_engine::{Count, EngineAt};
 use pb_inst::Best;
 
 /// Takes back the last decision, and gives it; none where there is none.
-fn undo_decision<C: Count>(
+pub fn undo_decision<C: Count>(
     engine: &mut EngineAt<'_, C>,
     path: &mut Vec<Branch>,
     best: &Best<'_>,
@@ -51,7 +51,7 @@ pub fn backtrack<C: Count>(
     requires at_path { IsAtSomePath state.old.engine state.old.branches.items }
     requires known { KnowsHeldPrefix state.old.engine.trail best.now.held agreed.old }
     ensures next { IfSome result (λ b. (start : EngineState) → IsLeaving best.now.problem start state.old best.now.held → IsNext best.now.problem start state.new b best.now.held) }
-    ensures fewer { IfSome result (λ b. LeavesFewer best.now.problem state.old.branches.items state.new.branches.items b) }
+    ensures fewer { IfSome result (λ b. LeavesFewer best.now.problem state.old state.new b) }
     ensures finished { IfNone result ((start : EngineState) → IsLeaving best.now.problem start state.old best.now.held → IsSearched best.now.problem start best.now.held) }
     ensures made_for { IsStateOf best.now.problem state.new }
     ensures constraints { SameConstraints state.old.engine state.new.engine }

@@ -50,7 +50,7 @@ pub fn next_decision<C: Count>(
 }
 
 /// The decision for the literal, the first one of its variable.
-fn decision(lit: Lit, bound: Option<Number>, hints: Hints) -> Branch
+pub fn decision(lit: Lit, bound: Option<Number>, hints: Hints) -> Branch
     ensures literal { result.lit ≡ lit }
     ensures fresh { result.flipped ≡ false }
 {
@@ -91,7 +91,7 @@ fn ordered_decision<C: Count>(
 }
 
 /// Whether the literal's variable is one of the engine's and has no value.
-fn is_free<C: Count>(engine: &EngineAt<'_, C>, vars: u32, lit: Lit) -> bool
+pub fn is_free<C: Count>(engine: &EngineAt<'_, C>, vars: u32, lit: Lit) -> bool
     requires variables { vars ≡ engine.now.vars }
     ensures { IsTrue result → (lit.var ≤ vars) × (value_on engine.now.trail lit.var ≡ None) }
 {

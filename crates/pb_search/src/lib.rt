@@ -19,11 +19,15 @@ mod node;
 mod outcome;
 mod piece_search;
 mod piece_tables;
+mod probing;
 mod pruning;
+mod replay;
 mod root;
+mod root_work;
 mod search;
 mod search_state;
 mod share;
+mod step_back;
 mod tables;
 
 pub use outcome::Outcome;

@@ -20,6 +20,8 @@ use crate::incumbent::{borrow_on_the_way, take_leaf};
 use crate::learning::{gap_left, last_decided, learn, learn_conflict};
 use crate::outcome::Outcome;
 use crate::pruning::Pruning;
+use crate::replay::next_replayed;
+use crate::root_work::{step_back_to_root, work_at_root};
 use crate::search_state::SearchState;
 use pb_engine::{Count, Step};
 use pb_inst::Best;
@@ -27,14 +29,14 @@ use pb_inst::Best;
 /// After how many decisions the search asks its share for an assignment.
 const BORROW_INTERVAL: u32 = 256;
 
-/// Expands the node where the trail stands: propagates, compares the bound, and takes a full trail. Gives the decision to
-/// make next, or none where no completion of the trail is before what is held.
+/// Expands the node where the trail stands: propagates, compares the bound, tries literals at the root, and takes a full
+/// trail. Gives the decision to make next, or none where no completion of the trail is before what is held.
 fn expand_node<C: Count, S: Share>(
     state: &mut SearchState<'_, C>,
     best: &mut Best<'_>,
     share: &mut S,
     agreed: &mut AgreedPrefix,
-    is_counted: bool,
+    left: &mut Option<u64>,
 ) -> Option<Branch>
     requires state { IsStateOf best.old.problem state.old }
     requires sound { IsSoundTrail state.old.engine }
@@ -49,6 +51,7 @@ fn expand_node<C: Count, S: Share>(
     ensures kept { S.keeps share.old share.new }
     ensures same_lending { S.lends share.new ≡ S.lends share.old }
     ensures known { KnowsHeldPrefix state.new.engine.trail best.new.held agreed.new }
+    ensures budget { IsLeftOf left.old left.new }
 {
     if state.engine.conflict() {
         return None;
@@ -61,7 +64,7 @@ fn expand_node<C: Count, S: Share>(
     }
     // The bound is asked for after propagation alone: it counts what the trail forces, and a node that ends in a conflict
     // never pays for it.
-    let (pruning, bound, fixed) = judge_node(&mut state.engine, best, agreed, is_counted);
+    let (pruning, bound, fixed) = judge_node(&mut state.engine, best, agreed, left.is_some());
     let gap = gap_left(&state.engine, best, pruning);
     learn(&mut state.order, decided, gap);
     if pruning == Pruning::Closed {
@@ -70,6 +73,12 @@ fn expand_node<C: Count, S: Share>(
     let (vars, hints) = (state.candidate.len(), state.hints());
     if let Some(lit) = fixed {
         return Some(one_sided(lit, bound, hints));
+    }
+    if let Some(lit) = work_at_root(state, best, left) {
+        return Some(one_sided(lit, bound, hints));
+    }
+    if let Some(branch) = next_replayed(&state.engine, vars, &mut state.root_work.replay, bound) {
+        return Some(branch);
     }
     state.order.lead_by_gains(state.engine.multipliers_pay());
     let Some(branch) = next_decision(&state.engine, vars, &mut state.order, hints, pruning, bound)
@@ -81,20 +90,20 @@ fn expand_node<C: Count, S: Share>(
     Some(branch)
 }
 
-/// Expands the node where the search stands, and backtracks where nothing is left below it. Gives the decision to make
-/// next, or none where the search is finished.
+/// Expands the node where the search stands. Where nothing is left below it the search backtracks, or the first time steps
+/// back to its root. Gives the decision to make next, or none where the search is finished.
 fn next_branch<C: Count, S: Share>(
     state: &mut SearchState<'_, C>,
     best: &mut Best<'_>,
     share: &mut S,
     agreed: &mut AgreedPrefix,
-    is_counted: bool,
+    left: &mut Option<u64>,
 ) -> Option<Branch>
     requires state { IsStateOf best.old.problem state.old }
     requires at_path { IsAtSomePath state.old.engine state.old.branches.items }
     requires known { KnowsHeldPrefix state.old.engine.trail best.old.held agreed.old }
     ensures next { IfSome result (λ b. (start : EngineState) → IsUnderWay best.old.problem start state.old best.old.held → IsNext best.old.problem start state.new b best.new.held) }
-    ensures fewer { IfSome result (λ b. LeavesFewer best.old.problem state.old.branches.items state.new.branches.items b) }
+    ensures fewer { IfSome result (λ b. LeavesFewer best.old.problem state.old state.new b) }
     ensures finished { IfNone result ((start : EngineState) → IsUnderWay best.old.problem start state.old best.old.held → IsSearched best.old.problem start best.new.held) }
     ensures moves_on { MovesOn best.old best.new }
     ensures own { (start : EngineState) → IsUnderWay best.old.problem start state.old best.old.held → IsOwn start best.old best.new }
@@ -103,9 +112,16 @@ fn next_branch<C: Count, S: Share>(
     ensures made_for { IsStateOf best.old.problem state.new }
     ensures constraints { SameConstraints state.old.engine state.new.engine }
     ensures known { KnowsHeldPrefix state.new.engine.trail best.new.held agreed.new }
+    ensures budget { IsLeftOf left.old left.new }
 {
-    match expand_node(state, best, share, agreed, is_counted) {
-        Some(branch) => Some(branch),
+    if let Some(branch) = expand_node(state, best, share, agreed, left) {
+        return Some(branch);
+    }
+    state.root_work.replay.clear();
+    // At the first conflict no decision was turned to its other value yet, so nothing that was closed is opened again.
+    let is_conflict = state.engine.conflict();
+    match state.root_work.take_return(&state.branches, is_conflict) {
+        Some(count) => step_back_to_root(state, count, best, agreed, left),
         None => backtrack(state, best, agreed),
     }
 }
@@ -133,10 +149,10 @@ pub fn search_subtree<C: Count, S: Share>(
     ensures made_for { IsStateOf best.old.problem state.new }
     ensures constraints { SameConstraints state.old.engine state.new.engine }
 {
-    let is_counted = left.is_some();
+    state.root_work.begin(*left);
     let mut decisions = 0;
     let mut agreed = AgreedPrefix::of(best);
-    while let Some(branch) = next_branch(state, best, share, &mut agreed, is_counted) {
+    while let Some(branch) = next_branch(state, best, share, &mut agreed, left) {
         if *left == Some(0) {
             return Outcome::Cut;
         }

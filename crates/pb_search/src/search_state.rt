@@ -6,6 +6,7 @@ ghost use Rattle.pb_engine.specs.Tables.{AreBeside};
 ghost use Rattle.pb_search.specs.Layout.{IsMade};
 
 use crate::branch::{Branch, Hints};
+use crate::root_work::RootWork;
 use pb_engine::{Clauses, Count, EngineAt, Rows};
 use pb_inst::{Assignment, Cube, Memory};
 use pb_normal::Form;
@@ -18,6 +19,7 @@ pub struct SearchState<'a, C: Count> {
     pub branches: Vec<Branch>,
     pub candidate: Assignment,
     pub order: Order,
+    pub root_work: RootWork,
 }
 
 // By hand, so that letting go of a state is a call wherever it is done, and its parts are written out here alone.
@@ -28,6 +30,7 @@ impl<'a, C: Count> Drop for SearchState<'a, C> {
             branches: _,
             candidate: _,
             order: _,
+            root_work: _,
         } = self;
     }
 }
@@ -44,13 +47,14 @@ impl<'a, C: Count> SearchState<'a, C> {
         ensures { IfOk result (IsMade form.now negated.now) }
     {
         // The engine comes last: an early return past it would let go of it field by field, and cost a minute to prove.
-        let (branches, candidate, order) = make_room(alloc, form, negated)?;
+        let (branches, candidate, order, root_work) = make_room(alloc, form, negated)?;
         let engine = EngineAt::new(alloc, form, negated)?;
         Ok(SearchState {
             engine,
             branches,
             candidate,
             order,
+            root_work,
         })
     }
 
@@ -68,13 +72,14 @@ impl<'a, C: Count> SearchState<'a, C> {
         ensures candidate { IfOk result (λ t. length t.candidate ≡ rows.now.form.vars) }
         ensures room { IfOk result (λ t. rows.now.form.vars ≤ vec_capacity t.branches) }
     {
-        let (branches, candidate, order) = make_room(alloc, rows.form(), negated)?;
+        let (branches, candidate, order, root_work) = make_room(alloc, rows.form(), negated)?;
         let engine = EngineAt::over(alloc, rows, clauses)?;
         Ok(SearchState {
             engine,
             branches,
             candidate,
             order,
+            root_work,
         })
     }
 
@@ -87,13 +92,13 @@ impl<'a, C: Count> SearchState<'a, C> {
     }
 }
 
-/// What a state has beside its engine: room for a decision of each variable and for one assignment, and the order of
-/// decisions.
+/// What a state has beside its engine: room for a decision of each variable and for one assignment, the order of decisions,
+/// and the work at the root.
 fn make_room<C: Count>(
     alloc: Global,
     form: &Form<C>,
     negated: &[Cube],
-) -> Result<(Vec<Branch>, Assignment, Order), Memory>
+) -> Result<(Vec<Branch>, Assignment, Order, RootWork), Memory>
     ensures branches { IfOk result (λ t. form.now.vars ≤ vec_capacity t.0) }
     ensures candidate { IfOk result (λ t. length t.1 ≡ form.now.vars) }
 {
@@ -101,5 +106,6 @@ fn make_room<C: Count>(
     let branches = Vec::with_capacity(alloc, vars as usize)?;
     let candidate = Assignment::new(alloc, vars)?;
     let order = Order::new(alloc, form, negated)?;
-    Ok((branches, candidate, order))
+    let root_work = RootWork::new(alloc, form)?;
+    Ok((branches, candidate, order, root_work))
 }

@@ -71,6 +71,29 @@ fn multipliers_keep_long_rings_short(rt: HostRuntime) {
     assert!(rt; count <= 15_900, "{count} decisions");
 }
 
+/// The pairs of a ring on the variables after the first five, and clauses over these: the first one fails with either value.
+fn failing_behind_ring(rt: &impl Abort, alloc: Global) -> Instance {
+    let mut pairs = ring(rt, alloc, 600, &[1, 2, 3]);
+    for pair in &mut pairs {
+        let [one, other] = *pair;
+        *pair = [(1, one.1.wrapping_add(5)), (1, other.1.wrapping_add(5))];
+    }
+    for pair in [[-1, 2], [-1, 3], [-2, -3], [1, 4], [1, 5], [-4, -5]] {
+        let [one, other] = pair;
+        pairs.push([(1, one), (1, other)]).expect(rt, "memory");
+    }
+    cover(rt, alloc, 605, &[], &pairs)
+}
+
+/// A literal that fails at the root is not met again below each decision on the ring.
+#[test]
+fn literals_that_fail_are_fixed(rt: HostRuntime) {
+    let alloc = rt.alloc();
+    let failing = failing_behind_ring(&rt, alloc);
+    let count = decisions(&rt, alloc, &failing);
+    assert!(rt; count <= 228, "{count} decisions");
+}
+
 /// All cubes over the last nine of 49 variables.
 fn cubes_of_the_last(rt: &impl Abort, alloc: Global) -> Vec<Cube> {
     let mut last = Vec::new(alloc);

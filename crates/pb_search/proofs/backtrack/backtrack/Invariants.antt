@@ -1,4 +1,4 @@
-use Rattle.std.proofs.Common.{vec_len}
+use Rattle.std.proofs.Common.{◌≡◌, vec_len}
 use Rattle.pb_engine.specs.EngineState.{EngineState}
 use Rattle.pb_search.specs.Solutions.{SameConstraints}
 use Rattle.pb_search.specs.AgreedPrefix.{KnowsHeldPrefix}
@@ -10,6 +10,7 @@ abbrev pub invariant-loop-branch : goal.invariant-loop-branch
 invariant-loop-branch g l = record {
   made_for : IsStateOf l.best.problem l.state;
   at_path : IsAtSomePath l.state.engine l.state.branches.items;
+  returns : l.state.root_work.returns ≡ l.initial.state.root_work.returns;
   shortened : IsShortened l.initial.state.branches.items l.state.branches.items;
   constraints : SameConstraints l.initial.state.engine l.state.engine;
   leaving : (start : EngineState) → IsLeaving l.best.problem start l.initial.state l.best.held → IsLeaving l.best.problem start l.state l.best.held;

@@ -1,4 +1,4 @@
-use Rattle.std.proofs.Common.{rules, ◌≡◌, ◌∙◌, refl, sym, ap, subst, inl}
+use Rattle.std.proofs.Common.{rules, ◌≡◌, ◌∙◌, refl, sym, ap, subst, inl, List, Bool, length}
 use Rattle.pb_engine.specs.EngineState.{EngineState, is_conflict}
 use Rattle.pb_trail.specs.declared.propagation.Step.TheVariants.{Conflict}
 use Rattle.pb_engine.specs.Soundness.{IsSoundTrail}
@@ -25,6 +25,7 @@ returns-then-eq-clause-same_branches g c = record {
   assumptions = propagated c.args.state.now.engine c.propagate.new.self c.propagate.new.self.trail (is_conflict c.propagate.result) c.requires.sound c.propagate.ensures.added c.propagate.ensures.forced;
   branches = refl;
   room = refl;
+  returns = refl;
 }
 
 pub returns-then-eq-2-clause-same_branches : goal.returns-then-eq-2-clause-same_branches
@@ -33,22 +34,25 @@ returns-then-eq-2-clause-same_branches g c = record {
   assumptions = propagated c.args.state.now.engine c.judge_node-pruning.new.engine c.propagate.new.self.trail (is_conflict c.propagate.result) c.requires.sound (c.judge_node-pruning.ensures.unchanged ∙ c.propagate.ensures.added) c.propagate.ensures.forced;
   branches = refl;
   room = refl;
+  returns = refl;
 }
 
 pub returns-in_default-next_decision-clause-same_branches : goal.returns-in_default-next_decision-clause-same_branches
 returns-in_default-next_decision-clause-same_branches g c = record {
-  constraints = same_constraints c.args.state.now.engine c.judge_node-pruning.new.engine c.propagate.new.self.trail c.args.state.now.engine.levels (is_conflict c.propagate.result) (c.judge_node-pruning.ensures.unchanged ∙ c.propagate.ensures.added);
-  assumptions = propagated c.args.state.now.engine c.judge_node-pruning.new.engine c.propagate.new.self.trail (is_conflict c.propagate.result) c.requires.sound (c.judge_node-pruning.ensures.unchanged ∙ c.propagate.ensures.added) c.propagate.ensures.forced;
-  branches = refl;
-  room = c.take_leaf.ensures.same_length;
+  constraints = same_constraints c.args.state.now.engine c.work_at_root.new.state.engine c.propagate.new.self.trail c.args.state.now.engine.levels (is_conflict c.propagate.result) ((c.work_at_root.ensures.engine ∙ c.judge_node-pruning.ensures.unchanged) ∙ c.propagate.ensures.added);
+  assumptions = propagated c.args.state.now.engine c.work_at_root.new.state.engine c.propagate.new.self.trail (is_conflict c.propagate.result) c.requires.sound ((c.work_at_root.ensures.engine ∙ c.judge_node-pruning.ensures.unchanged) ∙ c.propagate.ensures.added) c.propagate.ensures.forced;
+  branches = c.work_at_root.ensures.branches;
+  room = c.take_leaf.ensures.same_length ∙ ap (λ (a : List Bool). length a) c.work_at_root.ensures.candidate;
+  returns = c.work_at_root.ensures.returns;
 }
 
 pub returns-clause-same_branches : goal.returns-clause-same_branches
 returns-clause-same_branches g c = record {
-  constraints = same_constraints c.args.state.now.engine c.judge_node-pruning.new.engine c.propagate.new.self.trail c.args.state.now.engine.levels (is_conflict c.propagate.result) (c.judge_node-pruning.ensures.unchanged ∙ c.propagate.ensures.added);
-  assumptions = propagated c.args.state.now.engine c.judge_node-pruning.new.engine c.propagate.new.self.trail (is_conflict c.propagate.result) c.requires.sound (c.judge_node-pruning.ensures.unchanged ∙ c.propagate.ensures.added) c.propagate.ensures.forced;
-  branches = refl;
-  room = refl;
+  constraints = same_constraints c.args.state.now.engine c.work_at_root.new.state.engine c.propagate.new.self.trail c.args.state.now.engine.levels (is_conflict c.propagate.result) ((c.work_at_root.ensures.engine ∙ c.judge_node-pruning.ensures.unchanged) ∙ c.propagate.ensures.added);
+  assumptions = propagated c.args.state.now.engine c.work_at_root.new.state.engine c.propagate.new.self.trail (is_conflict c.propagate.result) c.requires.sound ((c.work_at_root.ensures.engine ∙ c.judge_node-pruning.ensures.unchanged) ∙ c.propagate.ensures.added) c.propagate.ensures.forced;
+  branches = c.work_at_root.ensures.branches;
+  room = ap (λ (a : List Bool). length a) c.work_at_root.ensures.candidate;
+  returns = c.work_at_root.ensures.returns;
 }
 
 pub returns-in-Some-clause-same_branches : goal.returns-in-Some-clause-same_branches
@@ -57,6 +61,7 @@ returns-in-Some-clause-same_branches g c = record {
   assumptions = propagated c.args.state.now.engine c.judge_node-pruning.new.engine c.propagate.new.self.trail (is_conflict c.propagate.result) c.requires.sound (c.judge_node-pruning.ensures.unchanged ∙ c.propagate.ensures.added) c.propagate.ensures.forced;
   branches = refl;
   room = refl;
+  returns = refl;
 }
 
 pub returns-then-eq-clause-known : goal.returns-then-eq-clause-known
@@ -73,12 +78,12 @@ judge_node-pruning-requires-clause-engine g c =
 
 pub take_leaf-requires-clause-engine : goal.take_leaf-requires-clause-engine
 take_leaf-requires-clause-engine g c =
-    same_engine c.args.best.now.problem c.args.state.now.engine c.judge_node-pruning.new.engine
-    (same_constraints c.args.state.now.engine c.judge_node-pruning.new.engine c.propagate.new.self.trail c.args.state.now.engine.levels (is_conflict c.propagate.result) (c.judge_node-pruning.ensures.unchanged ∙ c.propagate.ensures.added))
+    same_engine c.args.best.now.problem c.args.state.now.engine c.work_at_root.new.state.engine
+    (same_constraints c.args.state.now.engine c.work_at_root.new.state.engine c.propagate.new.self.trail c.args.state.now.engine.levels (is_conflict c.propagate.result) ((c.work_at_root.ensures.engine ∙ c.judge_node-pruning.ensures.unchanged) ∙ c.propagate.ensures.added))
     c.requires.state.engine
 
 pub returns-then-conflict-clause-same_branches : goal.returns-then-conflict-clause-same_branches
-returns-then-conflict-clause-same_branches g c = record { constraints = same_constraints_itself c.args.state.now.engine; assumptions = refl; branches = refl; room = refl }
+returns-then-conflict-clause-same_branches g c = record { constraints = same_constraints_itself c.args.state.now.engine; assumptions = refl; branches = refl; room = refl; returns = refl }
 
 pub returns-then-conflict-clause-moves_on : goal.returns-then-conflict-clause-moves_on
 returns-then-conflict-clause-moves_on g c = moves_itself c.args.best.now
@@ -108,19 +113,19 @@ pub returns-then-eq-2-clause-sound : goal.returns-then-eq-2-clause-sound
 returns-then-eq-2-clause-sound g c = subst (λ (e : EngineState). IsSoundTrail e) (sym c.judge_node-pruning.ensures.unchanged) c.propagate.ensures.sound
 
 pub take_leaf-requires-clause-sound : goal.take_leaf-requires-clause-sound
-take_leaf-requires-clause-sound g c = subst (λ (e : EngineState). IsSoundTrail e) (sym c.judge_node-pruning.ensures.unchanged) c.propagate.ensures.sound
+take_leaf-requires-clause-sound g c = subst (λ (e : EngineState). IsSoundTrail e) (sym (c.work_at_root.ensures.engine ∙ c.judge_node-pruning.ensures.unchanged)) c.propagate.ensures.sound
 
 pub returns-in_default-next_decision-clause-sound : goal.returns-in_default-next_decision-clause-sound
-returns-in_default-next_decision-clause-sound g c = subst (λ (e : EngineState). IsSoundTrail e) (sym c.judge_node-pruning.ensures.unchanged) c.propagate.ensures.sound
+returns-in_default-next_decision-clause-sound g c = subst (λ (e : EngineState). IsSoundTrail e) (sym (c.work_at_root.ensures.engine ∙ c.judge_node-pruning.ensures.unchanged)) c.propagate.ensures.sound
 
 pub returns-clause-sound : goal.returns-clause-sound
-returns-clause-sound g c = subst (λ (e : EngineState). IsSoundTrail e) (sym c.judge_node-pruning.ensures.unchanged) c.propagate.ensures.sound
+returns-clause-sound g c = subst (λ (e : EngineState). IsSoundTrail e) (sym (c.work_at_root.ensures.engine ∙ c.judge_node-pruning.ensures.unchanged)) c.propagate.ensures.sound
 
 pub returns-then-eq-2-clause-known : goal.returns-then-eq-2-clause-known
 returns-then-eq-2-clause-known g c = subst (λ (e : EngineState). KnowsHeldPrefix e.trail c.args.best.now.held c.judge_node-pruning.new.agreed) (sym c.judge_node-pruning.ensures.unchanged) c.judge_node-pruning.ensures.known
 
 pub returns-clause-known : goal.returns-clause-known
-returns-clause-known g c = subst (λ (e : EngineState). KnowsHeldPrefix e.trail c.args.best.now.held c.judge_node-pruning.new.agreed) (sym c.judge_node-pruning.ensures.unchanged) c.judge_node-pruning.ensures.known
+returns-clause-known g c = subst (λ (e : EngineState). KnowsHeldPrefix e.trail c.args.best.now.held c.judge_node-pruning.new.agreed) (sym (c.work_at_root.ensures.engine ∙ c.judge_node-pruning.ensures.unchanged)) c.judge_node-pruning.ensures.known
 
 pub returns-in_default-next_decision-clause-closed : goal.returns-in_default-next_decision-clause-closed
 returns-in_default-next_decision-clause-closed g c = c.take_leaf.ensures.closed
@@ -130,3 +135,31 @@ returns-in_default-next_decision-clause-moves_on g c = c.take_leaf.ensures.moves
 
 pub returns-in_default-next_decision-clause-own : goal.returns-in_default-next_decision-clause-own
 returns-in_default-next_decision-clause-own g c = c.take_leaf.ensures.own
+
+pub work_at_root-requires-clause-engine : goal.work_at_root-requires-clause-engine
+work_at_root-requires-clause-engine g c =
+    same_engine c.args.best.now.problem c.args.state.now.engine c.judge_node-pruning.new.engine
+    (same_constraints c.args.state.now.engine c.judge_node-pruning.new.engine c.propagate.new.self.trail c.args.state.now.engine.levels (is_conflict c.propagate.result) (c.judge_node-pruning.ensures.unchanged ∙ c.propagate.ensures.added))
+    c.requires.state.engine
+
+pub returns-in-Some-work_at_root-clause-same_branches : goal.returns-in-Some-work_at_root-clause-same_branches
+returns-in-Some-work_at_root-clause-same_branches g c =
+    let here = c.work_at_root.ensures.engine ∙ c.judge_node-pruning.ensures.unchanged in
+    record {
+      constraints = same_constraints c.args.state.now.engine c.work_at_root.new.state.engine c.propagate.new.self.trail c.args.state.now.engine.levels (is_conflict c.propagate.result) (here ∙ c.propagate.ensures.added);
+      assumptions = propagated c.args.state.now.engine c.work_at_root.new.state.engine c.propagate.new.self.trail (is_conflict c.propagate.result) c.requires.sound (here ∙ c.propagate.ensures.added) c.propagate.ensures.forced;
+      branches = c.work_at_root.ensures.branches;
+      room = ap (λ (a : List Bool). length a) c.work_at_root.ensures.candidate;
+      returns = c.work_at_root.ensures.returns;
+    }
+
+pub returns-in-Some-next_replayed-clause-same_branches : goal.returns-in-Some-next_replayed-clause-same_branches
+returns-in-Some-next_replayed-clause-same_branches g c =
+    let here = c.work_at_root.ensures.engine ∙ c.judge_node-pruning.ensures.unchanged in
+    record {
+      constraints = same_constraints c.args.state.now.engine c.work_at_root.new.state.engine c.propagate.new.self.trail c.args.state.now.engine.levels (is_conflict c.propagate.result) (here ∙ c.propagate.ensures.added);
+      assumptions = propagated c.args.state.now.engine c.work_at_root.new.state.engine c.propagate.new.self.trail (is_conflict c.propagate.result) c.requires.sound (here ∙ c.propagate.ensures.added) c.propagate.ensures.forced;
+      branches = c.work_at_root.ensures.branches;
+      room = ap (λ (a : List Bool). length a) c.work_at_root.ensures.candidate;
+      returns = c.work_at_root.ensures.returns;
+    }

@@ -5,7 +5,7 @@ use Rattle.pb_search.specs.Held.{IsNotAfter}
 use Rattle.pb_search.specs.declared.search_state.SearchState.{SearchState}
 use Rattle.pb_search.specs.SearchState.{IsUnderWay, IsNext, IsOwn, IsSearched, IsStateOf}
 use Rattle.pb_search.proofs.AgreedPrefixLemmas.{knows_longer}
-use Rattle.pb_search.proofs.BudgetLemmas.{left_itself, left_onward}
+use Rattle.pb_search.proofs.BudgetLemmas.{left_itself, left_onward, left_after}
 use Rattle.pb_search.proofs.Engines.{same_constraints_onward}
 use Rattle.pb_search.proofs.HeldLemmas.{moves_onward, moves_itself, not_after_itself}
 use Rattle.pb_search.proofs.SearchLemmas.{begins, goes_on, at_problem, at_next, next_falls, own_onward, state_moves}
@@ -17,7 +17,7 @@ loop-branch-preserved-then-decisions-eq0 g c =
     let start = c.args.state.now.engine in
     let same : c.loop-branch.best.problem ≡ c.args.best.now.problem = c.loop-branch.invariant.moves_on.same_instance in
     let now : c.next_branch.new.best.problem ≡ c.args.best.now.problem = c.next_branch.ensures.moves_on.same_instance ∙ same in
-    let u : SearchState _ = record { engine = c.decide.new.engine; branches = c.decide.new.path; candidate = c.borrow_on_the_way.new.scratch; order = c.next_branch.new.state.order } in
+    let u : SearchState _ = record { engine = c.decide.new.engine; branches = c.decide.new.path; candidate = c.borrow_on_the_way.new.scratch; order = c.next_branch.new.state.order; root_work = c.next_branch.new.state.root_work } in
     let next : IsNext c.args.best.now.problem start c.next_branch.new.state c.in-Some.branch c.next_branch.new.best.held =
     at_problem c.args.best.now.problem c.loop-branch.best.problem (λ p. IsUnderWay p start c.loop-branch.state c.loop-branch.best.held) (λ p. IsNext p start c.next_branch.new.state c.in-Some.branch c.next_branch.new.best.held) same (c.in-Some.ensures.next start) c.loop-branch.invariant.under_way in
     let found : IsOwn start c.loop-branch.best c.next_branch.new.best =
@@ -32,7 +32,7 @@ loop-branch-preserved-then-decisions-eq0 g c =
       kept = g.met.S.Share.keeps_onward _ _ _ c.loop-branch.invariant.kept (g.met.S.Share.keeps_onward _ _ _ c.next_branch.ensures.kept c.borrow_on_the_way.ensures.kept);
       same_lending = c.borrow_on_the_way.ensures.same_lending ∙ c.next_branch.ensures.same_lending ∙ c.loop-branch.invariant.same_lending;
       counted = omega arith;
-      budget = left_onward c.args.left.now c.loop-branch.left c.decide.new.left c.loop-branch.invariant.budget c.decide.ensures.counted;
+      budget = left_onward c.args.left.now c.next_branch.new.left c.decide.new.left (left_after c.args.left.now c.loop-branch.left c.next_branch.new.left c.loop-branch.invariant.budget c.next_branch.ensures.budget) c.decide.ensures.counted;
       known = c.borrow_on_the_way.ensures.known c.decide.new.engine.trail (knows_longer c.next_branch.new.state.engine.trail c.decide.new.engine.trail (c.in-Some.branch.lit ∷ []) c.next_branch.new.best.held c.next_branch.new.agreed c.decide.ensures.longer c.next_branch.ensures.known);
     }
 
@@ -40,7 +40,7 @@ pub loop-branch-preserved : goal.loop-branch-preserved
 loop-branch-preserved g c =
     let start = c.args.state.now.engine in
     let same : c.loop-branch.best.problem ≡ c.args.best.now.problem = c.loop-branch.invariant.moves_on.same_instance in
-    let u : SearchState _ = record { engine = c.decide.new.engine; branches = c.decide.new.path; candidate = c.next_branch.new.state.candidate; order = c.next_branch.new.state.order } in
+    let u : SearchState _ = record { engine = c.decide.new.engine; branches = c.decide.new.path; candidate = c.next_branch.new.state.candidate; order = c.next_branch.new.state.order; root_work = c.next_branch.new.state.root_work } in
     let next : IsNext c.args.best.now.problem start c.next_branch.new.state c.in-Some.branch c.next_branch.new.best.held =
     at_problem c.args.best.now.problem c.loop-branch.best.problem (λ p. IsUnderWay p start c.loop-branch.state c.loop-branch.best.held) (λ p. IsNext p start c.next_branch.new.state c.in-Some.branch c.next_branch.new.best.held) same (c.in-Some.ensures.next start) c.loop-branch.invariant.under_way in
     let found : IsOwn start c.loop-branch.best c.next_branch.new.best =
@@ -53,7 +53,7 @@ loop-branch-preserved g c =
       kept = g.met.S.Share.keeps_onward _ _ _ c.loop-branch.invariant.kept c.next_branch.ensures.kept;
       same_lending = c.next_branch.ensures.same_lending ∙ c.loop-branch.invariant.same_lending;
       counted = omega arith;
-      budget = left_onward c.args.left.now c.loop-branch.left c.decide.new.left c.loop-branch.invariant.budget c.decide.ensures.counted;
+      budget = left_onward c.args.left.now c.next_branch.new.left c.decide.new.left (left_after c.args.left.now c.loop-branch.left c.next_branch.new.left c.loop-branch.invariant.budget c.next_branch.ensures.budget) c.decide.ensures.counted;
       known = knows_longer c.next_branch.new.state.engine.trail c.decide.new.engine.trail (c.in-Some.branch.lit ∷ []) c.next_branch.new.best.held c.next_branch.new.agreed c.decide.ensures.longer c.next_branch.ensures.known;
     }
 
@@ -61,16 +61,19 @@ pub returns-clause-moves_on : goal.returns-clause-moves_on
 returns-clause-moves_on g c = moves_onward c.args.best.now c.loop-branch.best c.next_branch.new.best c.loop-branch.invariant.moves_on c.next_branch.ensures.moves_on
 
 pub loop-branch-init : goal.loop-branch-init
-loop-branch-init g c = record {
-  under_way = begins c.args.best.now.problem c.args.state.now c.args.best.now.held c.requires.state c.requires.sound c.requires.no_decisions;
-  moves_on = moves_itself c.args.best.now;
-  own = λ none. inl refl;
-  kept = g.met.S.Share.keeps_itself _;
-  same_lending = refl;
-  counted = omega arith;
-  budget = left_itself c.args.left.now;
-  known = c.of-agreed.ensures c.args.state.now.engine.trail;
-}
+loop-branch-init g c =
+    let t : SearchState _ = record { engine = c.args.state.now.engine; branches = c.args.state.now.branches; candidate = c.args.state.now.candidate; order = c.args.state.now.order; root_work = c.begin.new.self } in
+    let made : IsStateOf c.args.best.now.problem t = record { engine = c.requires.state.engine; few_variables = c.requires.state.few_variables; candidate = c.requires.state.candidate; room = c.requires.state.room } in
+    record {
+      under_way = begins c.args.best.now.problem t c.args.best.now.held made c.requires.sound c.requires.no_decisions;
+      moves_on = moves_itself c.args.best.now;
+      own = λ none. inl refl;
+      kept = g.met.S.Share.keeps_itself _;
+      same_lending = refl;
+      counted = omega arith;
+      budget = left_itself c.args.left.now;
+      known = c.of-agreed.ensures c.args.state.now.engine.trail;
+    }
 
 pub next_branch-requires-clause-state : goal.next_branch-requires-clause-state
 next_branch-requires-clause-state g c = subst (λ (p : Problem). IsStateOf p c.loop-branch.state) (sym c.loop-branch.invariant.moves_on.same_instance) c.loop-branch.invariant.under_way.made_for
@@ -96,12 +99,12 @@ decide-requires-clause-room g c =
 pub loop-branch-smaller-then-decisions-eq0 : goal.loop-branch-smaller-then-decisions-eq0
 loop-branch-smaller-then-decisions-eq0 g c =
     let next = at_next c.args.best.now.problem c.loop-branch.best.problem c.args.state.now.engine c.loop-branch.state c.next_branch.new.state c.in-Some.branch c.loop-branch.best.held c.next_branch.new.best.held c.loop-branch.invariant.moves_on.same_instance (c.in-Some.ensures.next c.args.state.now.engine) c.loop-branch.invariant.under_way in
-    next_falls c.args.best.now.problem c.loop-branch.best.problem c.next_branch.new.state.engine.vars c.loop-branch.state.branches.items c.next_branch.new.state.branches.items c.decide.new.path.items c.in-Some.branch c.loop-branch.invariant.moves_on.same_instance c.in-Some.ensures.fewer c.decide.ensures.added c.decide.ensures.few next.made_for.engine.vars
+    next_falls c.args.best.now.problem c.loop-branch.best.problem c.next_branch.new.state.engine.vars c.loop-branch.state c.next_branch.new.state c.decide.new.path.items c.in-Some.branch c.loop-branch.invariant.moves_on.same_instance c.in-Some.ensures.fewer c.decide.ensures.added c.decide.ensures.few next.made_for.engine.vars
 
 pub loop-branch-smaller : goal.loop-branch-smaller
 loop-branch-smaller g c =
     let next = at_next c.args.best.now.problem c.loop-branch.best.problem c.args.state.now.engine c.loop-branch.state c.next_branch.new.state c.in-Some.branch c.loop-branch.best.held c.next_branch.new.best.held c.loop-branch.invariant.moves_on.same_instance (c.in-Some.ensures.next c.args.state.now.engine) c.loop-branch.invariant.under_way in
-    next_falls c.args.best.now.problem c.loop-branch.best.problem c.next_branch.new.state.engine.vars c.loop-branch.state.branches.items c.next_branch.new.state.branches.items c.decide.new.path.items c.in-Some.branch c.loop-branch.invariant.moves_on.same_instance c.in-Some.ensures.fewer c.decide.ensures.added c.decide.ensures.few next.made_for.engine.vars
+    next_falls c.args.best.now.problem c.loop-branch.best.problem c.next_branch.new.state.engine.vars c.loop-branch.state c.next_branch.new.state c.decide.new.path.items c.in-Some.branch c.loop-branch.invariant.moves_on.same_instance c.in-Some.ensures.fewer c.decide.ensures.added c.decide.ensures.few next.made_for.engine.vars
 
 pub returns-clause-searched : goal.returns-clause-searched
 returns-clause-searched g c _ =

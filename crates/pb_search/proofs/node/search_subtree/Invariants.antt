@@ -2,7 +2,7 @@ use Rattle.std.proofs.Common.{◌≡◌, ◌<◌, false}
 use Rattle.pb_search.specs.Held.{MovesOn}
 use Rattle.pb_search.specs.AgreedPrefix.{KnowsHeldPrefix}
 use Rattle.pb_search.specs.SearchState.{IsUnderWay, IsOwn}
-use Rattle.pb_search.specs.Paths.{steps_left}
+use Rattle.pb_search.specs.Paths.{search_steps}
 use Rattle.pb_search.specs.Budget.{IsLeftOf}
 use Rattle.pb_search.proofs.node.search_subtree.Given as goal
 
@@ -19,4 +19,4 @@ invariant-loop-branch g l = record {
 }
 
 abbrev pub decreases-loop-branch : goal.decreases-loop-branch
-decreases-loop-branch g l = steps_left l.fn.best.problem.vars l.state.branches.items
+decreases-loop-branch g l = search_steps l.fn.best.problem.vars l.state.root_work.returns l.state.branches.items

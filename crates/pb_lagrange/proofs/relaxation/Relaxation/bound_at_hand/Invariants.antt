@@ -1,0 +1,12 @@
+use Rattle.std.proofs.Common.{◌≡◌, ◌-◌, length}
+use Rattle.pb_lagrange.specs.Relaxation.{IsBeside}
+use Rattle.pb_lagrange.proofs.relaxation.Relaxation.bound_at_hand.Given as goal
+
+abbrev pub invariant-loop-self : goal.invariant-loop-self
+invariant-loop-self g l = record {
+  beside : IsBeside l.slacks.form l.slacks.trail l.self;
+  form : l.self.form ≡ l.initial.self.form;
+}
+
+abbrev pub decreases-loop-self : goal.decreases-loop-self
+decreases-loop-self g l = length l.slacks.trail - length l.self.trail

@@ -1,0 +1,142 @@
+//! Literals that are tried at the root: where one leads to a conflict, or to a bound over the best cost, its negation has one
+//! side alone.
+
+ghost use Rattle.std.specs.Prelude.{◌≡◌, ◌++◌, ◌∷◌, [], false, Bool, List, IsTrue, IfSome, length};
+ghost use Rattle.pb_inst.specs.Meaning.{literal_value};
+ghost use Rattle.pb_engine.specs.Propagation.{AddsForced};
+ghost use Rattle.pb_engine.specs.Soundness.{assumptions, IsSoundTrail};
+ghost use Rattle.pb_search.specs.Held.{IsImprovement};
+ghost use Rattle.pb_search.specs.Solutions.{Completes};
+ghost use Rattle.pb_search.specs.Budget.{IsLeftOf};
+ghost use Rattle.pb_search.specs.SearchState.{IsClosed, IsEngineOf, IsFree, IsOpenOnOneSide};
+
+use crate::branch::count_down;
+use crate::decisions::is_free;
+use pb_engine::{Count, EngineAt, Step};
+use pb_inst::{Best, Lit};
+
+/// How many literals trials may put on the trail for each variable, at first.
+const CREDIT_OF_A_VARIABLE: u64 = 16;
+
+/// How many more they may put there for each literal that failed.
+const CREDIT_OF_A_FAILURE: u64 = 4_096;
+
+/// Which literal is tried next, and how many more may be.
+#[derive(Clone, Copy)]
+pub struct Probing {
+    /// The place of the next literal, of two for each variable.
+    place: u32,
+    /// How many literals were passed since the round began, or one failed.
+    pub passed: u32,
+    /// How many literals trials may still put on the trail.
+    credit: u64,
+    /// How many trials the budget of the piece still has room for.
+    pub trials: u64,
+}
+
+impl Probing {
+    /// From the first literal on.
+    pub fn new(vars: u32) -> Probing {
+        Probing {
+            place: 0,
+            passed: 0,
+            credit: (vars as u64).saturating_mul(CREDIT_OF_A_VARIABLE),
+            trials: 0,
+        }
+    }
+
+    /// The literal to try next, of so many variables.
+    fn next_literal(&mut self, vars: u32) -> Option<Lit> {
+        let place = self.place;
+        let next = place.saturating_add(1);
+        self.place = if next < vars.saturating_mul(2) {
+            next
+        } else {
+            0
+        };
+        self.passed = self.passed.saturating_add(1);
+        Lit::new(place / 2 + 1, place % 2 == 0).ok()
+    }
+}
+
+/// A literal without a value whose negation has nothing to give, since it failed when it was tried; or none, where none of a
+/// round fails or no more may be tried. Each trial is a decision.
+pub fn find_failed<C: Count>(
+    engine: &mut EngineAt<'_, C>,
+    probing: &mut Probing,
+    best: &Best<'_>,
+    left: &mut Option<u64>,
+) -> Option<Lit>
+    requires engine { IsEngineOf best.now.problem engine.old }
+    requires sound { IsSoundTrail engine.old }
+    requires no_conflict { engine.old.conflict ≡ false }
+    ensures failed { IfSome result (IsOpenOnOneSide best.now.problem engine.old best.now.held) }
+    ensures unchanged { engine.new ≡ engine.old }
+    ensures budget { IsLeftOf left.old left.new }
+{
+    let vars = engine.vars();
+    for _ in probing.passed..vars.saturating_mul(2) {
+        if probing.credit == 0 || probing.trials == 0 || *left == Some(0) {
+            return None;
+        }
+        if let Some(lit) = probing.next_literal(vars)
+            && is_free(engine, vars, lit)
+        {
+            count_down(left);
+            if fails(engine, lit, probing, best) {
+                probing.passed = 0;
+                probing.credit = probing.credit.saturating_add(CREDIT_OF_A_FAILURE);
+                return Some(lit.negate());
+            }
+        }
+    }
+    None
+}
+
+/// Assumes the literal, and takes it back. Answers whether no completion of the trail with it comes before the best
+/// assignment, by what propagation and the multipliers say.
+fn fails<C: Count>(
+    engine: &mut EngineAt<'_, C>,
+    lit: Lit,
+    probing: &mut Probing,
+    best: &Best<'_>,
+) -> bool
+    requires engine { IsEngineOf best.now.problem engine.old }
+    requires sound { IsSoundTrail engine.old }
+    requires free { IsFree engine.old lit }
+    ensures fails { IsTrue result → (a : List Bool) → Completes engine.old a → IsImprovement best.now.problem a best.now.held → literal_value a lit ≡ 0 }
+    ensures unchanged { engine.new ≡ engine.old }
+{
+    let (level, length) = (engine.level(), engine.trail_len());
+    let fails = is_closed_with(engine, lit, best);
+    let pushed = engine.trail_len().saturating_sub(length);
+    probing.trials = probing.trials.saturating_sub(1);
+    probing.credit = probing.credit.saturating_sub(pushed as u64);
+    engine.undo_to(level);
+    fails
+}
+
+/// Assumes the literal, and adds what follows. Answers whether no completion of the trail comes before the best assignment.
+fn is_closed_with<C: Count>(engine: &mut EngineAt<'_, C>, lit: Lit, best: &Best<'_>) -> bool
+    requires engine { IsEngineOf best.now.problem engine.old }
+    requires sound { IsSoundTrail engine.old }
+    requires free { IsFree engine.old lit }
+    ensures closed { IsTrue result → IsClosed best.now.problem engine.new best.now.held }
+    ensures grown { engine.new ≡ record engine.old { trail = engine.new.trail; levels = engine.old.levels ++ length engine.old.trail ∷ []; conflict = engine.new.conflict } }
+    ensures forced { AddsForced engine.old.rows (engine.old.trail ++ lit ∷ []) engine.new.trail }
+    ensures assumptions { assumptions engine.new ≡ assumptions engine.old ++ lit ∷ [] }
+    ensures sound { IsSoundTrail engine.new }
+{
+    engine.assume(lit);
+    if engine.propagate() == Step::Conflict {
+        return true;
+    }
+    let Some(cost) = best.cost() else {
+        return false;
+    };
+    let Some(bound) = engine.bound_at_hand() else {
+        return false;
+    };
+    // At equal cost a completion may still come first by the order of assignments.
+    bound > cost
+}

@@ -1,0 +1,179 @@
+//! What is done at the root of a search: where no decision on the trail has another value to try.
+
+ghost use Rattle.std.specs.Prelude.{◌≡◌, ◌+◌, ◌<◌, ◌≤◌, false, length, IfNone, IfSome, IsSomeAnd};
+ghost use Rattle.pb_engine.specs.EngineState.{EngineState};
+ghost use Rattle.pb_engine.specs.Soundness.{IsSoundTrail};
+ghost use Rattle.pb_search.specs.AgreedPrefix.{KnowsHeldPrefix};
+ghost use Rattle.pb_search.specs.Budget.{IsLeftOf};
+ghost use Rattle.pb_search.specs.Solutions.{SameConstraints};
+ghost use Rattle.pb_search.specs.SearchState.{IsStateOf, IsAtSomePath, IsEngineOf, IsNext, IsOpenOnOneSide, IsUnderWay};
+
+use crate::agreed_prefix::AgreedPrefix;
+use crate::branch::Branch;
+use crate::decisions::decision;
+use crate::fixing::one_sided;
+use crate::probing::{Probing, find_failed};
+use crate::replay::{Replayed, note};
+use crate::search_state::SearchState;
+use crate::step_back::step_back;
+use pb_engine::Count;
+use pb_inst::{Best, Lit, Memory, Number};
+use pb_normal::Form;
+use std::alloc::Global;
+
+/// How many variables there are at least where work at the root may pay.
+const LEAST_VARIABLES: u32 = 512;
+
+/// One in so many of the decisions of a budget may be a trial at the root.
+const TRIALS_OF_A_BUDGET: u64 = 4;
+
+/// What the work at the root goes on from.
+#[derive(Drop)]
+pub struct RootWork {
+    /// How often the search of the piece may still step back to its root.
+    pub returns: u32,
+    /// How many decisions, from the first on, are known to have no other value to try.
+    prefix: usize,
+    /// Whether there are so many variables that work may pay.
+    is_large: bool,
+    /// Whether nothing is minimised.
+    is_decision: bool,
+    /// Whether the search of the piece was about to turn to another value: what has none is searched without any work.
+    is_open: bool,
+    /// The trail's length and the best cost where no literal failed in the last round.
+    done: Option<(usize, Option<Number>)>,
+    probing: Probing,
+    /// The decisions below the root that are made again, the next one last.
+    pub replay: Vec<Replayed>,
+}
+
+impl RootWork {
+    /// Nothing was done. Where the search may step back there is room for a decision of each variable to be made again.
+    pub fn new<C: Count>(alloc: Global, form: &Form<C>) -> Result<RootWork, Memory> {
+        let vars = form.vars();
+        let is_large = vars >= LEAST_VARIABLES;
+        let is_decision = form.objective().is_empty();
+        let room = if is_large && is_decision { vars } else { 0 };
+        let replay = Vec::with_capacity(alloc, room as usize)?;
+        Ok(RootWork {
+            returns: 0,
+            prefix: 0,
+            is_large,
+            is_decision,
+            is_open: false,
+            done: None,
+            probing: Probing::new(vars),
+            replay,
+        })
+    }
+
+    /// The search of a piece begins, with so many decisions left of its budget.
+    pub fn begin(&mut self, left: Option<u64>) {
+        self.returns = 1;
+        self.prefix = 0;
+        self.is_open = false;
+        self.done = None;
+        self.probing.passed = 0;
+        self.probing.trials = match left {
+            Some(count) => count / TRIALS_OF_A_BUDGET,
+            None => u64::MAX,
+        };
+        self.replay.clear();
+    }
+
+    /// The search is about to turn to another value, after a conflict or not. Answers how many decisions are to be left, where
+    /// it is to step back to its root before.
+    pub fn take_return(&mut self, path: &[Branch], is_conflict: bool) -> Option<usize>
+        ensures used { IfSome result (λ _. self.old.returns ≡ self.new.returns + 1) }
+        ensures some { IfSome result (λ count. count < length path.now) }
+        ensures kept { IfNone result (self.new.returns ≤ self.old.returns) }
+    {
+        if self.returns == 0 {
+            return None;
+        }
+        self.returns -= 1;
+        self.is_open = self.is_large;
+        let prefix = self.prefix_of(path);
+        if !(self.is_large && self.is_decision && is_conflict) || prefix == path.len() {
+            return None;
+        }
+        Some(prefix)
+    }
+
+    /// How many decisions of the path, from the first on, have no other value to try.
+    fn prefix_of(&mut self, path: &[Branch]) -> usize
+        ensures within { result ≤ length path.now }
+        ensures returns { self.new.returns ≡ self.old.returns }
+    {
+        self.prefix = self.prefix.min(path.len());
+        for place in self.prefix..path.len() {
+            if !path[place].flipped {
+                return place;
+            }
+            self.prefix = place + 1;
+        }
+        path.len()
+    }
+}
+
+/// Works at the root, where the search stands there. Gives a literal whose negation has nothing to give, or none where none
+/// was found. Its trials are decisions.
+pub fn work_at_root<C: Count>(
+    state: &mut SearchState<'_, C>,
+    best: &Best<'_>,
+    left: &mut Option<u64>,
+) -> Option<Lit>
+    requires engine { IsEngineOf best.now.problem state.old.engine }
+    requires sound { IsSoundTrail state.old.engine }
+    requires no_conflict { state.old.engine.conflict ≡ false }
+    ensures found { IfSome result (IsOpenOnOneSide best.now.problem state.old.engine best.now.held) }
+    ensures engine { state.new.engine ≡ state.old.engine }
+    ensures branches { state.new.branches ≡ state.old.branches }
+    ensures candidate { state.new.candidate ≡ state.old.candidate }
+    ensures returns { state.new.root_work.returns ≡ state.old.root_work.returns }
+    ensures budget { IsLeftOf left.old left.new }
+{
+    let work = &mut state.root_work;
+    if !work.is_open || work.prefix_of(&state.branches) < state.branches.len() {
+        return None;
+    }
+    // A round is due again where the trail or the best cost is another one.
+    let round = Some((state.engine.trail_len(), best.cost()));
+    if work.done == round {
+        return None;
+    }
+    let found = find_failed(&mut state.engine, &mut work.probing, best, left);
+    if found.is_none() {
+        work.done = round;
+        work.probing.passed = 0;
+    }
+    found
+}
+
+/// Steps back to the root and works there. Gives the decision to make next: the first one of those that were taken back, where
+/// the work gives none.
+pub fn step_back_to_root<C: Count>(
+    state: &mut SearchState<'_, C>,
+    count: usize,
+    best: &Best<'_>,
+    agreed: &mut AgreedPrefix,
+    left: &mut Option<u64>,
+) -> Option<Branch>
+    requires some { count < length state.old.branches.items }
+    requires state { IsStateOf best.now.problem state.old }
+    requires at_path { IsAtSomePath state.old.engine state.old.branches.items }
+    requires known { KnowsHeldPrefix state.old.engine.trail best.now.held agreed.old }
+    ensures next { IsSomeAnd result (λ b. (start : EngineState) → IsUnderWay best.now.problem start state.old best.now.held → IsNext best.now.problem start state.new b best.now.held) }
+    ensures made_for { IsStateOf best.now.problem state.new }
+    ensures constraints { SameConstraints state.old.engine state.new.engine }
+    ensures returns { state.new.root_work.returns ≡ state.old.root_work.returns }
+    ensures known { KnowsHeldPrefix state.new.engine.trail best.now.held agreed.new }
+    ensures budget { IsLeftOf left.old left.new }
+{
+    let first = step_back(state, count, best, agreed)?;
+    let Some(lit) = work_at_root(state, best, left) else {
+        return Some(decision(first.lit, first.bound, first.hints));
+    };
+    note(&mut state.root_work.replay, &first);
+    Some(one_sided(lit, None, state.hints()))
+}
