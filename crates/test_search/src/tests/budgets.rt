@@ -166,6 +166,62 @@ fn fixed_literals_wait_for_the_bound(rt: HostRuntime) {
     }
 }
 
+/// What is held costs 1. The two rows force x2 to be false together, which the multipliers see for a half of its cost, and
+/// the bound of disjoint rows for none of it. The 5 that its negation costs fix x1. Below it the bound of the multipliers,
+/// as it stands beside the next literal that they fix, is the best cost, and the trail with zeros elsewhere is what is held.
+#[test]
+fn fixed_literals_wait_for_the_multipliers(rt: HostRuntime) {
+    let alloc = rt.alloc();
+    let costs: &[(Number, i32)] = &[(5, -1), (1, -2), (5, 4), (5, 5)];
+    let rows: &[Row<'_>] = &[
+        (&[(1, -2), (1, 3)], Relation::AtLeast, 1),
+        (&[(1, -2), (1, -3)], Relation::AtLeast, 1),
+    ];
+    let half_seen = instance(&rt, alloc, 5, costs, rows);
+    let moves: &[(u64, &str)] = &[(0, "Cut 0, 1: x1"), (1, "Whole 1, 1: x1")];
+    for (budget, want) in moves {
+        let got = run_after(&rt, alloc, &half_seen, &[], &[1], *budget);
+        assert!(rt; got.as_str() == *want, "{got}");
+    }
+}
+
+/// Five things find no place among four. Nothing is ever held, and the multipliers tell of trails that the rows promise more
+/// than all costs together: with them it takes 38 decisions, and 98 without.
+#[test]
+fn promises_over_all_costs_close_subtrees(rt: HostRuntime) {
+    let alloc = rt.alloc();
+    let rows: &[Row<'_>] = &[
+        (&[(1, 1), (1, 2), (1, 3), (1, 4)], Relation::AtLeast, 1),
+        (&[(1, 5), (1, 6), (1, 7), (1, 8)], Relation::AtLeast, 1),
+        (&[(1, 9), (1, 10), (1, 11), (1, 12)], Relation::AtLeast, 1),
+        (&[(1, 13), (1, 14), (1, 15), (1, 16)], Relation::AtLeast, 1),
+        (&[(1, 17), (1, 18), (1, 19), (1, 20)], Relation::AtLeast, 1),
+        (
+            &[(1, 1), (1, 5), (1, 9), (1, 13), (1, 17)],
+            Relation::AtMost,
+            1,
+        ),
+        (
+            &[(1, 2), (1, 6), (1, 10), (1, 14), (1, 18)],
+            Relation::AtMost,
+            1,
+        ),
+        (
+            &[(1, 3), (1, 7), (1, 11), (1, 15), (1, 19)],
+            Relation::AtMost,
+            1,
+        ),
+        (
+            &[(1, 4), (1, 8), (1, 12), (1, 16), (1, 20)],
+            Relation::AtMost,
+            1,
+        ),
+    ];
+    let crowded = instance(&rt, alloc, 20, &[(1, 1)], rows);
+    let got = runs_of(&rt, alloc, &crowded, &[], 0, &[Some(57)]);
+    assert!(rt; got.as_str() == "Whole 38, none", "{got}");
+}
+
 /// Without a decision: nothing to decide, nothing feasible, and a cut.
 #[test]
 fn no_decisions(rt: HostRuntime) {
