@@ -1,3 +1,7 @@
+pub mod Dividing
 pub mod Ends
+pub mod Joining
 pub mod Options
+pub mod Solving
+pub mod Told
 pub mod Values

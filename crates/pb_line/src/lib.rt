@@ -1,11 +1,18 @@
-//! The command lines of the programs: the options and the operand that they have in common, and the words.
+//! The command lines of the programs: of each its one command and what the words ask for, and what they have in common.
 #![tactic(auto)]
 
+pub mod dividing;
+mod faults;
 mod formats;
+pub mod joining;
+mod lines;
+mod matched;
 mod options;
+pub mod solving;
 mod version;
 mod words;
 
+pub use faults::{Told, tell_fault};
 pub use formats::format_of;
 pub use options::{cubes_option, file_operand, format_option, named, split_option};
 pub use version::VERSION;

@@ -6,7 +6,7 @@ use Rattle.pb_line.specs.Ends.{EndsOn}
 use Rattle.pb_report.specs.Written.{memory_report}
 use Rattle.pb_report.specs.Statuses.{exit_status}
 use Rattle.pb_report.specs.declared.statuses.Status.{Status}
-use Rattle.pbcube.specs.CommandLine.{HasNoLine, pbcube}
+use Rattle.pb_line.specs.Solving.{HasNoLine, pbcube}
 
 -- for want of memory it reports so and ends with 0, or with 1 if the report cannot be written
 abbrev pub EndsWithoutMemory : Option (List ℕ) → Option (List ℕ) → ℕ → Type 0

@@ -1,8 +1,8 @@
 -- Which files the program fetches, and in which order.
 use Rattle.std.specs.Prelude.{◌≡◌, ◌⊎◌, Bool, true, false, List, None, Some}
 use Rattle.clap.specs.Words.{Text, matches_of}
-use Rattle.pbcube.specs.declared.asked.Line.{Line}
-use Rattle.pbcube.specs.CommandLine.{IsLineOf, pbcube}
+use Rattle.pb_line.specs.declared.solving.asked.Line.{Line}
+use Rattle.pb_line.specs.Solving.{IsLineOf, pbcube}
 
 -- the cube file is fetched, where the line names one
 abbrev pub FetchesCubes : {F : Type 0} → (F → Text → Bool → F → Type 0) → Line → F → F → Type 0

@@ -3,14 +3,10 @@
 
 ghost use Rattle.std.specs.Prelude.{◌≡◌};
 
-mod asked;
-mod command;
 mod faults;
 mod files;
-mod help;
 mod hinting;
 mod running;
-mod words;
 
 use crate::files::Files;
 use crate::running::{out_of_memory, program};

@@ -6,13 +6,12 @@ ghost use Rattle.pb_line.specs.Ends.{EndsBy};
 ghost use Rattle.pb_report.specs.Statuses.{IsExitStatus, exit_status};
 ghost use Rattle.pbcube.specs.Ending.{Ends, EndsWithoutMemory};
 
-use crate::asked::Line;
 use crate::faults::ProgramFault;
 use crate::files::Files;
 use crate::hinting::tell_hint;
-use crate::words::line;
 use clap::Error;
-use clap::error::ErrorKind;
+use pb_line::solving::{Line, line};
+use pb_line::{Told, tell_fault};
 use pb_solve::{Device, Format, Options, Ran, RunFault, Status, report_memory, run};
 use std::alloc::Global;
 use std::io::{Empty, Read, Seek, Write};
@@ -37,7 +36,7 @@ pub fn program<'a, R: Threads + Sync, F: Files, W: Write, E: Write>(
         Ok(line) => line,
         Err(fault) => return end_at_line(&fault, out, err),
     };
-    let (name, format) = (line.file, line.options.format);
+    let (name, format) = (line.file, line.format);
     match run_on_files(rt, alloc, line, files, out) {
         Ok((ran, mut input)) => end_of_run(alloc, name, format, ran, &mut input, err),
         Err(fault) => end_at_fault(fault, err),
@@ -69,8 +68,17 @@ fn run_on_files<'a, R: Threads + Sync, F: Files, W: Write>(
     let Line {
         file,
         cubes,
-        options,
+        format,
+        workers,
+        split,
+        nodes,
     } = line;
+    let options = Options {
+        format,
+        workers,
+        split,
+        nodes,
+    };
     let Some(mut input) = files.fetch(file) else {
         return Err(ProgramFault::CannotRead(file));
     };
@@ -156,16 +164,10 @@ fn end_at_line<W: Write, E: Write>(fault: &Error, out: &mut Device<W>, err: &mut
     requires { out.old.failed ≡ false }
     ensures { EndsBy (EndsWithoutMemory (W.contents out.old.held) (W.contents out.new.held)) (kind_of fault.now) result }
 {
-    if fault.kind() == ErrorKind::OutOfMemory {
-        return out_of_memory(out, err);
-    }
-    if fault.use_stderr() {
-        let _ = write!(err, "{fault}");
-        return 2;
-    }
-    match write!(out, "{fault}") {
-        Ok(()) => 0,
-        Err(_) => end_at_fault(ProgramFault::CannotWrite, err),
+    match tell_fault(fault, out, err) {
+        Told::Written(status) => status,
+        Told::Unwritten => end_at_fault(ProgramFault::CannotWrite, err),
+        Told::NoMemory => out_of_memory(out, err),
     }
 }
 

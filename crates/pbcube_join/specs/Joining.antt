@@ -10,8 +10,8 @@ use Rattle.pb_join.specs.Joining.{AreFit, AreStates, TellsFirst}
 use Rattle.pb_join.specs.Pieces.{AreOfPieces}
 use Rattle.clap.specs.Words.{Text, matches_of}
 use Rattle.pb_report.specs.Statuses.{exit_status}
-use Rattle.pbcube_join.specs.declared.asked.Line.{Line}
-use Rattle.pbcube_join.specs.CommandLine.{IsLineOf, pbcube_join}
+use Rattle.pb_line.specs.declared.joining.asked.Line.{Line}
+use Rattle.pb_line.specs.Joining.{IsLineOf, pbcube_join}
 use Rattle.pbcube_join.specs.Reading.{ReadsFor}
 
 -- What was written tells the first assignment of these reports, which are fit reports of the instance's pieces, and of each

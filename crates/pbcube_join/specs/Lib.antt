@@ -1,4 +1,3 @@
-pub mod CommandLine
 pub mod Ending
 pub mod Joining
 pub mod Reading

@@ -11,7 +11,7 @@ use Rattle.pb_read.specs.Format.{Spells}
 use Rattle.pb_read.specs.declared.format.Format.{Format}
 use Rattle.pb_report.specs.Report.{Claims}
 use Rattle.pb_join.specs.declared.reports.PieceReport.{PieceReport}
-use Rattle.pbcube_join.specs.declared.asked.Line.{Line}
+use Rattle.pb_line.specs.declared.joining.asked.Line.{Line}
 
 -- the digits that end the text
 abbrev pub last_digits : Text → Text

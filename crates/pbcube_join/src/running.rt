@@ -6,22 +6,21 @@ ghost use Rattle.pb_join.specs.declared.faults.Rejection.{Rejection as Why};
 ghost use Rattle.pb_line.specs.Ends.{EndsBy};
 ghost use Rattle.pbcube_join.specs.Ending.{Ends};
 ghost use Rattle.pb_join.specs.declared.reports.PieceReport.{PieceReport};
-ghost use Rattle.pbcube_join.specs.CommandLine.{pbcube_join};
+ghost use Rattle.pb_line.specs.Joining.{pbcube_join};
 ghost use Rattle.pbcube_join.specs.Joining.{JoinsAsAsked, JoinsFiles, Tells, TellsOf};
 ghost use Rattle.pbcube_join.specs.Reading.{ReadsReports};
 ghost use Rattle.pbcube_join.specs.Texts.{texts};
 ghost use Rattle.pb_report.specs.Statuses.{IsExitStatus};
 
-use crate::asked::Line;
 use crate::faults::{ProgramFault, Refusal};
 use crate::files::Files;
 use crate::names::report_names;
 use crate::reading::{read_instance, read_reports};
-use crate::words::line;
 use clap::Error;
-use clap::error::ErrorKind;
 use pb_inst::Instance;
 use pb_join::{JoinFault, Joined, PieceState, join};
+use pb_line::joining::{Line, line};
+use pb_line::{Told, tell_fault};
 use pb_read::Format;
 use pb_solve::Device;
 use std::alloc::Global;
@@ -144,16 +143,10 @@ fn end_at_line<W: Write, E: Write>(fault: &Error, out: &mut Device<W>, err: &mut
     requires { out.old.failed ≡ false }
     ensures { EndsBy (λ status. status ≡ 1) (kind_of fault.now) result }
 {
-    if fault.kind() == ErrorKind::OutOfMemory {
-        return out_of_memory(err);
-    }
-    if fault.use_stderr() {
-        let _ = write!(err, "{fault}");
-        return 2;
-    }
-    match write!(out, "{fault}") {
-        Ok(()) => 0,
-        Err(_) => end_at_fault(&ProgramFault::CannotWrite, err),
+    match tell_fault(fault, out, err) {
+        Told::Written(status) => status,
+        Told::Unwritten => end_at_fault(&ProgramFault::CannotWrite, err),
+        Told::NoMemory => out_of_memory(err),
     }
 }
 

@@ -7,7 +7,7 @@ use Rattle.pb_inst.specs.Problem.{Problem}
 use Rattle.pb_cubes.specs.Split.{IsSplit}
 use Rattle.pb_read.specs.Cubes.{CubeText}
 use Rattle.pb_read.specs.Format.{Spells}
-use Rattle.pbcube_pieces.specs.declared.asked.Line.{Line}
+use Rattle.pb_line.specs.declared.dividing.asked.Line.{Line}
 
 -- the cubes are those of the file of this name, and none where there is no name
 abbrev pub ReadsCubes : {F : Type 0} → (F → Text → List ℕ → F → Type 0) → Option Text → ℕ → List (List Literal) → F → F → Type 0

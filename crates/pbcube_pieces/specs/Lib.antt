@@ -1,4 +1,3 @@
-pub mod CommandLine
 pub mod Dividing
 pub mod Ending
 pub mod Names

@@ -9,10 +9,10 @@ use Rattle.pb_read.specs.Format.{Spells}
 use Rattle.pb_read.specs.declared.format.Format.{Format}
 use Rattle.pb_write.specs.Pieces.{piece_problem}
 use Rattle.pb_write.specs.Written.{written_format}
-use Rattle.pbcube_pieces.specs.CommandLine.{IsLineOf, pbcube_pieces}
+use Rattle.pb_line.specs.Dividing.{IsLineOf, pbcube_pieces}
 use Rattle.pbcube_pieces.specs.Dividing.{ReadsDivided}
 use Rattle.pbcube_pieces.specs.Names.{path, piece_name}
-use Rattle.pbcube_pieces.specs.declared.asked.Line.{Line}
+use Rattle.pb_line.specs.declared.dividing.asked.Line.{Line}
 
 -- the pieces below this number are written one after the other, each to the file of its number, which has its text
 abbrev pub WritesPieces : {F : Type 0} → (F → Text → List ℕ → F → Type 0) → Line → Problem → List (List Literal) → ℕ → F → F → Type 0

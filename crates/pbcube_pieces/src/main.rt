@@ -3,17 +3,13 @@
 
 ghost use Rattle.std.specs.Prelude.{◌≡◌};
 
-mod asked;
-mod command;
 mod faults;
 mod folders;
-mod help;
 mod index;
 mod names;
 mod pieces;
 mod prepared;
 mod running;
-mod words;
 
 use crate::folders::Folders;
 use crate::running::{out_of_memory, program};

@@ -5,12 +5,12 @@ ghost use Rattle.pb_write.specs.Pieces.{piece_problem};
 ghost use Rattle.pb_write.specs.Written.{written_format};
 ghost use Rattle.pbcube_pieces.specs.Writing.{MakesRoom, WritesDivided, WritesPieces, index_text};
 
-use crate::asked::Line;
 use crate::faults::Fault;
 use crate::folders::Folders;
 use crate::index::{Index, write_index};
 use crate::names::{INDEX, path, piece_name};
 use crate::prepared::Prepared;
+use pb_line::dividing::Line;
 use pb_write::{WriteFault, write_piece};
 use std::alloc::Global;
 use std::io::{self, ErrorKind};

@@ -2,11 +2,11 @@
 ghost use Rattle.std.specs.Prelude.{◌≡◌, option_map, IfOk};
 ghost use Rattle.pbcube_pieces.specs.Dividing.{AreOfSplit, ReadsCubes, ReadsDivided};
 
-use crate::asked::Line;
 use crate::faults::Fault;
 use crate::folders::Folders;
 use pb_cubes::{CubeFault, Pieces, split};
 use pb_inst::{Cube, Instance};
+use pb_line::dividing::Line;
 use pb_read::{ReadFault, ReadKind, read, read_cubes};
 use sha2::{Digest, Sha256};
 use std::alloc::Global;

@@ -2,18 +2,17 @@
 ghost use Rattle.std.specs.Prelude.{◌≡◌, ◌≤◌, [], map, OnOk};
 ghost use Rattle.clap.specs.Words.{fault_of, kind_of};
 ghost use Rattle.pb_line.specs.Ends.{EndsBy};
-ghost use Rattle.pbcube_pieces.specs.CommandLine.{pbcube_pieces};
+ghost use Rattle.pb_line.specs.Dividing.{pbcube_pieces};
 ghost use Rattle.pbcube_pieces.specs.Ending.{Ends};
 ghost use Rattle.pbcube_pieces.specs.Writing.{Divides, DividesAsAsked};
 
-use crate::asked::Line;
 use crate::faults::Fault;
 use crate::folders::Folders;
 use crate::pieces::write_pieces;
 use crate::prepared::prepare;
-use crate::words::line;
 use clap::Error;
-use clap::error::ErrorKind;
+use pb_line::dividing::{Line, line};
+use pb_line::{Told, tell_fault};
 use std::alloc::Global;
 use std::io::Write;
 
@@ -61,19 +60,13 @@ fn write_all<'a, F: Folders>(
 fn end_at_line<W: Write, E: Write>(fault: &Error, out: &mut W, err: &mut E) -> u8
     ensures { EndsBy (λ status. status ≡ 1) (kind_of fault.now) result }
 {
-    if fault.kind() == ErrorKind::OutOfMemory {
-        return out_of_memory(err);
-    }
-    if fault.use_stderr() {
-        let _ = write!(err, "{fault}");
-        return 2;
-    }
-    match write!(out, "{fault}") {
-        Ok(()) => 0,
-        Err(_) => {
+    match tell_fault(fault, out, err) {
+        Told::Written(status) => status,
+        Told::Unwritten => {
             let _ = writeln!(err, "pbcube_pieces: cannot write");
             1
         }
+        Told::NoMemory => out_of_memory(err),
     }
 }
 

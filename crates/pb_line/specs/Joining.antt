@@ -1,0 +1,38 @@
+-- The one command of `pbcube_join`, and what a line takes from its matches.
+use Rattle.std.specs.Prelude.{◌≡◌, ◌≤◌, List, [], Some, codes, map, refl, true, unwrap_or, IsSomeAnd}
+use Rattle.clap.proofs.OnLiterals.{clap_on_literals}
+use Rattle.clap.specs.Lexer.{usize_max}
+use Rattle.clap.specs.Words.{App, Row, Rule, all_of, first_of, is_simple_and_free, new_rule, one_of, with_rule}
+use Rattle.clap.specs.declared.builder.ValueParser.TheVariants as parser
+use Rattle.clap.specs.declared.builder.action.ArgAction.TheVariants.{Append}
+use Rattle.pb_line.specs.Options.{file, format, format_name, with_version}
+use Rattle.pb_line.specs.Values.{Spells}
+use Rattle.pb_line.specs.declared.joining.asked.Line.{Line}
+use Rattle.pb_line.specs.declared.joining.asked.TheConstants.{MAX_PIECES}
+
+-- `--pieces`, a number from 1 to `MAX_PIECES`, which has to be there
+abbrev pub pieces : Rule
+pieces = record (new_rule (codes "pieces")) { long = Some (codes "pieces"); required = true; value_names = 1; parser = Some (parser.Unsigned 1 MAX_PIECES) }
+
+-- the reports, any number of them
+abbrev pub reports : Rule
+reports = record (new_rule (codes "reports")) { value_names = 1; action = Some Append; range = Some (record { start_inclusive = 0; end_inclusive = usize_max }) }
+
+-- `pbcube_join [--format FORMAT] --pieces N FILE [REPORT]...`
+unfoldable pub pbcube_join : App
+pbcube_join = with_rule (with_rule (with_rule (with_rule (with_version (codes "pbcube_join")) format) pieces) file) reports
+
+pub pbcube_join_is_simple : is_simple_and_free pbcube_join ≡ true
+unfolding pbcube_join clap_on_literals
+pbcube_join_is_simple = refl
+
+-- the line has the values of the matches
+pub record IsLineOf (matches : List Row) (line : Line) : Type 0 where
+  pub file : first_of (codes "file") matches ≡ Some line.file.now
+  pub format : first_of (codes "format") matches ≡ Some (format_name line.format)
+  pub pieces : IsSomeAnd (one_of (codes "pieces") matches) (λ text. Spells 32 text line.pieces)
+  pub reports : map (λ name. name.now) line.reports.items ≡ unwrap_or (all_of (codes "reports") matches) []
+
+-- no line, of one piece at least, has the values of the matches
+abbrev pub HasNoLine : List Row → Type 0
+HasNoLine matches = (line : Line) → 1 ≤ line.pieces → IsLineOf matches line → ⊥

@@ -1,0 +1,9 @@
+//! The command line of `pbcube_pieces`.
+
+mod asked;
+mod command;
+mod help;
+mod words;
+
+pub use asked::Line;
+pub use words::line;

@@ -1,0 +1,43 @@
+//! The one command.
+ghost use Rattle.std.specs.Prelude.{◌≡◌, false, IfOk};
+ghost use Rattle.clap.specs.Words.{app_of, rule_of};
+ghost use Rattle.pb_line.specs.Dividing.{pbcube_pieces, out};
+
+use crate::dividing::help::{
+    ABOUT, CUBES_HELP, EXAMPLES_AND_STATUSES, FILE_HELP, FORMAT_HELP, LONG_ABOUT, SPLIT_HELP,
+};
+use crate::options::{cubes_option, file_operand, format_option, named, split_option};
+use clap::{Arg, Command};
+use std::alloc::{AllocError, Global};
+
+/// `pbcube_pieces [--format FORMAT] [--split K] [--cubes FILE] --out DIR FILE`
+pub fn command<'a>(alloc: Global) -> Result<Command<'a>, AllocError>
+    ensures { IfOk result (λ command. app_of command ≡ pbcube_pieces) }
+{
+    let whole = named(
+        alloc,
+        "pbcube_pieces",
+        ABOUT,
+        LONG_ABOUT,
+        EXAMPLES_AND_STATUSES,
+    );
+    let command = whole
+        .arg(format_option(alloc, FORMAT_HELP))?
+        .arg(split_option(alloc, SPLIT_HELP))?
+        .arg(cubes_option(alloc, CUBES_HELP))?
+        .arg(out_option(alloc))?
+        .arg(file_operand(alloc, FILE_HELP))?;
+    Ok(command)
+}
+
+// `--out DIR`
+fn out_option<'a>(alloc: Global) -> Arg<'a>
+    ensures rule { rule_of result ≡ out }
+    ensures local { result.global ≡ false }
+{
+    Arg::new(alloc, "out")
+        .long("out")
+        .required(true)
+        .value_name("DIR")
+        .help("The folder for the pieces and their index; it is made where it is not there")
+}

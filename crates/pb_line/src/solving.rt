@@ -1,0 +1,9 @@
+//! The command line of `pbcube`.
+
+mod asked;
+mod command;
+mod help;
+mod words;
+
+pub use asked::{Line, MAX_NODES};
+pub use words::line;
