@@ -1,9 +1,9 @@
 //! The program over any files and any outputs.
-ghost use Rattle.std.specs.Prelude.{◌≡◌, ◌≢◌, ◌≤◌, ◌<◌, ◌⊎◌, ℕ, List, [], length, false, map, IfOk, IfErr};
+ghost use Rattle.std.specs.Prelude.{◌≡◌, ◌≢◌, ◌≤◌, ◌<◌, ◌⊎◌, ℕ, List, [], length, false, true, map, IfOk, IfErr};
 ghost use Rattle.clap.specs.Words.{fault_of, kind_of};
 ghost use Rattle.pb_inst.specs.Problem.{Problem};
 ghost use Rattle.pb_join.specs.declared.faults.Rejection.{Rejection as Why};
-ghost use Rattle.pb_line.specs.Ends.{EndsBy};
+ghost use Rattle.pb_line.specs.Ends.{EndsBy, IsShown};
 ghost use Rattle.pbcube_join.specs.Ending.{Ends};
 ghost use Rattle.pb_join.specs.declared.reports.PieceReport.{PieceReport};
 ghost use Rattle.pb_line.specs.Joining.{pbcube_join};
@@ -26,7 +26,8 @@ use pb_solve::Device;
 use std::alloc::Global;
 use std::io::{self, Write};
 
-/// Runs the program on its words, its own name first, and answers its exit status.
+/// Runs the program on its words, its own name first, and answers its exit status. Where the words are refused nothing is
+/// written; nor is it after another fault, unless the output has failed.
 pub fn program<'a, F: Files, W: Write, E: Write>(
     alloc: Global,
     words: &'a [&'a str],
@@ -38,6 +39,8 @@ pub fn program<'a, F: Files, W: Write, E: Write>(
     ensures status { IsExitStatus result }
     ensures ended { Ends (map (λ word. word.now) words.now) result }
     ensures joined { fault_of pbcube_join (map (λ word. word.now) words.now) ≡ [] → (result ≡ 1) ⊎ ((result ≡ 2) ⊎ JoinsAsAsked F.reads F.lists (map (λ word. word.now) words.now) files.old files.new (W.contents out.old.held) (W.contents out.new.held) result) }
+    ensures refused { result ≡ 2 → out.new ≡ out.old }
+    ensures unwritten { fault_of pbcube_join (map (λ word. word.now) words.now) ≡ [] → result ≡ 1 → (out.new ≡ out.old) ⊎ (out.new.failed ≡ true) }
 {
     let line = match line(alloc, words) {
         Ok(line) => line,
@@ -72,6 +75,7 @@ fn join_line<'a, F: Files, W: Write>(
     ensures tells { IfOk result (λ joined. (p : Problem) × Tells line.entry.format p line.entry.pieces (W.contents out.old.held) (W.contents out.new.held) joined) }
     ensures joins { IfOk result (JoinsFiles F.reads F.lists line.entry files.old files.new (W.contents out.old.held) (W.contents out.new.held)) }
     ensures unwritten { IfErr result (λ fault. fault ≢ ProgramFault.CannotWrite → out.new ≡ out.old) }
+    ensures kept { IfErr result (λ fault. (out.new ≡ out.old) ⊎ (out.new.failed ≡ true)) }
 {
     let instance = read_instance(alloc, line.format, line.file, files)?;
     let names = report_names(alloc, &line.reports, files)?;
@@ -101,6 +105,7 @@ fn join_files<'a, F: Files, W: Write>(
     ensures tells { IfOk result (Tells format instance.now pieces (W.contents out.old.held) (W.contents out.new.held)) }
     ensures joins { IfOk result (λ joined. (reports : List PieceReport) × ReadsReports F.reads format instance.now.vars (texts names) reports files.old files.new × TellsOf format instance.now pieces reports (W.contents out.old.held) (W.contents out.new.held) joined) }
     ensures unwritten { IfErr result (λ fault. fault ≢ ProgramFault.CannotWrite → out.new ≡ out.old) }
+    ensures kept { IfErr result (λ fault. (out.new ≡ out.old) ⊎ (out.new.failed ≡ true)) }
 {
     let read = read_reports(alloc, format, instance.vars(), names, files)?;
     match join(alloc, format, instance, pieces, &read.reports, out) {
@@ -141,7 +146,9 @@ fn name_piece<E: Write>(number: usize, state: PieceState, err: &mut E) -> io::Re
 /// The end where the words ask for no run: help, the version, a refusal, or no memory.
 fn end_at_line<W: Write, E: Write>(fault: &Error, out: &mut Device<W>, err: &mut E) -> u8
     requires { out.old.failed ≡ false }
-    ensures { EndsBy (λ status. status ≡ 1) (kind_of fault.now) result }
+    ensures ended { EndsBy (λ status. status ≡ 1) (kind_of fault.now) result }
+    ensures refused { result ≡ 2 → out.new ≡ out.old }
+    ensures kept { (IsShown (kind_of fault.now) → ⊥) → out.new ≡ out.old }
 {
     match tell_fault(fault, out, err) {
         Told::Written(status) => status,
