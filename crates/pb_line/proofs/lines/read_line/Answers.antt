@@ -1,4 +1,4 @@
-use Rattle.std.proofs.Common.{ap, inr, refl, subst, sym, map, ◌≡◌, ◌∙◌}
+use Rattle.std.proofs.Common.{ap, inr, refl, subst, sym, map, ◌∙◌}
 use Rattle.std.proofs.lemmas.Bool.{and_parts}
 use Rattle.std.specs.Prelude.{IfSome, IsNone}
 use Rattle.clap.specs.Words.{HasKind, fault_of, found_of, is_simple_and_free, matches_of, rows_of}
