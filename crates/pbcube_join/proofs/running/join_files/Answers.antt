@@ -1,4 +1,4 @@
-use Rattle.std.proofs.Common.{◌≡◌, ◌⊎◌, inl, inr, refl}
+use Rattle.std.proofs.Common.{◌≡◌, ◌⊎◌, Err, ap, inl, inr, refl}
 use Rattle.std.specs.Prelude.{◌≢◌}
 use Rattle.pb_join.specs.declared.faults.JoinFault.{JoinFault}
 use Rattle.pb_join.specs.declared.faults.JoinFault.TheVariants.{Memory, Report, Write}
@@ -14,4 +14,4 @@ after Memory others own = inl (others (λ is. cc))
 after (Report place why) others own = inl (others (λ is. cc))
 
 pub returns-clause-kept : goal.returns-clause-kept
-returns-clause-kept g c = after c.in-Err.fault c.in-Err.ensures.unwritten c.in-Err.ensures.write.1
+returns-clause-kept g c = after c.in-Err.fault c.in-Err.ensures.unwritten (λ is. c.in-Err.ensures.write.1 (ap Err is))

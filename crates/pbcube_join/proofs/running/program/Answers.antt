@@ -1,8 +1,9 @@
-use Rattle.std.proofs.Common.{◌≡◌, ◌∙◌, ◌≤◌, ◌⊎◌, List, [], absurd, arith, inl, inr, refl, subst, sym}
+use Rattle.std.proofs.Common.{◌≡◌, ◌∙◌, ◌≤◌, ◌⊎◌, ℕ, Bor, List, [], arith, inl, inr, map, refl, subst, sym}
 use Rattle.clap.specs.Words.{App, IsAmong, Row, Text, fault_of}
 use Rattle.clap.specs.declared.error.kind.ErrorKind.{ErrorKind}
 use Rattle.clap.specs.declared.error.kind.ErrorKind.TheVariants.{DisplayHelp, DisplayVersion, InvalidValue, OutOfMemory}
 use Rattle.pb_line.specs.Ends.{IsShown, MayFailBy}
+use Rattle.pb_line.specs.Joining.{HasNoLine, pbcube_join}
 use Rattle.pb_report.specs.Statuses.{exit_status}
 use Rattle.pb_report.specs.declared.statuses.Status.{Status}
 use Rattle.pb_report.specs.declared.statuses.Status.TheVariants.{Optimum, Satisfiable, Unknown, Unsatisfiable, Unsupported}
@@ -33,7 +34,7 @@ of_report Unsupported = inl refl
 of_report Unknown = inl refl
 
 pub returns-in-Err-clause-unwritten : goal.returns-in-Err-clause-unwritten
-returns-in-Err-clause-unwritten g c = λ accepted one. inl (c.end_at_line.ensures.kept (not_shown _ _ _ _ c.in-Err.ensures.refused accepted))
+returns-in-Err-clause-unwritten g c = λ accepted one. inl (c.end_at_line.ensures.kept (not_shown pbcube_join HasNoLine (map (λ (word : Bor (List ℕ)). word.now) c.args.words.now) _ c.in-Err.ensures.refused accepted))
 
 pub returns-in-Ok-join_line-clause-joined : goal.returns-in-Ok-join_line-clause-joined
 returns-in-Ok-join_line-clause-joined g c = λ accepted. inr (inr (record {
