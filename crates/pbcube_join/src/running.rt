@@ -27,7 +27,7 @@ use std::alloc::Global;
 use std::io::{self, Write};
 
 /// Runs the program on its words, its own name first, and answers its exit status. Where the words are refused nothing is
-/// written; nor is it after another fault, unless the output has failed.
+/// written; nor, where clap has no fault in them, is it after any other fault, unless the output has failed.
 pub fn program<'a, F: Files, W: Write, E: Write>(
     alloc: Global,
     words: &'a [&'a str],
