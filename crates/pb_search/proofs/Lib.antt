@@ -8,3 +8,4 @@ pub mod SearchLemmas
 pub mod RootLemmas
 pub mod LayoutLemmas
 pub mod BudgetLemmas
+pub mod DiveLemmas

@@ -154,3 +154,12 @@ rest_done p d i s new e f vars rows is sound none =
 pub rest_own : (d : Division) (i : ℕ) (s : EngineState) (old new : Incumbent) → AreRestRows d s → i ≡ length d.cubes → (new ≡ old) ⊎ IsSomeAnd new.held (λ r. SatisfiesUnder s [] r.assignment) → (new ≡ old) ⊎ IsSomeAnd new.held (λ r. LiesIn d.cubes i r.assignment)
 rest_own d i s old new rows is (inl same) = inl same
 rest_own d i s old new rows is (inr found) = inr (rest_inside d i s new.held rows is found)
+
+-- what solutions under a cube are
+cube_inside : (d : Division) (i : ℕ) (s : EngineState) (cube : List Literal) (o : Option Solution) → slice_get d.cubes i ≡ Some cube → IsSomeAnd o (λ r. SatisfiesUnder s cube r.assignment) → IsSomeAnd o (λ r. LiesIn d.cubes i r.assignment)
+cube_inside d i s cube None is h = h
+cube_inside d i s cube (Some r) is h = inl (subst (λ (o : Option (List Literal)). IsSomeAnd o (λ c. MakesTrue r.assignment c)) (sym is) h.makes_true)
+
+pub cube_own : (d : Division) (i : ℕ) (s : EngineState) (cube : List Literal) (old new : Incumbent) → slice_get d.cubes i ≡ Some cube → (new ≡ old) ⊎ IsSomeAnd new.held (λ r. SatisfiesUnder s cube r.assignment) → (new ≡ old) ⊎ IsSomeAnd new.held (λ r. LiesIn d.cubes i r.assignment)
+cube_own d i s cube old new is (inl same) = inl same
+cube_own d i s cube old new is (inr found) = inr (cube_inside d i s cube new.held is found)

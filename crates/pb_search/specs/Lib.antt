@@ -6,3 +6,4 @@ pub mod Paths
 pub mod SearchState
 pub mod Layout
 pub mod AgreedPrefix
+pub mod Dives

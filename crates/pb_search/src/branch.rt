@@ -76,7 +76,7 @@ fn settle<C: Count>(engine: &mut EngineAt<'_, C>, is_settled: bool)
 }
 
 /// Takes one decision off what is left, where there is a budget.
-fn count_down(left: &mut Option<u64>)
+pub fn count_down(left: &mut Option<u64>)
     requires { left.old ≢ Some 0 }
     ensures { left.old ≡ one_more left.new }
 {

@@ -91,7 +91,7 @@ fn ordered_decision<C: Count>(
 }
 
 /// Whether the literal's variable is one of the engine's and has no value.
-fn is_free<C: Count>(engine: &EngineAt<'_, C>, vars: u32, lit: Lit) -> bool
+pub fn is_free<C: Count>(engine: &EngineAt<'_, C>, vars: u32, lit: Lit) -> bool
     requires variables { vars ≡ engine.now.vars }
     ensures { IsTrue result → (lit.var ≤ vars) × (value_on engine.now.trail lit.var ≡ None) }
 {
@@ -102,7 +102,7 @@ fn is_free<C: Count>(engine: &EngineAt<'_, C>, vars: u32, lit: Lit) -> bool
 }
 
 /// The negated lowest variable without a value among the first `count`, or none where each of them has one.
-fn lowest_free<C: Count>(engine: &EngineAt<'_, C>, count: u32) -> Option<Lit>
+pub fn lowest_free<C: Count>(engine: &EngineAt<'_, C>, count: u32) -> Option<Lit>
     requires variables { count ≤ engine.now.vars }
     requires few { count ≤ MAX_VARS }
     ensures free { IfSome result (λ l. (l.var ≤ count) × (value_on engine.now.trail l.var ≡ None)) }

@@ -6,18 +6,24 @@ ghost use Rattle.pb_engine.specs.Tables.{AreBeside};
 ghost use Rattle.pb_search.specs.Layout.{IsMade};
 
 use crate::branch::{Branch, Hints};
+use crate::dive_path::DivePath;
+use crate::proposer::Proposer;
 use pb_engine::{Clauses, Count, EngineAt, Rows};
 use pb_inst::{Assignment, Cube, Memory};
 use pb_normal::Form;
 use pb_order::Order;
+use pb_rows::TablesSource;
 use std::alloc::Global;
 
-/// An engine, the decisions on its trail, room for one assignment, and the order in which variables are decided.
+/// An engine, the decisions on its trail, room for one assignment, the order in which variables are decided, and the path of
+/// a dive.
 pub struct SearchState<'a, C: Count> {
     pub engine: EngineAt<'a, C>,
     pub branches: Vec<Branch>,
     pub candidate: Assignment,
     pub order: Order,
+    pub dive: DivePath,
+    pub proposer: Proposer<'a, C>,
 }
 
 // By hand, so that letting go of a state is a call wherever it is done, and its parts are written out here alone.
@@ -28,6 +34,8 @@ impl<'a, C: Count> Drop for SearchState<'a, C> {
             branches: _,
             candidate: _,
             order: _,
+            dive: _,
+            proposer: _,
         } = self;
     }
 }
@@ -44,13 +52,16 @@ impl<'a, C: Count> SearchState<'a, C> {
         ensures { IfOk result (IsMade form.now negated.now) }
     {
         // The engine comes last: an early return past it would let go of it field by field, and cost a minute to prove.
-        let (branches, candidate, order) = make_room(alloc, form, negated)?;
+        let (branches, candidate, order, dive) = make_room(alloc, form, negated)?;
+        let proposer = Proposer::new(alloc, TablesSource::new(alloc, form, negated)?)?;
         let engine = EngineAt::new(alloc, form, negated)?;
         Ok(SearchState {
             engine,
             branches,
             candidate,
             order,
+            dive,
+            proposer,
         })
     }
 
@@ -68,13 +79,16 @@ impl<'a, C: Count> SearchState<'a, C> {
         ensures candidate { IfOk result (λ t. length t.candidate ≡ rows.now.form.vars) }
         ensures room { IfOk result (λ t. rows.now.form.vars ≤ vec_capacity t.branches) }
     {
-        let (branches, candidate, order) = make_room(alloc, rows.form(), negated)?;
+        let (branches, candidate, order, dive) = make_room(alloc, rows.form(), negated)?;
+        let proposer = Proposer::new(alloc, TablesSource::lent(rows, clauses))?;
         let engine = EngineAt::over(alloc, rows, clauses)?;
         Ok(SearchState {
             engine,
             branches,
             candidate,
             order,
+            dive,
+            proposer,
         })
     }
 
@@ -93,7 +107,7 @@ fn make_room<C: Count>(
     alloc: Global,
     form: &Form<C>,
     negated: &[Cube],
-) -> Result<(Vec<Branch>, Assignment, Order), Memory>
+) -> Result<(Vec<Branch>, Assignment, Order, DivePath), Memory>
     ensures branches { IfOk result (λ t. form.now.vars ≤ vec_capacity t.0) }
     ensures candidate { IfOk result (λ t. length t.1 ≡ form.now.vars) }
 {
@@ -101,5 +115,6 @@ fn make_room<C: Count>(
     let branches = Vec::with_capacity(alloc, vars as usize)?;
     let candidate = Assignment::new(alloc, vars)?;
     let order = Order::new(alloc, form, negated)?;
-    Ok((branches, candidate, order))
+    let dive = DivePath::new(alloc, vars)?;
+    Ok((branches, candidate, order, dive))
 }

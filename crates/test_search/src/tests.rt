@@ -1,5 +1,5 @@
 //! Searches of worked instances, searches whose share hands over any bits, small instances beside the listing of all
-//! assignments, both widths beside each other, and the order of decisions alone.
+//! assignments, both widths beside each other, and the order of decisions and walks alone.
 
 mod budgets;
 mod efforts;
@@ -10,5 +10,6 @@ mod order;
 mod pieces;
 mod shares;
 mod unconstrained;
+mod walks;
 mod widths;
 mod worked;

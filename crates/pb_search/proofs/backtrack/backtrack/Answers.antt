@@ -15,7 +15,7 @@ use Rattle.pb_search.proofs.backtrack.backtrack.Goals as goal
 
 pub returns-then-not-is_spent-clause-next : goal.returns-then-not-is_spent-clause-next
 returns-then-not-is_spent-clause-next g c start h =
-    let u : SearchState _ = record { engine = c.is_spent.new.engine; branches = c.undo_decision.new.path; candidate = c.loop-branch.state.candidate; order = c.loop-branch.state.order } in
+    let u : SearchState _ = record { engine = c.is_spent.new.engine; branches = c.undo_decision.new.path; candidate = c.loop-branch.state.candidate; order = c.loop-branch.state.order; dive = c.loop-branch.state.dive; proposer = c.loop-branch.state.proposer } in
     let step : IsStep c.args.best.now.problem c.loop-branch.state u c.in-Some.branch = step_of c.args.best.now.problem c.loop-branch.state u c.undo_decision.new.engine c.in-Some.branch c.in-Some.ensures.popped c.undo_decision.ensures.constraints c.undo_decision.ensures.at_path c.in-Some.ensures.free c.undo_decision.ensures.same_room refl c.is_spent.ensures.unchanged in
     turn_next c.args.best.now.problem start c.loop-branch.state u c.in-Some.branch c.other_value.result c.args.best.now.held step c.other_value.ensures (c.loop-branch.invariant.leaving start h)
 
@@ -27,7 +27,7 @@ returns-then-not-is_spent-clause-fewer g c few =
 
 pub loop-branch-preserved : goal.loop-branch-preserved
 loop-branch-preserved g c =
-    let u : SearchState _ = record { engine = c.is_spent.new.engine; branches = c.undo_decision.new.path; candidate = c.loop-branch.state.candidate; order = c.loop-branch.state.order } in
+    let u : SearchState _ = record { engine = c.is_spent.new.engine; branches = c.undo_decision.new.path; candidate = c.loop-branch.state.candidate; order = c.loop-branch.state.order; dive = c.loop-branch.state.dive; proposer = c.loop-branch.state.proposer } in
     let step : IsStep c.args.best.now.problem c.loop-branch.state u c.in-Some.branch = step_of c.args.best.now.problem c.loop-branch.state u c.undo_decision.new.engine c.in-Some.branch c.in-Some.ensures.popped c.undo_decision.ensures.constraints c.undo_decision.ensures.at_path c.in-Some.ensures.free c.undo_decision.ensures.same_room refl c.is_spent.ensures.unchanged in
     let s = shortened_more c.args.state.now.branches.items c.loop-branch.state.branches.items c.undo_decision.new.path.items c.in-Some.branch c.loop-branch.invariant.shortened c.in-Some.ensures.popped in
     let spent : (c.in-Some.branch.flipped ≡ true) ⊎ IsClosed c.args.best.now.problem u.engine c.args.best.now.held = subst (λ (e : EngineState). (c.in-Some.branch.flipped ≡ true) ⊎ IsClosed c.args.best.now.problem e c.args.best.now.held) (sym c.is_spent.ensures.unchanged) (c.is_spent.ensures.spent c.if-not-is_spent.false) in
@@ -58,7 +58,7 @@ is_spent-requires-clause-engine g c = same_engine c.args.best.now.problem c.loop
 
 pub returns-then-not-is_spent-clause-made_for : goal.returns-then-not-is_spent-clause-made_for
 returns-then-not-is_spent-clause-made_for g c =
-    let u : SearchState _ = record { engine = c.is_spent.new.engine; branches = c.undo_decision.new.path; candidate = c.loop-branch.state.candidate; order = c.loop-branch.state.order } in
+    let u : SearchState _ = record { engine = c.is_spent.new.engine; branches = c.undo_decision.new.path; candidate = c.loop-branch.state.candidate; order = c.loop-branch.state.order; dive = c.loop-branch.state.dive; proposer = c.loop-branch.state.proposer } in
     let constraints : SameConstraints c.loop-branch.state.engine u.engine = subst (λ (e : EngineState). SameConstraints c.loop-branch.state.engine e) (sym c.is_spent.ensures.unchanged) c.undo_decision.ensures.constraints in
     state_moves c.args.best.now.problem c.loop-branch.state u constraints c.undo_decision.ensures.same_room refl c.loop-branch.invariant.made_for
 
@@ -72,7 +72,7 @@ returns-clause-finished g c start h a below better = subst (λ (x : List Branch)
 
 pub returns-clause-made_for : goal.returns-clause-made_for
 returns-clause-made_for g c =
-    let u : SearchState _ = record { engine = c.undo_decision.new.engine; branches = c.undo_decision.new.path; candidate = c.loop-branch.state.candidate; order = c.loop-branch.state.order } in
+    let u : SearchState _ = record { engine = c.undo_decision.new.engine; branches = c.undo_decision.new.path; candidate = c.loop-branch.state.candidate; order = c.loop-branch.state.order; dive = c.loop-branch.state.dive; proposer = c.loop-branch.state.proposer } in
     state_moves c.args.best.now.problem c.loop-branch.state u c.undo_decision.ensures.constraints c.undo_decision.ensures.same_room refl c.loop-branch.invariant.made_for
 
 pub returns-clause-constraints : goal.returns-clause-constraints

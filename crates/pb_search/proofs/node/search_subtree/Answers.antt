@@ -17,7 +17,7 @@ loop-branch-preserved-then-decisions-eq0 g c =
     let start = c.args.state.now.engine in
     let same : c.loop-branch.best.problem ≡ c.args.best.now.problem = c.loop-branch.invariant.moves_on.same_instance in
     let now : c.next_branch.new.best.problem ≡ c.args.best.now.problem = c.next_branch.ensures.moves_on.same_instance ∙ same in
-    let u : SearchState _ = record { engine = c.decide.new.engine; branches = c.decide.new.path; candidate = c.borrow_on_the_way.new.scratch; order = c.next_branch.new.state.order } in
+    let u : SearchState _ = record { engine = c.decide.new.engine; branches = c.decide.new.path; candidate = c.borrow_on_the_way.new.scratch; order = c.next_branch.new.state.order; dive = c.next_branch.new.state.dive; proposer = c.next_branch.new.state.proposer } in
     let next : IsNext c.args.best.now.problem start c.next_branch.new.state c.in-Some.branch c.next_branch.new.best.held =
     at_problem c.args.best.now.problem c.loop-branch.best.problem (λ p. IsUnderWay p start c.loop-branch.state c.loop-branch.best.held) (λ p. IsNext p start c.next_branch.new.state c.in-Some.branch c.next_branch.new.best.held) same (c.in-Some.ensures.next start) c.loop-branch.invariant.under_way in
     let found : IsOwn start c.loop-branch.best c.next_branch.new.best =
@@ -40,7 +40,7 @@ pub loop-branch-preserved : goal.loop-branch-preserved
 loop-branch-preserved g c =
     let start = c.args.state.now.engine in
     let same : c.loop-branch.best.problem ≡ c.args.best.now.problem = c.loop-branch.invariant.moves_on.same_instance in
-    let u : SearchState _ = record { engine = c.decide.new.engine; branches = c.decide.new.path; candidate = c.next_branch.new.state.candidate; order = c.next_branch.new.state.order } in
+    let u : SearchState _ = record { engine = c.decide.new.engine; branches = c.decide.new.path; candidate = c.next_branch.new.state.candidate; order = c.next_branch.new.state.order; dive = c.next_branch.new.state.dive; proposer = c.next_branch.new.state.proposer } in
     let next : IsNext c.args.best.now.problem start c.next_branch.new.state c.in-Some.branch c.next_branch.new.best.held =
     at_problem c.args.best.now.problem c.loop-branch.best.problem (λ p. IsUnderWay p start c.loop-branch.state c.loop-branch.best.held) (λ p. IsNext p start c.next_branch.new.state c.in-Some.branch c.next_branch.new.best.held) same (c.in-Some.ensures.next start) c.loop-branch.invariant.under_way in
     let found : IsOwn start c.loop-branch.best c.next_branch.new.best =

@@ -7,7 +7,7 @@ use Rattle.pb_search.specs.Done.{Division, IsDone}
 use Rattle.pb_search.specs.declared.search_state.SearchState.{SearchState}
 use Rattle.pb_search.specs.Layout.{IsCubeState}
 use Rattle.pb_search.specs.SearchState.{IsStateOf}
-use Rattle.pb_search.proofs.RootLemmas.{cube_done, rest_done, rest_own}
+use Rattle.pb_search.proofs.RootLemmas.{cube_done, cube_own, rest_done, rest_own}
 use Rattle.pb_search.proofs.SearchLemmas.{rest_laid_out}
 use Rattle.pb_search.proofs.piece_search.PieceSearch.search.Goals as goal
 
@@ -36,3 +36,9 @@ returns-in-Rest-clause-own g c none =
     let d : Division = record { problem = c.self.inside.instance.now; cubes = c.self.inside.pieces.now.cubes } in
     subst (λ (x : Division). (c.search_under-in-Rest.new.best ≡ c.args.best.now) ⊎ IsSomeAnd c.search_under-in-Rest.new.best.held (λ s. LiesIn x.cubes c.args.piece s.assignment)) c.self.view_is
     (rest_own d c.args.piece c.self.inside.rest.engine c.args.best.now c.search_under-in-Rest.new.best c.self.invariant.rest_rows c.in-Rest.ensures.piece.0 (c.search_under-in-Rest.ensures.own none))
+
+pub returns-in-Some-clause-own : goal.returns-in-Some-clause-own
+returns-in-Some-clause-own g c none =
+    let d : Division = record { problem = c.self.inside.instance.now; cubes = c.self.inside.pieces.now.cubes } in
+    subst (λ (x : Division). (c.search_under.new.best ≡ c.args.best.now) ⊎ IsSomeAnd c.search_under.new.best.held (λ s. LiesIn x.cubes c.args.piece s.assignment)) c.self.view_is
+    (cube_own d c.args.piece c.in-Some.state.engine c.lits.result.now c.args.best.now c.search_under.new.best (c.in-Cube.ensures.piece ∙ ap (λ (x : List Literal). Some x) (sym c.lits.ensures)) (c.search_under.ensures.own none))

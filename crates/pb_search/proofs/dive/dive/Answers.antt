@@ -1,0 +1,30 @@
+use Rattle.std.proofs.Common.{◌≡◌, ◌≤◌, ℕ, sym, subst}
+use Rattle.pb_inst.specs.declared.TheConstants.{MAX_VARS}
+use Rattle.pb_engine.specs.EngineState.{EngineState}
+use Rattle.pb_search.specs.AgreedPrefix.{KnowsHeldPrefix}
+use Rattle.pb_search.proofs.SearchLemmas.{same_engine}
+use Rattle.pb_search.proofs.DiveLemmas.{levels_within, back_at_start, own_at_start}
+use Rattle.pb_search.proofs.dive.dive.Goals as goal
+
+pub descend-is_full-requires-clause-few : goal.descend-is_full-requires-clause-few
+descend-is_full-requires-clause-few g c = subst (λ (n : ℕ). n ≤ MAX_VARS) (sym c.requires.state.engine.vars) c.requires.state.few_variables
+
+pub take_where_full-requires-clause-engine : goal.take_where_full-requires-clause-engine
+take_where_full-requires-clause-engine g c = same_engine c.args.best.now.problem c.args.state.now.engine c.descend-is_full.new.engine c.descend-is_full.ensures.back.constraints c.requires.state.engine
+
+pub take_where_full-requires-clause-room : goal.take_where_full-requires-clause-room
+take_where_full-requires-clause-room g c = c.requires.state.candidate
+
+pub undo_to-requires : goal.undo_to-requires
+undo_to-requires g c = rw c.level-level.ensures.count (levels_within c.args.state.now.engine c.descend-is_full.new.engine c.descend-is_full.ensures.back)
+
+pub returns-clause-taken_back : goal.returns-clause-taken_back
+returns-clause-taken_back g c = back_at_start c.args.state.now.engine c.descend-is_full.new.engine c.undo_to.new.self c.descend-is_full.ensures.back (rw c.level-level.ensures.count at c.undo_to.ensures.undone)
+
+pub returns-clause-own : goal.returns-clause-own
+returns-clause-own g c = own_at_start c.args.state.now.engine c.descend-is_full.new.engine c.args.best.now c.take_where_full.new.best c.descend-is_full.ensures.back c.take_where_full.ensures.own
+
+pub returns-clause-known : goal.returns-clause-known
+returns-clause-known g c =
+    let same : c.undo_to.new.self ≡ c.args.state.now.engine = back_at_start c.args.state.now.engine c.descend-is_full.new.engine c.undo_to.new.self c.descend-is_full.ensures.back (rw c.level-level.ensures.count at c.undo_to.ensures.undone) in
+    subst (λ (e : EngineState). KnowsHeldPrefix e.trail c.take_where_full.new.best.held c.take_where_full.new.agreed) (sym same) (c.take_where_full.ensures.known c.args.state.now.engine.trail c.requires.known)
