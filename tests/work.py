@@ -46,7 +46,7 @@ class Today:
 
 
 TODAY = {
-    "aside": Today(44_443, 94),
+    "aside": Today(55_000, 94),
     "assignment": Today(71_300, 115),
     "chain": Today(5_500, 91),
     "clauses": Today(33_900, 90),
@@ -64,7 +64,7 @@ TODAY = {
     "packages": Today(99_300, 114),
     "short_knapsack": Today(36_300, 100),
     "two_sides": Today(108_900, 115),
-    "unconstrained": Today(7_900, 76),
+    "unconstrained": Today(24_000, 75),
     "wide_knapsack": Today(0, 98),
 }
 
