@@ -64,7 +64,7 @@ TODAY = {
     "packages": Today(99_300, 114),
     "short_knapsack": Today(36_300, 100),
     "two_sides": Today(108_900, 115),
-    "unconstrained": Today(24_000, 75),
+    "unconstrained": Today(24_000, 75),  # no longer comment was tried, so this bound may be loose
     "wide_knapsack": Today(0, 98),
 }
 
