@@ -1,4 +1,3 @@
 pub mod Ending
 pub mod Joining
 pub mod Reading
-pub mod Texts

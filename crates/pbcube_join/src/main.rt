@@ -3,14 +3,10 @@
 
 ghost use Rattle.std.specs.Prelude.{◌≡◌};
 
-mod faults;
-mod files;
-mod names;
-mod reading;
 mod running;
 
-use crate::files::Files;
 use crate::running::{out_of_memory, program};
+use pb_files::Files;
 use pb_line::{texts_of, words_of};
 use pb_solve::Device;
 use std::fs;

@@ -8,15 +8,12 @@ ghost use Rattle.pbcube_join.specs.Ending.{Ends};
 ghost use Rattle.pb_join.specs.declared.reports.PieceReport.{PieceReport};
 ghost use Rattle.pb_line.specs.Joining.{pbcube_join};
 ghost use Rattle.pbcube_join.specs.Joining.{JoinsAsAsked, JoinsFiles, Tells, TellsOf};
-ghost use Rattle.pbcube_join.specs.Reading.{ReadsReports};
-ghost use Rattle.pbcube_join.specs.Texts.{texts};
+ghost use Rattle.pb_files.specs.Reading.{ReadsReports};
+ghost use Rattle.pb_files.specs.Texts.{texts};
 ghost use Rattle.pb_report.specs.Statuses.{IsExitStatus};
 
-use crate::faults::{ProgramFault, Refusal};
-use crate::files::Files;
-use crate::names::report_names;
-use crate::reading::{read_instance, read_reports};
 use clap::Error;
+use pb_files::{Files, Refusal, ReportsFault, read_instance, read_reports, report_names};
 use pb_inst::Instance;
 use pb_join::{JoinFault, Joined, PieceState, join};
 use pb_line::joining::{Line, line};
@@ -59,7 +56,7 @@ pub fn program<'a, F: Files, W: Write, E: Write>(
 pub fn out_of_memory<E: Write>(err: &mut E) -> u8
     ensures { result ≡ 1 }
 {
-    end_at_fault(&ProgramFault::Memory, err)
+    end_at_fault(&ReportsFault::Memory, err)
 }
 
 /// Reads what the line names, the instance before the reports, joins the reports and writes what they make. Where anything is
@@ -69,12 +66,12 @@ fn join_line<'a, F: Files, W: Write>(
     line: Line<'a>,
     files: &mut F,
     out: &mut Device<W>,
-) -> Result<Joined, ProgramFault<'a>>
+) -> Result<Joined, ReportsFault<'a>>
     requires pieces { 1 ≤ line.pieces }
     requires out { out.old.failed ≡ false }
     ensures tells { IfOk result (λ joined. (p : Problem) × Tells line.entry.format p line.entry.pieces (W.contents out.old.held) (W.contents out.new.held) joined) }
     ensures joins { IfOk result (JoinsFiles F.reads F.lists line.entry files.old files.new (W.contents out.old.held) (W.contents out.new.held)) }
-    ensures unwritten { IfErr result (λ fault. fault ≢ ProgramFault.CannotWrite → out.new ≡ out.old) }
+    ensures unwritten { IfErr result (λ fault. fault ≢ ReportsFault.CannotWrite → out.new ≡ out.old) }
     ensures kept { IfErr result (λ fault. (out.new ≡ out.old) ⊎ (out.new.failed ≡ true)) }
 {
     let instance = read_instance(alloc, line.format, line.file, files)?;
@@ -99,12 +96,12 @@ fn join_files<'a, F: Files, W: Write>(
     names: Vec<String>,
     files: &mut F,
     out: &mut Device<W>,
-) -> Result<Joined, ProgramFault<'a>>
+) -> Result<Joined, ReportsFault<'a>>
     requires pieces { 1 ≤ pieces }
     requires out { out.old.failed ≡ false }
     ensures tells { IfOk result (Tells format instance.now pieces (W.contents out.old.held) (W.contents out.new.held)) }
     ensures joins { IfOk result (λ joined. (reports : List PieceReport) × ReadsReports F.reads format instance.now.vars (texts names) reports files.old files.new × TellsOf format instance.now pieces reports (W.contents out.old.held) (W.contents out.new.held) joined) }
-    ensures unwritten { IfErr result (λ fault. fault ≢ ProgramFault.CannotWrite → out.new ≡ out.old) }
+    ensures unwritten { IfErr result (λ fault. fault ≢ ReportsFault.CannotWrite → out.new ≡ out.old) }
     ensures kept { IfErr result (λ fault. (out.new ≡ out.old) ⊎ (out.new.failed ≡ true)) }
 {
     let read = read_reports(alloc, format, instance.vars(), names, files)?;
@@ -115,15 +112,15 @@ fn join_files<'a, F: Files, W: Write>(
 }
 
 /// Why the reports from the files of these names were not joined.
-fn fault_of<'a>(fault: JoinFault, mut names: Vec<String>) -> ProgramFault<'a>
+fn fault_of<'a>(fault: JoinFault, mut names: Vec<String>) -> ReportsFault<'a>
     requires { (place : ℕ) → (why : Why) → fault ≡ JoinFault.Report place why → place < length names.items }
-    ensures { fault ≡ JoinFault.Write → result ≡ ProgramFault.CannotWrite }
+    ensures { fault ≡ JoinFault.Write → result ≡ ReportsFault.CannotWrite }
 {
     match fault {
-        JoinFault::Write => ProgramFault::CannotWrite,
-        JoinFault::Memory => ProgramFault::Memory,
+        JoinFault::Write => ReportsFault::CannotWrite,
+        JoinFault::Memory => ReportsFault::Memory,
         JoinFault::Report { place, why } => {
-            ProgramFault::Report(names.swap_remove(place), Refusal::Rejected(why))
+            ReportsFault::Report(names.swap_remove(place), Refusal::Rejected(why))
         }
     }
 }
@@ -152,13 +149,13 @@ fn end_at_line<W: Write, E: Write>(fault: &Error, out: &mut Device<W>, err: &mut
 {
     match tell_fault(fault, out, err) {
         Told::Written(status) => status,
-        Told::Unwritten => end_at_fault(&ProgramFault::CannotWrite, err),
+        Told::Unwritten => end_at_fault(&ReportsFault::CannotWrite, err),
         Told::NoMemory => out_of_memory(err),
     }
 }
 
 /// One line to the standard error, whose own faults are ignored.
-fn end_at_fault<E: Write>(fault: &ProgramFault<'_>, err: &mut E) -> u8
+fn end_at_fault<E: Write>(fault: &ReportsFault<'_>, err: &mut E) -> u8
     ensures { result ≡ 1 }
 {
     let _ = writeln!(err, "pbcube_join: {fault}");

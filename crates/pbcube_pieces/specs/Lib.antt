@@ -1,4 +1,3 @@
 pub mod Dividing
 pub mod Ending
-pub mod Names
 pub mod Writing

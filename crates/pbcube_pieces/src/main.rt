@@ -3,16 +3,11 @@
 
 ghost use Rattle.std.specs.Prelude.{◌≡◌};
 
-mod faults;
-mod folders;
-mod index;
-mod names;
-mod pieces;
 mod prepared;
 mod running;
 
-use crate::folders::Folders;
 use crate::running::{out_of_memory, program};
+use pb_files::Folders;
 use pb_line::{texts_of, words_of};
 use std::fs::{self, File};
 use std::io::{self, ErrorKind, Write};

@@ -2,9 +2,8 @@
 ghost use Rattle.std.specs.Prelude.{◌≡◌, option_map, IfOk};
 ghost use Rattle.pbcube_pieces.specs.Dividing.{AreOfSplit, ReadsCubes, ReadsDivided};
 
-use crate::faults::Fault;
-use crate::folders::Folders;
 use pb_cubes::{CubeFault, Pieces, split};
+use pb_files::{Folders, PiecesFault, Prepared};
 use pb_inst::{Cube, Instance};
 use pb_line::dividing::Line;
 use pb_read::{ReadFault, ReadKind, read, read_cubes};
@@ -12,21 +11,13 @@ use sha2::{Digest, Sha256};
 use std::alloc::Global;
 use std::io::ErrorKind;
 
-/// An instance, the pieces of it, and the SHA-256 digest of the text that spells it.
-#[derive(Drop)]
-pub struct Prepared {
-    pub instance: Instance,
-    pub pieces: Pieces,
-    pub digest: [u8; 32],
-}
-
 /// Reads what the line names, the instance before the cubes, and divides the instance: by its own cubes, those of the file
 /// and those of the split, in this order.
 pub fn prepare<'a, F: Folders>(
     alloc: Global,
     folders: &mut F,
     line: &Line<'a>,
-) -> Result<Prepared, Fault<'a>>
+) -> Result<Prepared, PiecesFault<'a>>
     ensures same_variables { IfOk result (λ prepared. prepared.pieces.vars ≡ prepared.instance.vars) }
     ensures divided { IfOk result (λ prepared. ReadsDivided F.reads line.now prepared.instance prepared.pieces.cubes prepared.digest folders.old folders.new) }
 {
@@ -48,13 +39,13 @@ pub fn prepare<'a, F: Folders>(
 }
 
 /// All bytes of the file of this name.
-fn read_file<'a, F: Folders>(folders: &mut F, name: &'a str) -> Result<Vec<u8>, Fault<'a>>
+fn read_file<'a, F: Folders>(folders: &mut F, name: &'a str) -> Result<Vec<u8>, PiecesFault<'a>>
     ensures { IfOk result (λ text. F.reads folders.old name.now text.items folders.new) }
 {
     match folders.read(name) {
         Ok(text) => Ok(text),
-        Err(error) if error.kind() == ErrorKind::OutOfMemory => Err(Fault::Memory),
-        Err(_) => Err(Fault::CannotRead(name)),
+        Err(error) if error.kind() == ErrorKind::OutOfMemory => Err(PiecesFault::Memory),
+        Err(_) => Err(PiecesFault::CannotRead(name)),
     }
 }
 
@@ -64,7 +55,7 @@ fn cubes_of_file<'a, F: Folders>(
     folders: &mut F,
     name: Option<&'a str>,
     vars: u32,
-) -> Result<Vec<Cube>, Fault<'a>>
+) -> Result<Vec<Cube>, PiecesFault<'a>>
     ensures { IfOk result (λ cubes. ReadsCubes F.reads (option_map (λ name. name.now) name.entry) vars cubes.items folders.old folders.new) }
 {
     let Some(name) = name else {
@@ -82,7 +73,7 @@ fn cubes_of_split<'a>(
     alloc: Global,
     instance: &Instance,
     variables: u32,
-) -> Result<Vec<Cube>, Fault<'a>>
+) -> Result<Vec<Cube>, PiecesFault<'a>>
     ensures { IfOk result (λ cubes. AreOfSplit instance.now variables cubes.items) }
 {
     if variables == 0 {
@@ -90,25 +81,25 @@ fn cubes_of_split<'a>(
     }
     match split(alloc, instance, variables) {
         Ok(cubes) => Ok(cubes),
-        Err(CubeFault::Memory) => Err(Fault::Memory),
-        Err(_) => Err(Fault::BadSplit),
+        Err(CubeFault::Memory) => Err(PiecesFault::Memory),
+        Err(_) => Err(PiecesFault::BadSplit),
     }
 }
 
 /// The pieces of these cubes. Their variables are within range already, so there can only be too many of them.
-fn pieces_of<'a>(vars: u32, cubes: Vec<Cube>) -> Result<Pieces, Fault<'a>>
+fn pieces_of<'a>(vars: u32, cubes: Vec<Cube>) -> Result<Pieces, PiecesFault<'a>>
     ensures { IfOk result (λ pieces. pieces ≡ record { vars = vars; cubes = cubes.items }) }
 {
     match Pieces::new(vars, cubes) {
         Ok(pieces) => Ok(pieces),
-        Err(_) => Err(Fault::TooManyCubes),
+        Err(_) => Err(PiecesFault::TooManyCubes),
     }
 }
 
-fn refusal<'a>(name: &'a str, fault: ReadFault) -> Fault<'a> {
+fn refusal<'a>(name: &'a str, fault: ReadFault) -> PiecesFault<'a> {
     if fault.kind == ReadKind::Memory {
-        Fault::Memory
+        PiecesFault::Memory
     } else {
-        Fault::Refused(name, fault)
+        PiecesFault::Refused(name, fault)
     }
 }

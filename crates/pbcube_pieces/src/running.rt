@@ -6,11 +6,9 @@ ghost use Rattle.pb_line.specs.Dividing.{pbcube_pieces};
 ghost use Rattle.pbcube_pieces.specs.Ending.{Ends};
 ghost use Rattle.pbcube_pieces.specs.Writing.{Divides, DividesAsAsked};
 
-use crate::faults::Fault;
-use crate::folders::Folders;
-use crate::pieces::write_pieces;
 use crate::prepared::prepare;
 use clap::Error;
+use pb_files::{Folders, PiecesFault, write_pieces};
 use pb_line::dividing::{Line, line};
 use pb_line::{Told, tell_fault};
 use std::alloc::Global;
@@ -42,18 +40,18 @@ pub fn program<'a, F: Folders, W: Write, E: Write>(
 pub fn out_of_memory<E: Write>(err: &mut E) -> u8
     ensures { result ≡ 1 }
 {
-    end_at_fault(&Fault::Memory, err)
+    end_at_fault(&PiecesFault::Memory, err)
 }
 
 fn write_all<'a, F: Folders>(
     alloc: Global,
     folders: &mut F,
     line: &Line<'a>,
-) -> Result<(), Fault<'a>>
+) -> Result<(), PiecesFault<'a>>
     ensures { OnOk result (Divides F.reads F.makes F.looks F.writes line.now folders.old folders.new) }
 {
     let prepared = prepare(alloc, folders, line)?;
-    write_pieces(alloc, folders, line, &prepared)
+    write_pieces(alloc, folders, line.format, line.out, &prepared)
 }
 
 /// The end where the words ask for no run: help, the version, a refusal, or no memory.
@@ -71,7 +69,7 @@ fn end_at_line<W: Write, E: Write>(fault: &Error, out: &mut W, err: &mut E) -> u
 }
 
 /// One line to the standard error, whose own faults are ignored.
-fn end_at_fault<E: Write>(fault: &Fault<'_>, err: &mut E) -> u8
+fn end_at_fault<E: Write>(fault: &PiecesFault<'_>, err: &mut E) -> u8
     ensures { result ≡ 1 }
 {
     let _ = writeln!(err, "pbcube_pieces: {fault}");

@@ -1,7 +1,7 @@
 use Rattle.std.proofs.Common.{◌≡◌, ℕ, List, Bor, Ok, Err, IfOk, map, subst}
 use Rattle.std.specs.Prelude.{Result}
-use Rattle.pbcube_join.specs.Reading.{ListsReports}
-use Rattle.pbcube_join.specs.Texts.{texts}
+use Rattle.pb_files.specs.Reading.{ListsReports}
+use Rattle.pb_files.specs.Texts.{texts}
 use Rattle.pbcube_join.proofs.running.join_line.Goals as goal
 
 IfOk-more : {A E : Type 0} (P Q : A → Type 0) (r : Result A E) → ((a : A) → P a → Q a) → IfOk r P → IfOk r Q

@@ -1,0 +1,4 @@
+pub mod Names
+pub mod Reading
+pub mod Texts
+pub mod Writing

@@ -1,0 +1,46 @@
+//! Why the pieces were not written.
+ghost use Rattle.std.specs.Prelude.{◌≡◌};
+
+use pb_read::ReadFault;
+use pb_write::WriteFault;
+use std::alloc::AllocError;
+use std::io;
+use thiserror::Error;
+
+/// What keeps pieces from being written, with the name of the file that it was met at.
+#[derive(Debug, Drop, Error)]
+pub enum PiecesFault<'a> {
+    /// The file cannot be opened or read.
+    #[error("cannot read {0}")]
+    CannotRead(&'a str),
+    /// The file is refused.
+    #[error("{0}: {1}")]
+    Refused(&'a str, ReadFault),
+    /// The split is over more variables than the instance has.
+    #[error("the split is over more variables than there are")]
+    BadSplit,
+    /// All cubes together are more than there may be.
+    #[error("there are too many cubes")]
+    TooManyCubes,
+    /// The folder cannot be made or looked into.
+    #[error("cannot use {0}")]
+    CannotUse(&'a str),
+    /// The folder holds an index.
+    #[error("{0} holds an index already")]
+    HoldsIndex(&'a str),
+    /// The file cannot be made or written.
+    #[error("cannot write {0}")]
+    CannotWrite(String),
+    /// The file's piece has no text.
+    #[error("{0}: {1}")]
+    HasNoText(String, WriteFault),
+    /// Memory was refused.
+    #[error("out of memory")]
+    Memory,
+}
+
+impl From<AllocError> for PiecesFault<'_> {
+    fn from(_: AllocError) -> Self {
+        PiecesFault::Memory
+    }
+}

@@ -1,0 +1,123 @@
+//! The instance and the reports, from their files.
+ghost use Rattle.std.specs.Prelude.{◌≡◌, ◌<◌, ℕ, List, length, IfOk};
+ghost use Rattle.pb_files.specs.Reading.{IsReportOf, ReadsInstance, ReadsReports};
+ghost use Rattle.pb_files.specs.Texts.{texts};
+
+use crate::files::Files;
+use crate::listing::piece_number;
+use crate::reports_fault::{Refusal, ReportsFault};
+use pb_inst::Instance;
+use pb_join::PieceReport;
+use pb_read::{Format, ReadFault, ReadKind, read};
+use pb_report::{ReportKind, read_report};
+use std::alloc::Global;
+use std::io::{self, ErrorKind};
+
+/// Reports, and the names of their files, in the same order.
+#[derive(Drop)]
+pub struct Reports {
+    pub names: Vec<String>,
+    pub reports: Vec<PieceReport>,
+}
+
+/// The whole instance, from the file of this name. Its own cubes are no part of it.
+pub fn read_instance<'a, F: Files>(
+    alloc: Global,
+    format: Format,
+    file: &'a str,
+    files: &mut F,
+) -> Result<Instance, ReportsFault<'a>>
+    ensures { IfOk result (λ instance. ReadsInstance F.reads format file.now instance files.old files.new) }
+{
+    let text = match files.read(file) {
+        Ok(text) => text,
+        Err(error) => return Err(unreadable(file, &error)),
+    };
+    match read(alloc, format, &text) {
+        Ok((instance, cubes)) => {
+            drop(cubes);
+            Ok(instance)
+        }
+        Err(fault) => Err(refusal(file, fault)),
+    }
+}
+
+/// Why the file or folder of this name was not read.
+pub fn unreadable<'a>(name: &'a str, error: &io::Error) -> ReportsFault<'a> {
+    if error.kind() == ErrorKind::OutOfMemory {
+        ReportsFault::Memory
+    } else {
+        ReportsFault::CannotRead(name)
+    }
+}
+
+/// Why the instance in the file of this name was not taken.
+fn refusal<'a>(file: &'a str, fault: ReadFault) -> ReportsFault<'a> {
+    if fault.kind == ReadKind::Memory {
+        ReportsFault::Memory
+    } else {
+        ReportsFault::Refused(file, fault)
+    }
+}
+
+/// The reports from the files of these names, of an instance of so many variables.
+pub fn read_reports<'a, F: Files>(
+    alloc: Global,
+    format: Format,
+    vars: u32,
+    names: Vec<String>,
+    files: &mut F,
+) -> Result<Reports, ReportsFault<'a>>
+    ensures counted { IfOk result (λ read. length read.names.items ≡ length read.reports.items) }
+    ensures read { IfOk result (λ read. ReadsReports F.reads format vars (texts names) read.reports.items files.old files.new) }
+{
+    let mut reports = Vec::new(alloc);
+    for place in 0..names.len() {
+        match read_one(alloc, format, vars, &names[place], files) {
+            Ok(report) => reports.push(report)?,
+            Err(why) => return Err(fault_at(names, place, why)),
+        }
+    }
+    Ok(Reports { names, reports })
+}
+
+/// Why the report in the file of the name at this place was not read.
+fn fault_at<'a>(mut names: Vec<String>, place: usize, why: Unread) -> ReportsFault<'a>
+    requires { place < length names.items }
+{
+    match why {
+        Unread::Memory => ReportsFault::Memory,
+        Unread::Refused(why) => ReportsFault::Report(names.swap_remove(place), why),
+    }
+}
+
+/// Why one report was not read.
+enum Unread {
+    Memory,
+    Refused(Refusal),
+}
+
+/// The report from the file of this name.
+fn read_one<F: Files>(
+    alloc: Global,
+    format: Format,
+    vars: u32,
+    name: &str,
+    files: &mut F,
+) -> Result<PieceReport, Unread>
+    ensures { IfOk result (λ report. (text : List ℕ) × F.reads files.old name.now text files.new × IsReportOf format vars name.now text report) }
+{
+    let Some(number) = piece_number(name) else {
+        return Err(Unread::Refused(Refusal::NoNumber));
+    };
+    let text = match files.read(name) {
+        Ok(text) => text,
+        Err(error) if error.kind() == ErrorKind::OutOfMemory => return Err(Unread::Memory),
+        Err(_) => return Err(Unread::Refused(Refusal::Unreadable)),
+    };
+    match read_report(alloc, format, vars, &text) {
+        Ok(claim) => Ok(PieceReport { number, claim }),
+        Err(fault) if fault.kind == ReportKind::Memory => Err(Unread::Memory),
+        Err(fault) => Err(Unread::Refused(Refusal::Faulty(fault))),
+    }
+}

@@ -1,6 +1,0 @@
-use Rattle.std.proofs.Common.{codes}
-use Rattle.std.proofs.lemmas.Str.Pattern.{ends_text}
-use Rattle.pbcube_join.proofs.names.is_report.Goals as goal
-
-pub returns : goal.returns
-returns c = ends_text _ (codes ".report") c.args.name.now c.ends_with.ensures.cases

@@ -1,6 +1,0 @@
-use Rattle.pbcube_pieces.specs.Writing.{WritesPieces}
-use Rattle.pbcube_pieces.proofs.pieces.write_each.Given as goal
-
--- the pieces below this number are written
-abbrev pub invariant-loop-number : goal.invariant-loop-number
-invariant-loop-number g l = WritesPieces g.F.Folders.writes l.line l.prepared.instance l.prepared.pieces.cubes l.number l.initial.folders l.folders
