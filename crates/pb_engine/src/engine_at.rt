@@ -18,7 +18,7 @@ ghost use Rattle.pb_engine.specs.Fixing.{IsBelowCompletions, IsForcedWithin};
 use crate::bound::{bound_with, payment};
 use crate::needs::Needs;
 use pb_bits::Marks;
-use pb_count::Count;
+use pb_count::{Count, Tally};
 use pb_inst::{Cube, Lit, Memory, Number};
 use pb_lagrange::{Fixed, Relaxation};
 use pb_normal::Form;
@@ -33,7 +33,7 @@ pub struct EngineAt<'a, C: Count = u64> {
     propagator: Propagator<'a, C>,
     needs: Needs<C>,
     marks: Marks,
-    /// Multipliers for a second lower bound, where there is an objective whose costs have a scale. The view leaves them out.
+    /// Multipliers for a second lower bound, where its costs have a scale and not all is clauses. The view leaves them out.
     relaxation: Option<Relaxation<'a, C>>,
 }
 
@@ -342,15 +342,26 @@ impl<'a, C: Count> EngineAt<'a, C> {
     }
 }
 
-/// Multipliers for the rows of the form, where it has an objective whose costs have a scale.
+/// Multipliers for the rows of the form, where the costs have a scale. Without an objective there are none where all rows are
+/// clauses: each variable at a half meets those that have two literals, so no multipliers tell that nothing does.
 fn relaxation_over<'a, C: Count>(
     alloc: Global,
     form: &'a Form<C>,
 ) -> Result<Option<Relaxation<'a, C>>, Memory>
     ensures { IfOk result (λ relaxation. IfSome relaxation (λ r. (r.form ≡ form.now) × (r.trail ≡ []))) }
 {
-    if form.objective().is_empty() {
+    if form.objective().is_empty() && has_clauses_alone(form) {
         return Ok(None);
     }
     Relaxation::new(alloc, form)
+}
+
+/// Whether one literal is enough for each row.
+fn has_clauses_alone<C: Count>(form: &Form<C>) -> bool {
+    for row in 0..form.len() {
+        if Tally::of(1).is_below(form.degree(row)) {
+            return false;
+        }
+    }
+    true
 }

@@ -101,9 +101,7 @@ impl Account {
 
     /// A node of the search at which so many literals joined the trail.
     pub fn count_search(&mut self, literals: usize) {
-        let work = WORK_OF_A_NODE.saturating_add(
-            (literals as u64).saturating_mul(WORK_OF_A_LITERAL),
-        );
+        let work = work_of_node(literals);
         self.search = self.search.saturating_add(work);
         self.count_trial(work);
         self.fade();
@@ -195,4 +193,9 @@ impl Account {
         self.trials /= 2;
         self.tried /= 2;
     }
+}
+
+/// What a node of the search costs at which so many literals joined the trail.
+pub fn work_of_node(literals: usize) -> u64 {
+    WORK_OF_A_NODE.saturating_add((literals as u64).saturating_mul(WORK_OF_A_LITERAL))
 }

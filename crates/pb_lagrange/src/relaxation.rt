@@ -4,6 +4,7 @@
 mod fixing;
 mod levels;
 mod passes;
+mod refuting;
 mod schedule;
 mod steps;
 
@@ -23,6 +24,7 @@ use pb_inst::{Lit, Memory, Number};
 use pb_normal::Form;
 use pb_rows::Tables;
 use pb_trail::Slacks;
+use refuting::Refuting;
 use schedule::Schedule;
 use std::alloc::Global;
 use std::marker::Model;
@@ -37,6 +39,7 @@ const VARIABLES_OF_A_TERM: u32 = 8;
 /// A literal that the multipliers fix, and their bound of the trail at that moment.
 #[derive(Clone, Copy)]
 pub struct Fixed {
+    /// True in every completion of the trail that costs no more than the limit.
     pub lit: Lit,
     /// At most the cost of every completion of the trail.
     pub bound: Number,
@@ -51,6 +54,8 @@ pub struct Relaxation<'a, C: Count = u64> {
     passes: Passes,
     fixing: Fixing,
     account: Account,
+    /// Where there is no objective: whether multipliers were found that refute, and when they are looked for.
+    refuting: Option<Refuting>,
     levels: Levels,
     /// How many literals of the trail are counted.
     counted: usize,
@@ -70,6 +75,7 @@ impl<C: Count> Drop for Relaxation<'_, C> {
             passes: _,
             fixing: _,
             account: _,
+            refuting: _,
             levels: _,
             counted: _,
             is_used: _,
@@ -112,6 +118,11 @@ impl<'a, C: Count> Relaxation<'a, C> {
     {
         let passes = Passes::new(alloc, form)?;
         let account = Account::new(passes.terms());
+        let refuting = if form.objective().is_empty() {
+            Some(Refuting::new(passes.terms()))
+        } else {
+            None
+        };
         Ok(Relaxation {
             multipliers,
             schedule: Schedule::new(alloc, form)?,
@@ -119,6 +130,7 @@ impl<'a, C: Count> Relaxation<'a, C> {
             passes,
             fixing: Fixing::new(),
             account,
+            refuting,
             levels: Levels::new(alloc, form.vars() as usize)?,
             counted: 0,
             is_used: false,
@@ -134,6 +146,9 @@ impl<'a, C: Count> Relaxation<'a, C> {
         ensures bound { (result ≡ bound) ⊎ ((bound ≤ℤ result) × IsBelowCosts slacks.now.form slacks.now.trail result) }
         ensures beside { IsBeside slacks.now.form slacks.now.trail self.new }
     {
+        if self.refuting.is_some() {
+            return bound;
+        }
         let is_used = self.use_at(slacks, goal);
         if !is_used {
             return bound;
@@ -152,6 +167,9 @@ impl<'a, C: Count> Relaxation<'a, C> {
         ensures no_completion { result ≡ true → HasNoCompletion slacks.now.form.rows slacks.now.trail }
         ensures beside { IsBeside slacks.now.form slacks.now.trail self.new }
     {
+        if let Some(refuting) = self.refuting {
+            return self.refute(slacks, refuting);
+        }
         let is_used = self.use_at(slacks, Number::MAX);
         if !is_used {
             return false;
@@ -160,6 +178,41 @@ impl<'a, C: Count> Relaxation<'a, C> {
             return false;
         }
         !self.is_tried(Number::MAX, Number::MAX)
+    }
+
+    /// Whether the multipliers tell that nothing completes the trail, where there is no objective. They are looked for beside
+    /// the root's trail, a few times at most, and used only if they refute that: then they refute each trail beyond it too.
+    fn refute(&mut self, slacks: &Slacks<'_, '_, C>, refuting: Refuting) -> bool
+        requires { IsBeside slacks.now.form slacks.now.trail self.old }
+        ensures no_completion { result ≡ true → HasNoCompletion slacks.now.form.rows slacks.now.trail }
+        ensures beside { IsBeside slacks.now.form slacks.now.trail self.new }
+    {
+        let mut refuting = refuting;
+        refuting.count_node(slacks.len().saturating_sub(self.counted));
+        self.counted = slacks.len();
+        if let Some(steps) = refuting.steps() {
+            self.return_to_root(slacks);
+            self.passes.refute(&mut self.multipliers, steps);
+            refuting.end(self.multipliers.refutes());
+        }
+        self.refuting = Some(refuting);
+        if !refuting.are_found {
+            return false;
+        }
+        self.confirm(slacks, refuting)
+    }
+
+    /// Whether the multipliers that were found refute the trail. Where they do not, they are of another root.
+    fn confirm(&mut self, slacks: &Slacks<'_, '_, C>, refuting: Refuting) -> bool
+        requires { IsBeside slacks.now.form slacks.now.trail self.old }
+        ensures no_completion { result ≡ true → HasNoCompletion slacks.now.form.rows slacks.now.trail }
+        ensures beside { IsBeside slacks.now.form slacks.now.trail self.new }
+    {
+        self.catch_up(slacks);
+        let mut refuting = refuting;
+        refuting.are_found = self.multipliers.refutes();
+        self.refuting = Some(refuting);
+        refuting.are_found
     }
 
     /// Uses the multipliers at the node, if they pay: they follow the trail to its end, and are improved where their bound is
@@ -290,7 +343,7 @@ impl<'a, C: Count> Relaxation<'a, C> {
         Some(Fixed { lit, bound })
     }
 
-    /// The same, once the trail is followed. At the root all variables are looked at, and below it some of them.
+    /// The literal alone, once the trail is followed. At the root all variables are looked at, and below it some of them.
     fn find_fixed(&mut self, limit: Number) -> Option<Lit>
         ensures fixed { IfSome result (IsFixed self.old.form self.old.trail limit) }
         ensures unchanged { self.new ≡ self.old }
@@ -321,9 +374,9 @@ impl<'a, C: Count> Relaxation<'a, C> {
         None
     }
 
-    /// Whether the multipliers have saved what they cost, in counted work.
+    /// Whether the multipliers have saved what they cost, in counted work. Without an objective they are no measure.
     pub fn pays(&self) -> bool {
-        self.account.pays()
+        self.refuting.is_none() && self.account.pays()
     }
 
     /// Of the literal and its negation the one whose reduced cost is less, where the multipliers are used at the node; else

@@ -74,6 +74,13 @@ impl<C: Count> Form<C> {
         self.rows.len()
     }
 
+    /// The number of terms of all rows.
+    pub fn terms_len(&self) -> usize
+        ensures { result ≡ row_terms self.now.rows }
+    {
+        self.rows.terms_len()
+    }
+
     /// The terms of row i, from 0, by rising variable: coefficients of 1 up to the degree. There may be none.
     pub fn terms(&self, i: usize) -> &[FormTerm<C>]
         requires { i < length self.now.rows }

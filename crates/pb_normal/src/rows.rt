@@ -57,6 +57,13 @@ impl<C: Count> RowList<C> {
         self.spans.len()
     }
 
+    /// The number of terms of all rows.
+    pub fn terms_len(&self) -> usize
+        ensures { result ≡ row_terms self.now }
+    {
+        self.terms.len()
+    }
+
     pub fn degree(&self, i: usize) -> Tally<C>
         requires { i < length self.now }
         ensures { IsSomeAnd (slice_get self.now i) (λ row. row.degree ≡ result) }

@@ -132,25 +132,16 @@ impl<'a, C: Count> Rows<'a, C> {
     }
 }
 
-/// Where each literal of the rows occurs, row by row.
+/// Where each literal of the rows occurs, row by row. There is room for all of them at once, so the list never grows.
 fn entries_of<C: Count>(alloc: Global, form: &Form<C>) -> Result<Vec<Entry<C>>, Memory>
     ensures { IfOk result (λ entries. entries.items ≡ entries_from 0 form.now.rows (length form.now.rows)) }
 {
     let _vars = form.vars();
-    let mut entries = Vec::with_capacity(alloc, room(form))?;
+    let mut entries = Vec::with_capacity(alloc, form.terms_len())?;
     for row in 0..form.len() {
         push_entries(&mut entries, row as u32, form.terms(row))?;
     }
     Ok(entries)
-}
-
-/// How many entries the rows need: with that room the list never grows.
-fn room<C: Count>(form: &Form<C>) -> usize {
-    let mut room = 0_usize;
-    for row in 0..form.len() {
-        room = room.saturating_add(form.terms(row).len());
-    }
-    room
 }
 
 /// The limits of each row.

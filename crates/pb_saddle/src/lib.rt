@@ -24,5 +24,4 @@ mod shifting;
 mod sparse;
 mod step;
 
-pub use problem::count_terms;
 pub use saddle::Saddle;

@@ -7,7 +7,6 @@ use crate::sparse::{Lines, product};
 use pb_count::Count;
 use pb_dual::Multipliers;
 use pb_inst::{Lit, Memory};
-use pb_normal::Form;
 use std::alloc::Global;
 
 /// The least of the costs times x, where the matrix times x is at least what is needed, and each x is from 0 to 1. Column v
@@ -167,11 +166,26 @@ fn value<C: Count>(multipliers: &Multipliers<'_, C>, lit: Lit) -> Option<bool> {
     multipliers.value(lit)
 }
 
-/// The number of terms of all rows.
-pub fn count_terms<C: Count>(form: &Form<C>) -> u64 {
-    let mut count = 0_u64;
-    for row in 0..form.len() {
-        count = count.saturating_add(form.terms(row).len() as u64);
+/// Whether there is a row that the trail does not meet.
+pub fn has_row<C: Count>(multipliers: &Multipliers<'_, C>) -> bool {
+    for row in 0..multipliers.form().len() {
+        if !is_met(multipliers, row) {
+            return true;
+        }
     }
-    count
+    false
+}
+
+/// Whether the trail meets the row.
+fn is_met<C: Count>(multipliers: &Multipliers<'_, C>, row: usize) -> bool
+    requires { row < length multipliers.now.form.rows }
+{
+    let form = multipliers.form();
+    let mut need = form.degree(row).number();
+    for term in form.terms(row) {
+        if value(multipliers, term.lit()) == Some(true) {
+            need = need.saturating_sub(term.coef().number());
+        }
+    }
+    need == 0
 }

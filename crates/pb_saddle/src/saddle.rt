@@ -5,7 +5,7 @@ ghost use Rattle.pb_saddle.specs.Shifting.{IsSameButShifted};
 use crate::floats::{add, at, copy, float, number, put, refill};
 use crate::iterate::Iterate;
 use crate::plan::Plan;
-use crate::problem::{Problem, count_terms};
+use crate::problem::{Problem, has_row};
 use crate::restart::Restarts;
 use crate::scaling::{Scaling, VISITS};
 use crate::shifting::shift_to;
@@ -17,7 +17,7 @@ use pb_normal::Form;
 use std::alloc::Global;
 
 /// The most terms that a form may have: above, one call could make too few steps to be worth it, and nothing is proposed.
-const MOST_TERMS: u64 = 1_000_000;
+const MOST_TERMS: usize = 1_000_000;
 
 /// How many numbers one call looks at, at most: some tenths of a second.
 const MOST_VISITS: u64 = 100_000_000;
@@ -30,6 +30,17 @@ const NEAR: f64 = 1.0 / 64.0;
 
 /// The same as a part of the bound, where costs are great.
 const NEAR_PART: f64 = 1.0e-6;
+
+/// Which part of the bound a better one must gain for its multipliers to be taken. Where they gain less, as beside few rows that
+/// were stepped one by one, those are left as they are: theirs lie between the vertices of the dual, where more reduced costs
+/// tell which value is the better one.
+const LEAST_GAIN: f64 = 1.0 / 256.0;
+
+/// How far over 0 a bound is to be where nothing costs anything, so that it is none by rounding.
+const REFUTING: f64 = 1.0 / 64.0;
+
+/// Where nothing costs anything, the greatest of what the degrees promise is scaled up to this.
+const GREATEST_PROMISE: f64 = 1_099_511_627_776.0;
 
 /// The problem that a trail leaves, and where the method stands in it.
 pub struct Saddle {
@@ -71,10 +82,10 @@ impl Saddle {
     /// Room for the problems that trails leave of the form, where it has no more terms than are worth it. Fails where there
     /// is no memory; nothing after it takes any.
     pub fn new<C: Count>(alloc: Global, form: &Form<C>) -> Result<Saddle, Memory> {
-        let count = count_terms(form);
-        let is_open = count <= MOST_TERMS;
+        let terms = form.terms_len();
+        let is_open = terms <= MOST_TERMS;
         let (vars, rows, terms) = if is_open {
-            (form.vars() as usize, form.len(), count as usize)
+            (form.vars() as usize, form.len(), terms)
         } else {
             (0, 0, 0)
         };
@@ -93,8 +104,8 @@ impl Saddle {
     }
 
     /// Improves the multipliers for the trail as it is, by at most so many steps from where they are; none follows once their
-    /// bound is over the limit. They are shifted for good, each to the nearest of their numbers, and only where their bound
-    /// rises. Gives how many numbers were looked at.
+    /// bound is over the limit, and none is made where no row is left. They are shifted for good, each to the nearest of their
+    /// numbers, and only where their bound rises by a good part. Gives how many numbers were looked at.
     pub fn improve<C: Count>(
         &mut self,
         multipliers: &mut Multipliers<'_, C>,
@@ -103,7 +114,7 @@ impl Saddle {
     ) -> u64
         ensures { IsSameButShifted multipliers.old multipliers.new }
     {
-        if !self.is_open {
+        if !self.is_open || !has_row(multipliers) {
             return 0;
         }
         let scale = float(multipliers.scale().number());
@@ -111,9 +122,30 @@ impl Saddle {
         self.begin_at(multipliers, scale);
         let start = self.top;
         let end = start + float(multipliers.gap(limit).number()) / scale;
-        let visits = self.run(steps, end);
+        let visits = self.run(steps, end, NEAR);
         self.hold(multipliers.form().len());
-        if self.top > start {
+        let height = float(multipliers.height().number()) / scale;
+        if self.top - start > height * LEAST_GAIN {
+            self.adopt(multipliers, scale);
+        }
+        visits
+    }
+
+    /// Looks for multipliers by which nothing completes the trail, where nothing costs anything, by at most so many steps from 0
+    /// on. Multipliers are shifted for good, and only where such are found. Gives how many numbers were looked at.
+    pub fn refute<C: Count>(&mut self, multipliers: &mut Multipliers<'_, C>, steps: u32) -> u64
+        ensures { IsSameButShifted multipliers.old multipliers.new }
+    {
+        if !self.is_open || !has_row(multipliers) {
+            return 0;
+        }
+        self.load(multipliers);
+        self.begin_at_zero();
+        let visits = self.run(steps, REFUTING, 0.0);
+        self.hold(multipliers.form().len());
+        if self.top > REFUTING {
+            // Without costs they promise as many times more as they are greater, and are the less rounded.
+            let scale = GREATEST_PROMISE / self.greatest_promise(multipliers);
             self.adopt(multipliers, scale);
         }
         visits
@@ -127,7 +159,7 @@ impl Saddle {
         }
         self.load(multipliers);
         self.resume();
-        let visits = self.run(steps, f64::INFINITY);
+        let visits = self.run(steps, f64::INFINITY, NEAR);
         self.hold(multipliers.form().len());
         self.order(multipliers);
         visits
@@ -167,6 +199,13 @@ impl Saddle {
         self.begin();
     }
 
+    /// Begins at x = 0 and y = 0.
+    fn begin_at_zero(&mut self) {
+        refill(&mut self.x.current, self.problem.costs.len(), 0.0);
+        refill(&mut self.y.current, self.problem.ids.len(), 0.0);
+        self.begin();
+    }
+
     /// Begins at the last x and at the best y of the last call, as far as there are the same rows.
     fn resume(&mut self) {
         refill(&mut self.x.current, self.problem.costs.len(), 0.0);
@@ -188,9 +227,9 @@ impl Saddle {
         self.look();
     }
 
-    /// Makes so many steps, or fewer where the bound comes over the end or near to the greatest, or they would look at too
+    /// Makes so many steps, or fewer where the bound comes over the end or so near to the greatest, or they would look at too
     /// much. Gives at how many numbers they looked.
-    fn run(&mut self, steps: u32, end: f64) -> u64 {
+    fn run(&mut self, steps: u32, end: f64, near: f64) -> u64 {
         let size = self.problem.size();
         let mut visits = size.saturating_mul(VISITS);
         let mut restarts = Restarts::new();
@@ -204,7 +243,8 @@ impl Saddle {
                 .step(&self.problem, &self.scaling, &mut self.x, &mut self.y);
             if number % LOOK == LOOK - 1 {
                 visits = visits.saturating_add(size.saturating_mul(2));
-                if self.look() {
+                self.look();
+                if self.is_near(near) {
                     break;
                 }
             }
@@ -226,15 +266,19 @@ impl Saddle {
         self.y.reflect(part);
     }
 
-    /// Keeps the target of y as the best, if its bound is. Answers whether it is near to the greatest.
-    fn look(&mut self) -> bool {
+    /// Keeps the target of y as the best, if its bound is.
+    fn look(&mut self) {
         let bound = self.problem.bound(&self.y.target);
         if bound > self.top {
             self.top = bound;
             copy(&mut self.best, &self.y.target);
         }
+    }
+
+    /// Whether the best bound is so near to the greatest, about.
+    fn is_near(&self, near: f64) -> bool {
         let price = self.problem.price(&self.x.target, &self.y.target);
-        price - self.top <= NEAR + NEAR_PART * self.top.abs()
+        price - self.top <= near + NEAR_PART * self.top.abs()
     }
 
     /// Keeps the best y by the rows of the form, of which there are so many. Rows that the trail meets have 0.
@@ -253,6 +297,18 @@ impl Saddle {
             let nearest = number(at(&self.held, row) * scale + 0.5);
             shift_to(multipliers, row, Tally::nearest(nearest));
         }
+    }
+
+    /// The greatest of what the degrees promise by the best y.
+    fn greatest_promise<C: Count>(&self, multipliers: &Multipliers<'_, C>) -> f64 {
+        let mut greatest = 0.0;
+        for row in 0..multipliers.form().len() {
+            let promise = float(multipliers.form().degree(row).number()) * at(&self.held, row);
+            if promise > greatest {
+                greatest = promise;
+            }
+        }
+        greatest
     }
 
     /// Plans in which order the variables without a value are to be decided.

@@ -34,8 +34,8 @@ impl Steps {
 
     /// Steps in another problem: y as much longer than x as the costs are greater than the needs.
     pub fn begin(&mut self, problem: &Problem, scaling: &Scaling) {
-        let costs = length(&problem.costs, &scaling.columns);
-        let needs = length(&problem.needs, &scaling.rows);
+        let costs = squared_length(&problem.costs, &scaling.columns);
+        let needs = squared_length(&problem.needs, &scaling.rows);
         self.weight = if costs > 0.0 && needs > 0.0 {
             (costs / needs).sqrt()
         } else {
@@ -104,7 +104,7 @@ impl Steps {
 }
 
 /// The sum of the squares of the numbers, scaled.
-fn length(numbers: &[f64], scales: &[f64]) -> f64 {
+fn squared_length(numbers: &[f64], scales: &[f64]) -> f64 {
     let mut sum = 0.0;
     for (number, scale) in numbers.iter().zip(scales) {
         let scaled = *number * *scale;

@@ -8,7 +8,7 @@ use pb_count::Count;
 use pb_dual::Multipliers;
 use pb_inst::{Memory, Number};
 use pb_normal::Form;
-use pb_saddle::{Saddle, count_terms};
+use pb_saddle::Saddle;
 use std::alloc::Global;
 
 /// How often all rows are gone through at the first node, forwards and backwards in turn.
@@ -43,7 +43,7 @@ impl Passes {
     pub fn new<C: Count>(alloc: Global, form: &Form<C>) -> Result<Passes, Memory> {
         Ok(Passes {
             saddle: Saddle::new(alloc, form)?,
-            terms: count_terms(form),
+            terms: form.terms_len() as u64,
             nodes: 0,
             passes: 0,
         })
@@ -110,6 +110,13 @@ impl Passes {
         self.saddle.improve(multipliers, STEPS, limit);
         pass(multipliers, steps, false);
         pass(multipliers, steps, true);
+    }
+
+    /// Looks for multipliers by which nothing completes the trail, where nothing costs anything, by so many steps at most.
+    pub fn refute<C: Count>(&mut self, multipliers: &mut Multipliers<'_, C>, steps: u32)
+        ensures { IsSameButShifted multipliers.old multipliers.new }
+    {
+        self.saddle.refute(multipliers, steps);
     }
 }
 

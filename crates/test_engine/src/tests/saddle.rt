@@ -87,3 +87,22 @@ fn a_point_is_planned_by_what_it_leaves_open(rt: HostRuntime) {
         assert!(rt; is_lit(planned, *number));
     }
 }
+
+/// Whether multipliers refute that of three variables so many are true, and so many false.
+fn is_refuted(rt: &impl Abort, alloc: Global, some: Number, others: Number) -> bool {
+    let rows: &[(Terms<'_>, Number)] = &[
+        (&[(1, 1), (1, 2), (1, 3)], some),
+        (&[(1, -1), (1, -2), (1, -3)], others),
+    ];
+    let form: Form<u64> = form(rt, alloc, 3, &[], rows);
+    let mut multipliers = multipliers(rt, alloc, &form);
+    let mut saddle = Saddle::new(alloc, &form).expect(rt, "memory");
+    saddle.refute(&mut multipliers, 25);
+    multipliers.refutes()
+}
+
+#[test]
+fn what_nothing_meets_is_refuted(rt: HostRuntime) {
+    assert!(rt; is_refuted(&rt, rt.alloc(), 2, 2));
+    assert!(rt; !is_refuted(&rt, rt.alloc(), 2, 1));
+}
