@@ -57,7 +57,11 @@ fn expand_node<C: Count, S: Share>(
         return None;
     }
     let decided = last_decided(state, best);
-    if state.engine.propagate() == Step::Conflict {
+    let length = state.engine.trail_len();
+    let step = state.engine.propagate();
+    let added = state.engine.trail_len().saturating_sub(length);
+    state.root_work.probing.earn(added);
+    if step == Step::Conflict {
         learn_conflict(&mut state.order, &state.engine);
         learn(&mut state.order, decided, Some(0));
         return None;

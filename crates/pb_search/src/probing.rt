@@ -15,11 +15,20 @@ use crate::decisions::is_free;
 use pb_engine::{Count, EngineAt, Step};
 use pb_inst::{Best, Lit};
 
-/// How many literals trials may put on the trail for each variable, at first.
-const CREDIT_OF_A_VARIABLE: u64 = 16;
-
-/// How many more they may put there for each literal that failed.
+/// How many literals trials may put on the trail for each literal that failed.
 const CREDIT_OF_A_FAILURE: u64 = 4_096;
+
+/// How many they may put there at most before the next one fails.
+const MOST_CREDIT: u64 = 1 << 24;
+
+/// How many they may put there at least where a round begins.
+const LEAST_CREDIT: u64 = 64;
+
+/// The same where nothing is minimised.
+const LEAST_CREDIT_OF_A_DECISION: u64 = 2_048;
+
+/// How many times what was searched until then counts at the first conflict of a search in which nothing is minimised.
+const FIRST_CREDIT: u64 = 16;
 
 /// Which literal is tried next, and how many more may be.
 #[derive(Clone, Copy)]
@@ -28,21 +37,54 @@ pub struct Probing {
     place: u32,
     /// How many literals were passed since the round began, or one failed.
     pub passed: u32,
-    /// How many literals trials may still put on the trail.
+    /// How many literals trials may still put on the trail: as many as the search did, and more for those that failed.
     credit: u64,
+    /// How many they may put there at least where a round begins.
+    least: u64,
     /// How many trials the budget of the piece still has room for.
-    pub trials: u64,
+    trials: u64,
 }
 
 impl Probing {
     /// From the first literal on.
-    pub fn new(vars: u32) -> Probing {
+    pub fn new(is_decision: bool) -> Probing {
+        let least = if is_decision {
+            LEAST_CREDIT_OF_A_DECISION
+        } else {
+            LEAST_CREDIT
+        };
         Probing {
             place: 0,
             passed: 0,
-            credit: (vars as u64).saturating_mul(CREDIT_OF_A_VARIABLE),
+            credit: 0,
+            least,
             trials: 0,
         }
+    }
+
+    /// The search of a piece begins, whose budget has room for so many trials.
+    pub fn begin(&mut self, trials: u64) {
+        self.passed = 0;
+        self.credit = 0;
+        self.trials = trials;
+    }
+
+    /// The search put so many literals on the trail by propagation at a node, and one by the decision before it: trials may
+    /// put as many there.
+    pub fn earn(&mut self, literals: usize) {
+        let credit = self.credit.saturating_add(literals as u64).saturating_add(1);
+        self.credit = credit.min(MOST_CREDIT);
+    }
+
+    /// What was searched so far counts more.
+    pub fn raise(&mut self) {
+        let credit = self.credit.saturating_mul(FIRST_CREDIT);
+        self.credit = credit.min(MOST_CREDIT);
+    }
+
+    /// Whether so much was searched that a round may begin.
+    pub fn pays(&self) -> bool {
+        self.credit >= self.least
     }
 
     /// The literal to try next, of so many variables.
@@ -74,6 +116,9 @@ pub fn find_failed<C: Count>(
     ensures unchanged { engine.new ≡ engine.old }
     ensures budget { IsLeftOf left.old left.new }
 {
+    if probing.passed == 0 && !probing.pays() {
+        return None;
+    }
     let vars = engine.vars();
     for _ in probing.passed..vars.saturating_mul(2) {
         if probing.credit == 0 || probing.trials == 0 || *left == Some(0) {

@@ -11,7 +11,7 @@ ghost use Rattle.pb_search.specs.SearchState.{IsStateOf, IsAtSomePath, IsEngineO
 use crate::agreed_prefix::AgreedPrefix;
 use crate::branch::Branch;
 use crate::decisions::decision;
-use crate::fixing::one_sided;
+use crate::fixing::{judge_node, one_sided};
 use crate::probing::{Probing, find_failed};
 use crate::replay::{Replayed, note};
 use crate::search_state::SearchState;
@@ -21,8 +21,11 @@ use pb_inst::{Best, Lit, Memory, Number};
 use pb_normal::Form;
 use std::alloc::Global;
 
-/// How many variables there are at least where work at the root may pay.
+/// How many variables there are at least where work at the root may pay and nothing is minimised.
 const LEAST_VARIABLES: u32 = 512;
+
+/// How many decisions there are at least where a search that minimises steps back to its root.
+const LEAST_DECISIONS: usize = 20;
 
 /// One in so many of the decisions of a budget may be a trial at the root.
 const TRIALS_OF_A_BUDGET: u64 = 4;
@@ -34,7 +37,7 @@ pub struct RootWork {
     pub returns: u32,
     /// How many decisions, from the first on, are known to have no other value to try.
     prefix: usize,
-    /// Whether there are so many variables that work may pay.
+    /// Whether there are so many variables that work may pay though nothing is minimised.
     is_large: bool,
     /// Whether nothing is minimised.
     is_decision: bool,
@@ -42,7 +45,7 @@ pub struct RootWork {
     is_open: bool,
     /// The trail's length and the best cost where no literal failed in the last round.
     done: Option<(usize, Option<Number>)>,
-    probing: Probing,
+    pub probing: Probing,
     /// The decisions below the root that are made again, the next one last.
     pub replay: Vec<Replayed>,
 }
@@ -53,7 +56,7 @@ impl RootWork {
         let vars = form.vars();
         let is_large = vars >= LEAST_VARIABLES;
         let is_decision = form.objective().is_empty();
-        let room = if is_large && is_decision { vars } else { 0 };
+        let room = if is_large || !is_decision { vars } else { 0 };
         let replay = Vec::with_capacity(alloc, room as usize)?;
         Ok(RootWork {
             returns: 0,
@@ -62,7 +65,7 @@ impl RootWork {
             is_decision,
             is_open: false,
             done: None,
-            probing: Probing::new(vars),
+            probing: Probing::new(is_decision),
             replay,
         })
     }
@@ -73,11 +76,11 @@ impl RootWork {
         self.prefix = 0;
         self.is_open = false;
         self.done = None;
-        self.probing.passed = 0;
-        self.probing.trials = match left {
+        let trials = match left {
             Some(count) => count / TRIALS_OF_A_BUDGET,
             None => u64::MAX,
         };
+        self.probing.begin(trials);
         self.replay.clear();
     }
 
@@ -92,12 +95,24 @@ impl RootWork {
             return None;
         }
         self.returns -= 1;
-        self.is_open = self.is_large;
+        self.is_open = self.is_large || !self.is_decision;
         let prefix = self.prefix_of(path);
-        if !(self.is_large && self.is_decision && is_conflict) || prefix == path.len() {
+        if !self.pays(path, is_conflict) || prefix == path.len() {
             return None;
         }
         Some(prefix)
+    }
+
+    /// Whether the search pays for a step back to its root, by what it did so far. Where nothing is minimised the root is
+    /// worked on for its literals that fail alone, and never so soon again: what was searched counts more.
+    fn pays(&mut self, path: &[Branch], is_conflict: bool) -> bool
+        ensures { self.new.returns ≡ self.old.returns }
+    {
+        if self.is_decision {
+            self.probing.raise();
+            return self.is_large && is_conflict && self.probing.pays();
+        }
+        path.len() >= LEAST_DECISIONS && self.probing.pays()
     }
 
     /// How many decisions of the path, from the first on, have no other value to try.
@@ -150,6 +165,33 @@ pub fn work_at_root<C: Count>(
     found
 }
 
+/// A literal whose negation has nothing to give at the root, to which the search stepped back: one that the multipliers fix,
+/// since the best cost may be another one, or else one that the work at the root finds.
+fn literal_at_root<C: Count>(
+    state: &mut SearchState<'_, C>,
+    best: &Best<'_>,
+    agreed: &mut AgreedPrefix,
+    left: &mut Option<u64>,
+) -> Option<Lit>
+    requires engine { IsEngineOf best.now.problem state.old.engine }
+    requires sound { IsSoundTrail state.old.engine }
+    requires no_conflict { state.old.engine.conflict ≡ false }
+    requires known { KnowsHeldPrefix state.old.engine.trail best.now.held agreed.old }
+    ensures found { IfSome result (IsOpenOnOneSide best.now.problem state.old.engine best.now.held) }
+    ensures engine { state.new.engine ≡ state.old.engine }
+    ensures branches { state.new.branches ≡ state.old.branches }
+    ensures candidate { state.new.candidate ≡ state.old.candidate }
+    ensures returns { state.new.root_work.returns ≡ state.old.root_work.returns }
+    ensures known { KnowsHeldPrefix state.new.engine.trail best.now.held agreed.new }
+    ensures budget { IsLeftOf left.old left.new }
+{
+    let (_, _, fixed) = judge_node(&mut state.engine, best, agreed, left.is_some());
+    if let Some(lit) = fixed {
+        return Some(lit);
+    }
+    work_at_root(state, best, left)
+}
+
 /// Steps back to the root and works there. Gives the decision to make next: the first one of those that were taken back, where
 /// the work gives none.
 pub fn step_back_to_root<C: Count>(
@@ -171,7 +213,7 @@ pub fn step_back_to_root<C: Count>(
     ensures budget { IsLeftOf left.old left.new }
 {
     let first = step_back(state, count, best, agreed)?;
-    let Some(lit) = work_at_root(state, best, left) else {
+    let Some(lit) = literal_at_root(state, best, agreed, left) else {
         return Some(decision(first.lit, first.bound, first.hints));
     };
     note(&mut state.root_work.replay, &first);

@@ -2,7 +2,7 @@
 //! after every 256th decision.
 
 use super::instances::{
-    Row, cover, crowd_behind_ring, instance, nothing, ring, ring_cover, search_pieces,
+    Row, cover, crowd_behind_ring, instance, nothing, packing, ring, ring_cover, search_pieces,
 };
 use super::lenders::InTurn;
 use pb_cubes::{Pieces, split};
@@ -64,11 +64,12 @@ fn costs_and_occurrences_lead_the_search(rt: HostRuntime) {
     assert!(rt; count <= 450, "{count} decisions");
 }
 
-/// Without the bound of the multipliers five longer rings take over four hundred times as many decisions.
+/// Without the bound of the multipliers five longer rings take over a thousand times as many decisions, and where the search
+/// does not step back to its root at the first solution three times as many.
 #[test]
 fn multipliers_keep_long_rings_short(rt: HostRuntime) {
     let count = decisions_on_rings(&rt, rt.alloc(), &[80, 120, 160, 200, 240]);
-    assert!(rt; count <= 15_900, "{count} decisions");
+    assert!(rt; count <= 4_000, "{count} decisions");
 }
 
 /// The pairs of a ring on the variables after the first five, and clauses over these: the first one fails with either value.
@@ -92,6 +93,16 @@ fn literals_that_fail_are_fixed(rt: HostRuntime) {
     let failing = failing_behind_ring(&rt, alloc);
     let count = decisions(&rt, alloc, &failing);
     assert!(rt; count <= 228, "{count} decisions");
+}
+
+/// Thirteen things find no room in four bins of three each. Thing by thing two million decisions tell that; the multipliers do
+/// once the search has gone on for a while.
+#[test]
+fn a_packing_without_room_is_refuted(rt: HostRuntime) {
+    let alloc = rt.alloc();
+    let packing = packing(&rt, alloc, 13, 4, 3);
+    let count = decisions(&rt, alloc, &packing);
+    assert!(rt; count <= 2_820, "{count} decisions");
 }
 
 /// All cubes over the last nine of 49 variables.

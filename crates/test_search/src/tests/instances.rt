@@ -122,44 +122,56 @@ fn seat(after: i32, holes: i32, pigeon: i32, hole: i32) -> (Number, i32) {
     (1, after.wrapping_add(place).wrapping_add(1))
 }
 
-/// Each pigeon sits in a hole, and no two in one, though there is one pigeon more than holes.
-fn crowd(
-    rt: &impl Abort,
-    alloc: Global,
-    after: i32,
-    holes: i32,
-) -> Vec<(Vec<(Number, i32)>, Relation)> {
-    let mut sums = Vec::new(alloc);
-    let pigeons = holes.wrapping_add(1);
-    for pigeon in 0..pigeons {
+/// A clause for each pigeon: it sits in a hole.
+fn seat_clauses(rt: &impl Abort, alloc: Global, after: i32, holes: i32) -> Vec<Vec<(Number, i32)>> {
+    let mut clauses = Vec::new(alloc);
+    for pigeon in 0..=holes {
         let mut seats = Vec::new(alloc);
         for hole in 0..holes {
             seats
                 .push(seat(after, holes, pigeon, hole))
                 .expect(rt, "memory");
         }
-        sums.push((seats, Relation::AtLeast)).expect(rt, "memory");
+        clauses.push(seats).expect(rt, "memory");
     }
-    for hole in 0..holes {
-        let mut seats = Vec::new(alloc);
-        for pigeon in 0..pigeons {
-            seats
-                .push(seat(after, holes, pigeon, hole))
-                .expect(rt, "memory");
-        }
-        sums.push((seats, Relation::AtMost)).expect(rt, "memory");
-    }
-    sums
+    clauses
 }
 
-/// Adds the rows of these sums, whose bound is 1.
-fn add_sums<'a>(
+/// Adds a clause for each two pigeons: they do not sit both in this hole.
+fn add_pairs(
     rt: &impl Abort,
-    rows: &mut Vec<Row<'a>>,
-    sums: &'a [(Vec<(Number, i32)>, Relation)],
+    alloc: Global,
+    clauses: &mut Vec<Vec<(Number, i32)>>,
+    after: i32,
+    holes: i32,
+    hole: i32,
 ) {
-    for (sum, relation) in sums {
-        rows.push((sum.as_slice(), *relation, 1))
+    for pigeon in 0..=holes {
+        for other in 0..pigeon {
+            let (_, one) = seat(after, holes, pigeon, hole);
+            let (_, two) = seat(after, holes, other, hole);
+            let mut pair = Vec::new(alloc);
+            pair.push((1, one.wrapping_neg())).expect(rt, "memory");
+            pair.push((1, two.wrapping_neg())).expect(rt, "memory");
+            clauses.push(pair).expect(rt, "memory");
+        }
+    }
+}
+
+/// Each pigeon sits in a hole, and no two in one, though there is one pigeon more than holes. All of it is clauses, of which
+/// multipliers tell nothing.
+fn crowd(rt: &impl Abort, alloc: Global, after: i32, holes: i32) -> Vec<Vec<(Number, i32)>> {
+    let mut clauses = seat_clauses(rt, alloc, after, holes);
+    for hole in 0..holes {
+        add_pairs(rt, alloc, &mut clauses, after, holes, hole);
+    }
+    clauses
+}
+
+/// Adds the clauses as rows.
+fn add_clauses<'a>(rt: &impl Abort, rows: &mut Vec<Row<'a>>, clauses: &'a [Vec<(Number, i32)>]) {
+    for clause in clauses {
+        rows.push((clause.as_slice(), Relation::AtLeast, 1))
             .expect(rt, "memory");
     }
 }
@@ -173,9 +185,41 @@ pub fn crowd_behind_ring(
     holes: i32,
 ) -> Instance {
     let pairs = ring(rt, alloc, size, &[1, 2]);
-    let sums = crowd(rt, alloc, size, holes);
+    let clauses = crowd(rt, alloc, size, holes);
     let mut rows = pair_rows(rt, alloc, &pairs);
-    add_sums(rt, &mut rows, &sums);
+    add_clauses(rt, &mut rows, &clauses);
+    instance(rt, alloc, vars, &[], &rows)
+}
+
+/// The terms of the places from the first on, each so far behind the one before.
+fn places(rt: &impl Abort, alloc: Global, first: i32, step: i32, count: i32) -> Vec<(Number, i32)> {
+    let mut terms = Vec::new(alloc);
+    for number in 0..count {
+        let place = first.wrapping_add(number.wrapping_mul(step));
+        terms.push((1, place)).expect(rt, "memory");
+    }
+    terms
+}
+
+/// So many things, each of which lies in one of the bins, and no more than so many in one.
+pub fn packing(rt: &impl Abort, alloc: Global, things: i32, bins: i32, room: Number) -> Instance {
+    let mut sums = Vec::new(alloc);
+    for thing in 0..things {
+        let first = thing.wrapping_mul(bins).wrapping_add(1);
+        let sum = places(rt, alloc, first, 1, bins);
+        sums.push((sum, Relation::Equal, 1)).expect(rt, "memory");
+    }
+    for bin in 0..bins {
+        let sum = places(rt, alloc, bin.wrapping_add(1), bins, things);
+        sums.push((sum, Relation::AtMost, room))
+            .expect(rt, "memory");
+    }
+    let mut rows: Vec<Row<'_>> = Vec::new(alloc);
+    for (sum, relation, bound) in &sums {
+        rows.push((sum.as_slice(), *relation, *bound))
+            .expect(rt, "memory");
+    }
+    let vars = things.wrapping_mul(bins).unsigned_abs();
     instance(rt, alloc, vars, &[], &rows)
 }
 

@@ -14,15 +14,15 @@ returns-then-conflict-clause-closed g c = none_closed c.args.best.now.problem c.
 
 pub returns-then-eq-clause-closed : goal.returns-then-eq-clause-closed
 returns-then-eq-clause-closed g c =
-    let is : c.propagate.result ≡ Conflict = search rules in
-    let none = c.propagate.ensures.no_completion is in
-    let same : c.propagate.new.self.rows ≡ c.args.state.now.engine.rows = ap (λ (x : EngineState). x.rows) c.propagate.ensures.added in
-    none_closed c.args.best.now.problem c.propagate.new.self c.args.best.now.held (rw same none)
+    let is : c.propagate-step.result ≡ Conflict = search rules in
+    let none = c.propagate-step.ensures.no_completion is in
+    let same : c.propagate-step.new.self.rows ≡ c.args.state.now.engine.rows = ap (λ (x : EngineState). x.rows) c.propagate-step.ensures.added in
+    none_closed c.args.best.now.problem c.propagate-step.new.self c.args.best.now.held (rw same none)
 
 pub returns-then-eq-clause-same_branches : goal.returns-then-eq-clause-same_branches
 returns-then-eq-clause-same_branches g c = record {
-  constraints = same_constraints c.args.state.now.engine c.propagate.new.self c.propagate.new.self.trail c.args.state.now.engine.levels (is_conflict c.propagate.result) c.propagate.ensures.added;
-  assumptions = propagated c.args.state.now.engine c.propagate.new.self c.propagate.new.self.trail (is_conflict c.propagate.result) c.requires.sound c.propagate.ensures.added c.propagate.ensures.forced;
+  constraints = same_constraints c.args.state.now.engine c.propagate-step.new.self c.propagate-step.new.self.trail c.args.state.now.engine.levels (is_conflict c.propagate-step.result) c.propagate-step.ensures.added;
+  assumptions = propagated c.args.state.now.engine c.propagate-step.new.self c.propagate-step.new.self.trail (is_conflict c.propagate-step.result) c.requires.sound c.propagate-step.ensures.added c.propagate-step.ensures.forced;
   branches = refl;
   room = refl;
   returns = refl;
@@ -30,8 +30,8 @@ returns-then-eq-clause-same_branches g c = record {
 
 pub returns-then-eq-2-clause-same_branches : goal.returns-then-eq-2-clause-same_branches
 returns-then-eq-2-clause-same_branches g c = record {
-  constraints = same_constraints c.args.state.now.engine c.judge_node-pruning.new.engine c.propagate.new.self.trail c.args.state.now.engine.levels (is_conflict c.propagate.result) (c.judge_node-pruning.ensures.unchanged ∙ c.propagate.ensures.added);
-  assumptions = propagated c.args.state.now.engine c.judge_node-pruning.new.engine c.propagate.new.self.trail (is_conflict c.propagate.result) c.requires.sound (c.judge_node-pruning.ensures.unchanged ∙ c.propagate.ensures.added) c.propagate.ensures.forced;
+  constraints = same_constraints c.args.state.now.engine c.judge_node-pruning.new.engine c.propagate-step.new.self.trail c.args.state.now.engine.levels (is_conflict c.propagate-step.result) (c.judge_node-pruning.ensures.unchanged ∙ c.propagate-step.ensures.added);
+  assumptions = propagated c.args.state.now.engine c.judge_node-pruning.new.engine c.propagate-step.new.self.trail (is_conflict c.propagate-step.result) c.requires.sound (c.judge_node-pruning.ensures.unchanged ∙ c.propagate-step.ensures.added) c.propagate-step.ensures.forced;
   branches = refl;
   room = refl;
   returns = refl;
@@ -39,8 +39,8 @@ returns-then-eq-2-clause-same_branches g c = record {
 
 pub returns-in_default-next_decision-clause-same_branches : goal.returns-in_default-next_decision-clause-same_branches
 returns-in_default-next_decision-clause-same_branches g c = record {
-  constraints = same_constraints c.args.state.now.engine c.work_at_root.new.state.engine c.propagate.new.self.trail c.args.state.now.engine.levels (is_conflict c.propagate.result) ((c.work_at_root.ensures.engine ∙ c.judge_node-pruning.ensures.unchanged) ∙ c.propagate.ensures.added);
-  assumptions = propagated c.args.state.now.engine c.work_at_root.new.state.engine c.propagate.new.self.trail (is_conflict c.propagate.result) c.requires.sound ((c.work_at_root.ensures.engine ∙ c.judge_node-pruning.ensures.unchanged) ∙ c.propagate.ensures.added) c.propagate.ensures.forced;
+  constraints = same_constraints c.args.state.now.engine c.work_at_root.new.state.engine c.propagate-step.new.self.trail c.args.state.now.engine.levels (is_conflict c.propagate-step.result) ((c.work_at_root.ensures.engine ∙ c.judge_node-pruning.ensures.unchanged) ∙ c.propagate-step.ensures.added);
+  assumptions = propagated c.args.state.now.engine c.work_at_root.new.state.engine c.propagate-step.new.self.trail (is_conflict c.propagate-step.result) c.requires.sound ((c.work_at_root.ensures.engine ∙ c.judge_node-pruning.ensures.unchanged) ∙ c.propagate-step.ensures.added) c.propagate-step.ensures.forced;
   branches = c.work_at_root.ensures.branches;
   room = c.take_leaf.ensures.same_length ∙ ap (λ (a : List Bool). length a) c.work_at_root.ensures.candidate;
   returns = c.work_at_root.ensures.returns;
@@ -48,8 +48,8 @@ returns-in_default-next_decision-clause-same_branches g c = record {
 
 pub returns-clause-same_branches : goal.returns-clause-same_branches
 returns-clause-same_branches g c = record {
-  constraints = same_constraints c.args.state.now.engine c.work_at_root.new.state.engine c.propagate.new.self.trail c.args.state.now.engine.levels (is_conflict c.propagate.result) ((c.work_at_root.ensures.engine ∙ c.judge_node-pruning.ensures.unchanged) ∙ c.propagate.ensures.added);
-  assumptions = propagated c.args.state.now.engine c.work_at_root.new.state.engine c.propagate.new.self.trail (is_conflict c.propagate.result) c.requires.sound ((c.work_at_root.ensures.engine ∙ c.judge_node-pruning.ensures.unchanged) ∙ c.propagate.ensures.added) c.propagate.ensures.forced;
+  constraints = same_constraints c.args.state.now.engine c.work_at_root.new.state.engine c.propagate-step.new.self.trail c.args.state.now.engine.levels (is_conflict c.propagate-step.result) ((c.work_at_root.ensures.engine ∙ c.judge_node-pruning.ensures.unchanged) ∙ c.propagate-step.ensures.added);
+  assumptions = propagated c.args.state.now.engine c.work_at_root.new.state.engine c.propagate-step.new.self.trail (is_conflict c.propagate-step.result) c.requires.sound ((c.work_at_root.ensures.engine ∙ c.judge_node-pruning.ensures.unchanged) ∙ c.propagate-step.ensures.added) c.propagate-step.ensures.forced;
   branches = c.work_at_root.ensures.branches;
   room = ap (λ (a : List Bool). length a) c.work_at_root.ensures.candidate;
   returns = c.work_at_root.ensures.returns;
@@ -57,29 +57,29 @@ returns-clause-same_branches g c = record {
 
 pub returns-in-Some-clause-same_branches : goal.returns-in-Some-clause-same_branches
 returns-in-Some-clause-same_branches g c = record {
-  constraints = same_constraints c.args.state.now.engine c.judge_node-pruning.new.engine c.propagate.new.self.trail c.args.state.now.engine.levels (is_conflict c.propagate.result) (c.judge_node-pruning.ensures.unchanged ∙ c.propagate.ensures.added);
-  assumptions = propagated c.args.state.now.engine c.judge_node-pruning.new.engine c.propagate.new.self.trail (is_conflict c.propagate.result) c.requires.sound (c.judge_node-pruning.ensures.unchanged ∙ c.propagate.ensures.added) c.propagate.ensures.forced;
+  constraints = same_constraints c.args.state.now.engine c.judge_node-pruning.new.engine c.propagate-step.new.self.trail c.args.state.now.engine.levels (is_conflict c.propagate-step.result) (c.judge_node-pruning.ensures.unchanged ∙ c.propagate-step.ensures.added);
+  assumptions = propagated c.args.state.now.engine c.judge_node-pruning.new.engine c.propagate-step.new.self.trail (is_conflict c.propagate-step.result) c.requires.sound (c.judge_node-pruning.ensures.unchanged ∙ c.propagate-step.ensures.added) c.propagate-step.ensures.forced;
   branches = refl;
   room = refl;
   returns = refl;
 }
 
 pub returns-then-eq-clause-known : goal.returns-then-eq-clause-known
-returns-then-eq-clause-known g c = knows_added c.args.state.now.engine.rows c.args.state.now.engine.trail c.propagate.new.self.trail c.args.best.now.held c.args.agreed.now c.propagate.ensures.forced c.requires.known
+returns-then-eq-clause-known g c = knows_added c.args.state.now.engine.rows c.args.state.now.engine.trail c.propagate-step.new.self.trail c.args.best.now.held c.args.agreed.now c.propagate-step.ensures.forced c.requires.known
 
 pub judge_node-pruning-requires-clause-known : goal.judge_node-pruning-requires-clause-known
-judge_node-pruning-requires-clause-known g c = knows_added c.args.state.now.engine.rows c.args.state.now.engine.trail c.propagate.new.self.trail c.args.best.now.held c.args.agreed.now c.propagate.ensures.forced c.requires.known
+judge_node-pruning-requires-clause-known g c = knows_added c.args.state.now.engine.rows c.args.state.now.engine.trail c.propagate-step.new.self.trail c.args.best.now.held c.args.agreed.now c.propagate-step.ensures.forced c.requires.known
 
 pub judge_node-pruning-requires-clause-engine : goal.judge_node-pruning-requires-clause-engine
 judge_node-pruning-requires-clause-engine g c =
-    same_engine c.args.best.now.problem c.args.state.now.engine c.propagate.new.self
-    (same_constraints c.args.state.now.engine c.propagate.new.self c.propagate.new.self.trail c.args.state.now.engine.levels (is_conflict c.propagate.result) c.propagate.ensures.added)
+    same_engine c.args.best.now.problem c.args.state.now.engine c.propagate-step.new.self
+    (same_constraints c.args.state.now.engine c.propagate-step.new.self c.propagate-step.new.self.trail c.args.state.now.engine.levels (is_conflict c.propagate-step.result) c.propagate-step.ensures.added)
     c.requires.state.engine
 
 pub take_leaf-requires-clause-engine : goal.take_leaf-requires-clause-engine
 take_leaf-requires-clause-engine g c =
     same_engine c.args.best.now.problem c.args.state.now.engine c.work_at_root.new.state.engine
-    (same_constraints c.args.state.now.engine c.work_at_root.new.state.engine c.propagate.new.self.trail c.args.state.now.engine.levels (is_conflict c.propagate.result) ((c.work_at_root.ensures.engine ∙ c.judge_node-pruning.ensures.unchanged) ∙ c.propagate.ensures.added))
+    (same_constraints c.args.state.now.engine c.work_at_root.new.state.engine c.propagate-step.new.self.trail c.args.state.now.engine.levels (is_conflict c.propagate-step.result) ((c.work_at_root.ensures.engine ∙ c.judge_node-pruning.ensures.unchanged) ∙ c.propagate-step.ensures.added))
     c.requires.state.engine
 
 pub returns-then-conflict-clause-same_branches : goal.returns-then-conflict-clause-same_branches
@@ -110,16 +110,16 @@ pub returns-clause-own : goal.returns-clause-own
 returns-clause-own g c = inl refl
 
 pub returns-then-eq-2-clause-sound : goal.returns-then-eq-2-clause-sound
-returns-then-eq-2-clause-sound g c = subst (λ (e : EngineState). IsSoundTrail e) (sym c.judge_node-pruning.ensures.unchanged) c.propagate.ensures.sound
+returns-then-eq-2-clause-sound g c = subst (λ (e : EngineState). IsSoundTrail e) (sym c.judge_node-pruning.ensures.unchanged) c.propagate-step.ensures.sound
 
 pub take_leaf-requires-clause-sound : goal.take_leaf-requires-clause-sound
-take_leaf-requires-clause-sound g c = subst (λ (e : EngineState). IsSoundTrail e) (sym (c.work_at_root.ensures.engine ∙ c.judge_node-pruning.ensures.unchanged)) c.propagate.ensures.sound
+take_leaf-requires-clause-sound g c = subst (λ (e : EngineState). IsSoundTrail e) (sym (c.work_at_root.ensures.engine ∙ c.judge_node-pruning.ensures.unchanged)) c.propagate-step.ensures.sound
 
 pub returns-in_default-next_decision-clause-sound : goal.returns-in_default-next_decision-clause-sound
-returns-in_default-next_decision-clause-sound g c = subst (λ (e : EngineState). IsSoundTrail e) (sym (c.work_at_root.ensures.engine ∙ c.judge_node-pruning.ensures.unchanged)) c.propagate.ensures.sound
+returns-in_default-next_decision-clause-sound g c = subst (λ (e : EngineState). IsSoundTrail e) (sym (c.work_at_root.ensures.engine ∙ c.judge_node-pruning.ensures.unchanged)) c.propagate-step.ensures.sound
 
 pub returns-clause-sound : goal.returns-clause-sound
-returns-clause-sound g c = subst (λ (e : EngineState). IsSoundTrail e) (sym (c.work_at_root.ensures.engine ∙ c.judge_node-pruning.ensures.unchanged)) c.propagate.ensures.sound
+returns-clause-sound g c = subst (λ (e : EngineState). IsSoundTrail e) (sym (c.work_at_root.ensures.engine ∙ c.judge_node-pruning.ensures.unchanged)) c.propagate-step.ensures.sound
 
 pub returns-then-eq-2-clause-known : goal.returns-then-eq-2-clause-known
 returns-then-eq-2-clause-known g c = subst (λ (e : EngineState). KnowsHeldPrefix e.trail c.args.best.now.held c.judge_node-pruning.new.agreed) (sym c.judge_node-pruning.ensures.unchanged) c.judge_node-pruning.ensures.known
@@ -139,15 +139,15 @@ returns-in_default-next_decision-clause-own g c = c.take_leaf.ensures.own
 pub work_at_root-requires-clause-engine : goal.work_at_root-requires-clause-engine
 work_at_root-requires-clause-engine g c =
     same_engine c.args.best.now.problem c.args.state.now.engine c.judge_node-pruning.new.engine
-    (same_constraints c.args.state.now.engine c.judge_node-pruning.new.engine c.propagate.new.self.trail c.args.state.now.engine.levels (is_conflict c.propagate.result) (c.judge_node-pruning.ensures.unchanged ∙ c.propagate.ensures.added))
+    (same_constraints c.args.state.now.engine c.judge_node-pruning.new.engine c.propagate-step.new.self.trail c.args.state.now.engine.levels (is_conflict c.propagate-step.result) (c.judge_node-pruning.ensures.unchanged ∙ c.propagate-step.ensures.added))
     c.requires.state.engine
 
 pub returns-in-Some-work_at_root-clause-same_branches : goal.returns-in-Some-work_at_root-clause-same_branches
 returns-in-Some-work_at_root-clause-same_branches g c =
     let here = c.work_at_root.ensures.engine ∙ c.judge_node-pruning.ensures.unchanged in
     record {
-      constraints = same_constraints c.args.state.now.engine c.work_at_root.new.state.engine c.propagate.new.self.trail c.args.state.now.engine.levels (is_conflict c.propagate.result) (here ∙ c.propagate.ensures.added);
-      assumptions = propagated c.args.state.now.engine c.work_at_root.new.state.engine c.propagate.new.self.trail (is_conflict c.propagate.result) c.requires.sound (here ∙ c.propagate.ensures.added) c.propagate.ensures.forced;
+      constraints = same_constraints c.args.state.now.engine c.work_at_root.new.state.engine c.propagate-step.new.self.trail c.args.state.now.engine.levels (is_conflict c.propagate-step.result) (here ∙ c.propagate-step.ensures.added);
+      assumptions = propagated c.args.state.now.engine c.work_at_root.new.state.engine c.propagate-step.new.self.trail (is_conflict c.propagate-step.result) c.requires.sound (here ∙ c.propagate-step.ensures.added) c.propagate-step.ensures.forced;
       branches = c.work_at_root.ensures.branches;
       room = ap (λ (a : List Bool). length a) c.work_at_root.ensures.candidate;
       returns = c.work_at_root.ensures.returns;
@@ -157,8 +157,8 @@ pub returns-in-Some-next_replayed-clause-same_branches : goal.returns-in-Some-ne
 returns-in-Some-next_replayed-clause-same_branches g c =
     let here = c.work_at_root.ensures.engine ∙ c.judge_node-pruning.ensures.unchanged in
     record {
-      constraints = same_constraints c.args.state.now.engine c.work_at_root.new.state.engine c.propagate.new.self.trail c.args.state.now.engine.levels (is_conflict c.propagate.result) (here ∙ c.propagate.ensures.added);
-      assumptions = propagated c.args.state.now.engine c.work_at_root.new.state.engine c.propagate.new.self.trail (is_conflict c.propagate.result) c.requires.sound (here ∙ c.propagate.ensures.added) c.propagate.ensures.forced;
+      constraints = same_constraints c.args.state.now.engine c.work_at_root.new.state.engine c.propagate-step.new.self.trail c.args.state.now.engine.levels (is_conflict c.propagate-step.result) (here ∙ c.propagate-step.ensures.added);
+      assumptions = propagated c.args.state.now.engine c.work_at_root.new.state.engine c.propagate-step.new.self.trail (is_conflict c.propagate-step.result) c.requires.sound (here ∙ c.propagate-step.ensures.added) c.propagate-step.ensures.forced;
       branches = c.work_at_root.ensures.branches;
       room = ap (λ (a : List Bool). length a) c.work_at_root.ensures.candidate;
       returns = c.work_at_root.ensures.returns;

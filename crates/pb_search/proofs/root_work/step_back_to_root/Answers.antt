@@ -10,8 +10,8 @@ use Rattle.pb_search.proofs.root_work.step_back_to_root.Goals as goal
 pub returns-in_default-clause-next : goal.returns-in_default-clause-next
 returns-in_default-clause-next g c start h =
     let t = c.step_back.new.state in
-    let w = c.work_at_root.new.state in
-    let e = c.work_at_root.ensures in
+    let w = c.literal_at_root.new.state in
+    let e = c.literal_at_root.ensures in
     let sound : IsSoundTrail w.engine = subst (λ (x : EngineState). IsSoundTrail x) (sym e.engine) c.in_ok-first.ensures.at_path.at.sound in
     let under : IsUnderWay c.args.best.now.problem start w c.args.best.now.held = beside_work c.args.best.now.problem start t w c.args.best.now.held (same_place t w e.engine e.branches e.candidate e.returns) sound (c.in_ok-first.ensures.under_way start h) in
     let free : IsFree w.engine c.decision.result.lit = subst (λ (l : Literal). IsFree w.engine l) (sym c.decision.ensures.literal) (subst (λ (x : EngineState). IsFree x c.in_ok-first.first.lit) (sym e.engine) c.in_ok-first.ensures.free) in
@@ -20,8 +20,8 @@ returns-in_default-clause-next g c start h =
 pub returns-clause-next : goal.returns-clause-next
 returns-clause-next g c start h =
     let t = c.step_back.new.state in
-    let w = c.work_at_root.new.state in
-    let e = c.work_at_root.ensures in
+    let w = c.literal_at_root.new.state in
+    let e = c.literal_at_root.ensures in
     let work = w.root_work in
     let u : SearchState _ = record { engine = w.engine; branches = w.branches; candidate = w.candidate; order = w.order; root_work = record work { replay = c.note.new.replay } } in
     let sound : IsSoundTrail w.engine = subst (λ (x : EngineState). IsSoundTrail x) (sym e.engine) c.in_ok-first.ensures.at_path.at.sound in
