@@ -9,7 +9,7 @@ and clasp, minisat, cadical and sat4j for CNF; --peers names the ones that are w
 with a word on standard error. Each seconds are user and system time of the least of N runs. A program is stopped at the limit
 (20 unless it is told), which is rounded up to a second. Texts are written anew for programs that read less of OPB, before they run.
 
-The status is 1 where two programs told different answers, or two builds of pbcube different reports.
+The status is 1 where two programs told different answers, or two builds of pbcube different reports. It needs Python 3.10.
 """
 import argparse
 import math

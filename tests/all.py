@@ -29,6 +29,7 @@ class Step:
 
 STEPS = [
     Step("work", "tests/work.py"),
+    Step("proposals", "tests/proposals.py"),
     Step("library", "c/build --as-built"),
     Step("embedding", "tests/embedding.py --as-built", after="library"),
     Step("joins", "tests/joins.py"),

@@ -16,7 +16,7 @@ import tempfile
 from pathlib import Path
 
 sys.dont_write_bytecode = True
-from lib import TOP, side_by_side
+from lib import SECONDS, TOP, ran, side_by_side
 
 sys.path.insert(0, str(TOP / "bench"))
 from distribution import Distribution
@@ -58,8 +58,8 @@ COMMANDS = [f"make_small.py {family} 6" for family in FAMILIES] + [f"make_packag
 def made(command):
     """What the script prints, by a Python of its own."""
     script, *words = command.split()
-    ended = subprocess.run([sys.executable, TOP / "bench" / script, *words], stdin=subprocess.DEVNULL, capture_output=True, check=True)
-    return ended.stdout
+    command = [sys.executable, TOP / "bench" / script, *words]
+    return subprocess.run(command, stdin=subprocess.DEVNULL, capture_output=True, check=True, timeout=SECONDS).stdout
 
 
 def digest(text):
@@ -104,8 +104,8 @@ def peers(room, *outputs):
         words += ["--pbcube", f"b{n}={program}"]
     (room / "one.opb").write_bytes(made("make_small.py cover 6"))
     command = [sys.executable, TOP / "bench/peers.py", *words, "--peers", "", room / "one.opb"]
-    ended = subprocess.run(command, stdin=subprocess.DEVNULL, capture_output=True, text=True)
-    return ended.returncode, ended.stdout, ended.stderr
+    ended = ran(command)
+    return ended.status, ended.out, ended.err
 
 
 def faults_of_peers():

@@ -48,7 +48,7 @@ REQUESTS = {
     "garden": 146,
     "groups": 141,
     "knapsack": 129,
-    "long_row": 99,
+    "long_row": 131,
     "machines": 145,
     "met_rows": 144,
     "packages": 141,

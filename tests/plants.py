@@ -128,11 +128,11 @@ class Copy:
         status, said = self.run([f"tests/{script}.py", self.unproved_program(name)])
         return said.splitlines()[0] if status else None
 
-    def unproved_program(self, name):
-        """The program of this name, compiled without proof."""
+    def unproved_program(self, name, level=2):
+        """The program of this name, compiled without proof and optimized so much."""
         program = self.built / name
         program.unlink(missing_ok=True)
-        status, said = self.run(["build/unproved", name, program])
+        status, said = self.run(["build/unproved", name, program, str(level)])
         if status:
             sys.exit(f"plants: {name} was not compiled:\n{said}")
         return program

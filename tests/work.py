@@ -46,7 +46,7 @@ class Today:
 
 
 TODAY = {
-    "aside": Today(55_000, 94),
+    "aside": Today(44_443, 94),
     "assignment": Today(71_300, 115),
     "chain": Today(5_500, 91),
     "clauses": Today(33_900, 90),
@@ -54,17 +54,17 @@ TODAY = {
     "cubes": Today(5_200, 311),
     "cubes_of_a_contradiction": Today(0, 343),
     "cubes_of_last_variables": Today(43_900, 154),
-    "descent": Today(66_300, 113),
+    "descent": Today(30_554, 110),
     "garden": Today(64_900, 119),
     "groups": Today(5_500, 108),
     "knapsack": Today(4_100, 96),
-    "long_row": Today(12_100, 69),
+    "long_row": Today(12_100, 102),
     "machines": Today(83_900, 118),
-    "met_rows": Today(45_400, 115),
+    "met_rows": Today(37_220, 116),
     "packages": Today(99_300, 114),
     "short_knapsack": Today(36_300, 100),
     "two_sides": Today(108_900, 115),
-    "unconstrained": Today(24_000, 75),  # no longer comment was tried, so this bound may be loose
+    "unconstrained": Today(56_665, 78),
     "wide_knapsack": Today(0, 98),
 }
 

@@ -28,15 +28,6 @@ fn prepare(
     })
 }
 
-/// The number of terms of all rows.
-fn terms<C: Count>(form: &Form<C>) -> u64 {
-    let mut terms = 0_u64;
-    for row in 0..form.len() {
-        terms = terms.saturating_add(form.terms(row).len() as u64);
-    }
-    terms
-}
-
 /// The next word, as a number.
 fn number(words: &mut env::Args) -> anyhow::Result<u32> {
     let word = words.next().context("a number")?;
@@ -66,7 +57,7 @@ fn measure<C: Count>(
     course: Course,
     rounds: u32,
 ) -> anyhow::Result<()> {
-    println!(rt; "{} rows, {} terms", form.len(), terms(form))?;
+    println!(rt; "{} rows, {} terms", form.len(), form.terms_len())?;
     if rounds == 0 {
         return Ok(());
     }
