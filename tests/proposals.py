@@ -4,7 +4,7 @@
     tests/proposals.py
 
 In a copy of the repository each proposer of tests/proposals/ draws: the multipliers, the order and the values of decisions, what
-is tried at the root, when the search steps back to it, and the hints of a decision. Constants that put such work off are as small
+is tried at the root, when the search steps back further, and the hints of a decision. Constants that put such work off are as small
 there as may be. `bench_work` of the copy is compiled without proof and solves drawn instances of 2 to 12 variables, with and
 without an objective, many with numbers of 128 bits. The report must be that of the listing, whatever is drawn.
 
@@ -51,7 +51,7 @@ LINES = {  # what they become in the copy
     ("pb_inst/src/lib.rt", "mod cubes;"): "mod cubes;\nmod draws;",
     ("pb_inst/src/lib.rt", "pub use cubes::Cube;"): "pub use cubes::Cube;\npub use draws::{drawn, drawn_multiplier};",
     ("pb_lagrange/src/relaxation/passes.rt", "        self.nodes == LONG_PATIENCE"): "        self.nodes % 4 == 1",
-    ("pb_search/src/root_work.rt", "        self.returns = 1;"): "        self.returns = 3;",
+    ("pb_search/src/root_work.rt", "        self.returns = u32::MAX;"): "        self.returns = 3;",
     (f"{PROGRAM}/src/main.rt", "        split: 0,"): "        split: (text.len() % 3) as u32,",
 }
 

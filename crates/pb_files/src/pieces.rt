@@ -125,7 +125,11 @@ fn put_index<'a, F: Folders>(
 }
 
 /// Makes the file of this name with these bytes.
-fn put_file<'a, F: Folders>(folders: &mut F, file: String, text: &[u8]) -> Result<(), PiecesFault<'a>>
+fn put_file<'a, F: Folders>(
+    folders: &mut F,
+    file: String,
+    text: &[u8],
+) -> Result<(), PiecesFault<'a>>
     ensures { OnOk result (F.writes folders.old (string_bytes file) text.now folders.new) }
 {
     match folders.write_new(&file, text) {

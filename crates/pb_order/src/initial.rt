@@ -20,8 +20,9 @@ const SCALE: Score = HALF_SCALE * HALF_SCALE;
 const HALF_SCALE: Score = 4096;
 
 /// An activity for each variable. It begins as less than that of one conflict, by the variable's score: (1 + cost / mean
-/// cost) times the sum of coefficient / degree over the variable's rows. A conflict adds 1 + cost / mean cost. Where cubes
-/// are to be false, their variables begin before all others, by falling number of occurrences in them.
+/// cost) times the sum of coefficient / degree over the variable's rows. A conflict adds 1 + cost / mean cost. Where few
+/// variables have a cost, these begin before the others. Where cubes are to be false, their variables begin before all others,
+/// by falling number of occurrences in them.
 pub fn initial_activities<C: Count>(
     alloc: Global,
     form: &Form<C>,
@@ -30,6 +31,7 @@ pub fn initial_activities<C: Count>(
     let scores = static_scores(alloc, form)?;
     let mut activities = activities_of(alloc, &scores)?;
     add_costs(&mut activities, form.objective());
+    lead_by_costs(&mut activities, form.objective());
     // The clauses of the remainder speak of the cubes' variables alone, so with these decided first they soon propagate.
     let counts = occurrences(alloc, form.vars(), negated)?;
     give_head_starts(&mut activities, &counts);
@@ -88,6 +90,22 @@ fn add_costs<C: Count>(activities: &mut [VariableActivity], objective: &[FormTer
     }
 }
 
+/// Adds to the activity of each variable with a cost what a conflict adds, where few have one. Decided first they tell early
+/// what the rest will cost; where most have a cost that would leave the rows' order out of the count.
+fn lead_by_costs<C: Count>(activities: &mut [VariableActivity], objective: &[FormTerm<C>]) {
+    if objective.len() > activities.len() / VARIABLES_OF_A_COST {
+        return;
+    }
+    for term in objective {
+        if let Some(entry) = activities.get_mut(term.lit().var() as usize - 1) {
+            entry.activity = entry.activity.saturating_add(HEAD_START);
+        }
+    }
+}
+
+/// How many variables there are at least for each that has a cost where these begin before the others.
+const VARIABLES_OF_A_COST: usize = 4;
+
 /// Adds to the activities of the variables that occur, for each time what a conflict adds.
 fn give_head_starts(activities: &mut [VariableActivity], counts: &[Activity]) {
     for i in 0..counts.len() {
@@ -98,7 +116,7 @@ fn give_head_starts(activities: &mut [VariableActivity], counts: &[Activity]) {
     }
 }
 
-/// What each occurrence in a cube that is to be false adds to the initial activity.
+/// What each occurrence in a cube that is to be false, or a cost where few variables have one, adds to the initial activity.
 const HEAD_START: Activity = BUMP;
 
 /// The score of each variable, before any conflict.

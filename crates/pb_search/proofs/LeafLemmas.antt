@@ -1,5 +1,5 @@
 -- Full trails, and subtrees that may be left.
-use Rattle.std.proofs.Common.{◌≡◌, ◌≢◌, ℕ, ◌+◌, ◌-◌, ◌≤◌, List, length, refl, sym, ◌∙◌, ap, subst, arith, Bool, true, false, cond, inl, inr, ◌⊎◌, Option, None, Some}
+use Rattle.std.proofs.Common.{◌≡◌, ◌≢◌, ℕ, ◌+◌, ◌-◌, ◌<◌, ◌≤◌, List, length, refl, sym, ◌∙◌, ap, subst, arith, Bool, true, false, cond, inl, inr, ◌⊎◌, Option, None, Some}
 use Rattle.std.specs.Prelude.{slice_index_or, unwrap_or, ℤ, ◌≤ℤ◌, ◌<ℤ◌, IsSomeAnd, IfSome}
 use Rattle.std.specs.Option.{option_map}
 use Rattle.std.proofs.lemmas.List.{ext_get_or}
@@ -13,6 +13,7 @@ use Rattle.pb_inst.specs.Order.{IsBefore}
 use Rattle.pb_inst.specs.Cubes.{MakesTrue}
 use Rattle.pb_inst.specs.Incumbent.{Incumbent, Solution, IsSolution, solution_of}
 use Rattle.pb_inst.proofs.OrderProofs.{none_before_itself}
+use Rattle.pb_inst.proofs.SumProofs.{literal_cases}
 use Rattle.pb_normal.specs.NormalForm.{normal_cost}
 use Rattle.pb_engine.specs.Trail.{value_on}
 use Rattle.pb_engine.specs.EngineState.{EngineState}
@@ -20,7 +21,7 @@ use Rattle.pb_engine.specs.Fixing.{IsBelowCompletions, IsForcedWithin}
 use Rattle.pb_engine.specs.Soundness.{IsFull, IsSolved, IsSoundTrail}
 use Rattle.pb_search.specs.Held.{IsImprovement}
 use Rattle.pb_search.specs.Solutions.{Completes}
-use Rattle.pb_search.specs.SearchState.{IsEngineOf, IsFilledFrom, IsClosed, IsOpenOnOneSide, IsNotBefore, DifferAt, HasOnesWithin, bit_on}
+use Rattle.pb_search.specs.SearchState.{IsEngineOf, IsFilledFrom, IsClosed, IsOpenOnOneSide, IsNotBefore, IsTied, IsTiedWith, DifferAt, HasOnesWithin, bit_on}
 use Rattle.pb_search.proofs.HeldLemmas.{IsTaken}
 use Rattle.pb_search.proofs.Engines.{value_on-true, value_on-entry}
 
@@ -177,3 +178,38 @@ held_is (Some s) c a h k =
     let cost_is : s.cost ≡ c = cc in
     let assignment_is : s.assignment ≡ a = cc in
     ap (λ (x : ℤ). Some (record { cost = x; assignment = s.assignment })) cost_is ∙ ap (λ (x : List Bool). Some (record { cost = c; assignment = x })) assignment_is
+
+-- a bound that is no less than the best cost, and the ones before a variable
+pub tied_at : (p : Problem) (s : EngineState) (bound : ℤ) (t : Solution) (var : ℕ) → IsEngineOf p s → IsBelowCompletions s bound → IsSolution p t → t.cost ≤ℤ bound → HasOnesWithin s.trail t.assignment 0 (var - 1) → IsTied p s (Some t) var
+tied_at p s bound t var engine low sound over ones = record {
+  no_less = λ a h. (let at_most : bound ≤ℤ normal_cost s.form a = low a (record { makes_true = h.makes_true; meets_rows = h.solution.meets_rows }) in let same : normal_cost s.form a ≡ cost p a = engine.costs a in let is : t.cost ≡ cost p t.assignment = sound.cost_is in omega (arith, ints));
+  ones = ones;
+}
+
+-- a false negated literal
+one_of_false : (sign value : Bool) → sign ≡ false → cond sign (cond value 1 0) (1 - cond value 1 0) ≡ 0 → value ≡ true
+one_of_false true value e h = cc
+one_of_false false true e h = refl
+one_of_false false false e h = cc
+
+-- at a tie, a 1 before the first difference where the assignment has 0 comes too late
+tied_one_sided : (p : Problem) (s : EngineState) (b a : List Bool) (var : ℕ) (l : Literal) → IsTiedWith p s b var → l.positive ≡ false → 1 ≤ l.var → l.var < var → at b (l.var - 1) ≡ false → Completes s a → IsBefore p a b → literal_value a l ≡ 1
+tied_one_sided p s b a var l tied sign some low zero h (inl less) = let at_least : cost p b ≤ℤ cost p a = tied.no_less a h in absurd (omega (arith, ints))
+tied_one_sided p s b a var l tied sign some low zero h (inr equal) = elim (literal_cases a l) [
+  | inl one ↦ one
+  | inr none ↦ absurd (elim (cases_lt equal.1.place (var - 1)) [
+    | inl lt ↦ not_both (at a equal.1.place) (true_within s.trail a h.makes_true equal.1.place (tied.ones equal.1.place (omega arith) lt equal.1.second_has_one)) equal.1.first_has_zero
+    | inr rest ↦ not_both (at b (l.var - 1)) (sym (equal.1.same_before (l.var - 1) (omega arith)) ∙ one_of_false l.positive (at a (l.var - 1)) sign none) zero
+  ])
+]
+
+-- so the literal with 0 there has one side, where it has no value
+pub tied_open : (p : Problem) (s : EngineState) (held : Option Solution) (b : List Bool) (var : ℕ) (l : Literal) → option_map (λ (t : Solution). t.assignment) held ≡ Some b → IsTied p s held var → l.positive ≡ false → 1 ≤ l.var → l.var < var → at b (l.var - 1) ≡ false → l.var ≤ s.vars → value_on s.trail l.var ≡ None → IsOpenOnOneSide p s held l
+tied_open p s None b var l is tied sign some low zero variable free = absurd tied
+tied_open p s (Some t) b var l is tied sign some low zero variable free =
+    let same : t.assignment ≡ b = cc in
+    record {
+      variable = variable;
+      no_value = free;
+      one_sided = λ a h better. tied_one_sided p s t.assignment a var l tied sign some low (ap (λ (x : List Bool). at x (l.var - 1)) same ∙ zero) h better;
+    }

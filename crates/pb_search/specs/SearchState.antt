@@ -1,8 +1,8 @@
 -- What the state of a search keeps true.
-use Rattle.std.specs.Prelude.{◌≡◌, ℕ, ◌+◌, ◌-◌, ◌<◌, ◌≤◌, Bool, true, false, List, [], ◌∷◌, ◌++◌, length, All, ◌⊎◌, IsSomeAnd, Option, None, Some, vec_capacity, slice_index_or, unwrap_or}
+use Rattle.std.specs.Prelude.{◌≡◌, ℕ, ◌+◌, ◌-◌, ◌<◌, ◌≤◌, ◌≤ℤ◌, Bool, true, false, List, [], ◌∷◌, ◌++◌, length, All, ◌⊎◌, IsSomeAnd, Option, None, Some, vec_capacity, slice_index_or, unwrap_or}
 use Rattle.pb_inst.specs.Literal.{Literal}
 use Rattle.pb_inst.specs.Problem.{Problem}
-use Rattle.pb_inst.specs.Meaning.{IsFeasible, literal_value}
+use Rattle.pb_inst.specs.Meaning.{IsFeasible, cost, literal_value}
 use Rattle.pb_inst.specs.Order.{IsLexBefore}
 use Rattle.pb_inst.specs.Cubes.{MakesTrue}
 use Rattle.pb_inst.specs.Incumbent.{Incumbent, Solution}
@@ -80,6 +80,15 @@ HasOnesWithin trail a start end = (k : ℕ) → start ≤ k → k < end → slic
 -- whoever makes the trail true does not come before the assignment by its variables
 abbrev pub IsNotBefore : List Literal → List Bool → Type 0
 IsNotBefore trail b = (a : List Bool) → MakesTrue a trail → ¬ IsLexBefore a b
+
+-- no completion of the trail costs less than the assignment, and before the variable each 1 of it is on the trail
+pub record IsTiedWith (p : Problem) (s : EngineState) (b : List Bool) (var : ℕ) : Type 0 where
+  pub no_less : (a : List Bool) → Completes s a → cost p b ≤ℤ cost p a
+  pub ones : HasOnesWithin s.trail b 0 (var - 1)
+
+-- the same of the assignment that is held
+abbrev pub IsTied : Problem → EngineState → Option Solution → ℕ → Type 0
+IsTied p s held var = IsSomeAnd held (λ t. IsTiedWith p s t.assignment var)
 
 -- no completion of the trail is before what is held
 abbrev pub IsClosed : Problem → EngineState → Option Solution → Type 0

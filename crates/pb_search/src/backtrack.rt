@@ -55,6 +55,7 @@ pub fn backtrack<C: Count>(
     ensures finished { IfNone result ((start : EngineState) → IsLeaving best.now.problem start state.old best.now.held → IsSearched best.now.problem start best.now.held) }
     ensures made_for { IsStateOf best.now.problem state.new }
     ensures constraints { SameConstraints state.old.engine state.new.engine }
+    ensures returns { state.new.root_work.returns ≡ state.old.root_work.returns }
     ensures known { KnowsHeldPrefix state.new.engine.trail best.now.held agreed.new }
 {
     while let Some(branch) = undo_decision(&mut state.engine, &mut state.branches, best, agreed) {

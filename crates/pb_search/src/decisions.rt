@@ -13,7 +13,8 @@ use pb_order::Order;
 
 /// A decision of a variable without a value, or none where every variable has one. Any such decision is right. Where the
 /// bound equals the best cost, the lowest variable up to the first difference to the best assignment comes first, 0
-/// first, so that the order of assignments soon decides; else the literals come in their order.
+/// first, so that the order of assignments soon decides, and where nothing objects so do those behind it; else the literals
+/// come in their order.
 pub fn next_decision<C: Count>(
     engine: &EngineAt<'_, C>,
     vars: u32,
@@ -21,6 +22,7 @@ pub fn next_decision<C: Count>(
     hints: Hints,
     pruning: Pruning,
     bound: Option<Number>,
+    is_calm: bool,
 ) -> Option<Branch>
     requires variables { vars ≡ engine.now.vars }
     requires few { vars ≤ MAX_VARS }
@@ -31,6 +33,7 @@ pub fn next_decision<C: Count>(
     // At a tie a completion that comes before the best assignment is the same as it up to this variable, where it has 0.
     // With the lowest variable decided first, and 0 first, every other value before it closes its subtree at once.
     let end = match pruning {
+        Pruning::Tied(_) if is_calm => vars,
         Pruning::Tied(var) => var.min(vars),
         _ => 0,
     };
@@ -117,7 +120,7 @@ fn lowest_free<C: Count>(engine: &EngineAt<'_, C>, count: u32) -> Option<Lit>
 
 /// How many variables come before the first one, after the first `from`, that has no value; where none of the first `end`
 /// is without one, `end` or `from`.
-fn settled_from<C: Count>(engine: &EngineAt<'_, C>, from: u32, end: u32) -> u32
+pub fn settled_from<C: Count>(engine: &EngineAt<'_, C>, from: u32, end: u32) -> u32
     requires variables { end ≤ engine.now.vars }
     ensures free { result < end → value_on engine.now.trail (result + 1) ≡ None }
     ensures settled { (k : ℕ) → from ≤ k → k < result → value_on engine.now.trail (k + 1) ≢ None }

@@ -7,18 +7,19 @@ ghost use Rattle.pb_search.specs.AgreedPrefix.{KnowsHeldPrefix};
 
 use crate::agreed_prefix::AgreedPrefix;
 use crate::branch::{Branch, Hints};
-use crate::pruning::{Pruning, check_multipliers, check_rows, judge_bound};
+use crate::pruning::{Pruning, check_multipliers, check_rows, judge_bound, tied_literal};
 use pb_engine::{Count, EngineAt, Fixed};
 use pb_inst::{Best, Lit, Number};
 
 /// What the bound says of the subtree below the trail, the bound itself, and a literal without a value whose negation has
-/// nothing to give: none where none is known. Once something is held a bound is compared in each call; where decisions are
+/// nothing to give: none where none is known. At a tie the lowest variables come first. Once something is held a bound is compared in each call; where decisions are
 /// counted that of disjoint rows is among them.
 pub fn judge_node<C: Count>(
     engine: &mut EngineAt<'_, C>,
     best: &Best<'_>,
     agreed: &mut AgreedPrefix,
     is_counted: bool,
+    hints: &mut Hints,
 ) -> (Pruning, Option<Number>, Option<Lit>)
     requires engine { IsEngineOf best.now.problem engine.old }
     requires known { KnowsHeldPrefix engine.old.trail best.now.held agreed.old }
@@ -48,6 +49,10 @@ pub fn judge_node<C: Count>(
     let (pruning, bound) = check_multipliers(engine, best, agreed, pruning, bound);
     if pruning == Pruning::Closed {
         return (pruning, bound, None);
+    }
+    if let Some(lit) = tied_literal(engine, best, pruning, hints.settled) {
+        hints.settled = lit.var() - 1;
+        return (pruning, bound, Some(lit));
     }
     let fixed = fixed_literal(engine, best);
     match fixed {

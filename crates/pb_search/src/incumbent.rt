@@ -27,12 +27,13 @@ fn fill<C: Count>(engine: &EngineAt<'_, C>, into: &mut Assignment)
 }
 
 /// At a full trail that meets all constraints: hands its assignment to the incumbent, and an improvement to the share.
+/// Answers whether it was one.
 pub fn take_leaf<C: Count, S: Share>(
     engine: &EngineAt<'_, C>,
     candidate: &mut Assignment,
     best: &mut Best<'_>,
     share: &mut S,
-)
+) -> bool
     requires engine { IsEngineOf best.old.problem engine.now }
     requires room { length candidate.old ≡ best.old.problem.vars }
     requires full { IsFull engine.now }
@@ -47,11 +48,12 @@ pub fn take_leaf<C: Count, S: Share>(
 {
     fill(engine, candidate);
     if !best.take(candidate) {
-        return;
+        return false;
     }
     if let Some(cost) = best.cost() {
         share.offer(cost, candidate);
     }
+    true
 }
 
 /// Asks the share for an assignment, and takes it over where it is feasible and an improvement. Answers whether it did.

@@ -5,7 +5,8 @@
 //! propagates, `pruning` asks whether the subtree may be left, and `decisions` names the one (`branch`) to make next, by
 //! the order of pb_order. Where there is none, `incumbent` takes the full trail, and `backtrack` goes back to a decision
 //! whose other value is still to be tried. Conflicts, and what decisions did to the bound, are told to the order
-//! (`learning`).
+//! (`learning`). `root_work` says when the search takes more decisions back (`step_back`): to try literals at the root
+//! (`probing`), from where it makes them again (`replay`), or since ties alone are left below them (`ties`).
 #![tactic(auto)]
 
 mod agreed_prefix;
@@ -29,6 +30,7 @@ mod search_state;
 mod share;
 mod step_back;
 mod tables;
+mod ties;
 
 pub use outcome::Outcome;
 pub use search::Search;

@@ -21,8 +21,9 @@ use crate::learning::{gap_left, last_decided, learn, learn_conflict};
 use crate::outcome::Outcome;
 use crate::pruning::Pruning;
 use crate::replay::next_replayed;
-use crate::root_work::{step_back_to_root, work_at_root};
+use crate::root_work::work_at_root;
 use crate::search_state::SearchState;
+use crate::step_back::step_back;
 use pb_engine::{Count, Step};
 use pb_inst::Best;
 
@@ -68,34 +69,56 @@ fn expand_node<C: Count, S: Share>(
     }
     // The bound is asked for after propagation alone: it counts what the trail forces, and a node that ends in a conflict
     // never pays for it.
-    let (pruning, bound, fixed) = judge_node(&mut state.engine, best, agreed, left.is_some());
+    let mut hints = state.hints();
+    let (pruning, bound, fixed) = judge_node(
+        &mut state.engine,
+        best,
+        agreed,
+        left.is_some(),
+        &mut hints,
+    );
     let gap = gap_left(&state.engine, best, pruning);
     learn(&mut state.order, decided, gap);
     if pruning == Pruning::Closed {
         return None;
     }
-    let (vars, hints) = (state.candidate.len(), state.hints());
     if let Some(lit) = fixed {
         return Some(one_sided(lit, bound, hints));
     }
-    if let Some(lit) = work_at_root(state, best, left) {
+    if let Some(lit) = work_at_root(state, best, pruning, bound, left) {
         return Some(one_sided(lit, bound, hints));
     }
-    if let Some(branch) = next_replayed(&state.engine, vars, &mut state.root_work.replay, bound) {
+    let vars = state.candidate.len();
+    let replay = &mut state.root_work.replay;
+    if let Some(branch) = next_replayed(&state.engine, vars, replay, pruning, bound) {
         return Some(branch);
     }
     state.order.lead_by_gains(state.engine.multipliers_pay());
-    let Some(branch) = next_decision(&state.engine, vars, &mut state.order, hints, pruning, bound)
-    else {
-        take_leaf(&state.engine, &mut state.candidate, best, share);
+    let is_calm = state.root_work.ties.is_calm;
+    let next = next_decision(
+        &state.engine,
+        vars,
+        &mut state.order,
+        hints,
+        pruning,
+        bound,
+        is_calm,
+    );
+    let Some(branch) = next else {
+        let has_improved = take_leaf(&state.engine, &mut state.candidate, best, share);
+        state.root_work.ties.has_improved = has_improved;
         agreed.begin_again(best);
         return None;
     };
+    state
+        .root_work
+        .ties
+        .note(pruning, branch.lit, state.branches.len());
     Some(branch)
 }
 
-/// Expands the node where the search stands. Where nothing is left below it the search backtracks, or the first time steps
-/// back to its root. Gives the decision to make next, or none where the search is finished.
+/// Expands the node where the search stands. Where nothing is left below it the search backtracks, or steps back further and
+/// goes on from there. Gives the decision to make next, or none where the search is finished.
 fn next_branch<C: Count, S: Share>(
     state: &mut SearchState<'_, C>,
     best: &mut Best<'_>,
@@ -122,12 +145,46 @@ fn next_branch<C: Count, S: Share>(
         return Some(branch);
     }
     state.root_work.replay.clear();
-    // At the first conflict no decision was turned to its other value yet, so nothing that was closed is opened again.
     let is_conflict = state.engine.conflict();
-    match state.root_work.take_return(&state.branches, is_conflict) {
-        Some(count) => step_back_to_root(state, count, best, agreed, left),
+    match state
+        .root_work
+        .take_return(&state.branches, is_conflict, best.cost())
+    {
+        Some(count) => expand_above(state, count, best, share, agreed, left),
         None => backtrack(state, best, agreed),
     }
+}
+
+/// Steps back to so many decisions, and expands the node there. Gives the decision to make next, or none where the search is
+/// finished.
+fn expand_above<C: Count, S: Share>(
+    state: &mut SearchState<'_, C>,
+    count: usize,
+    best: &mut Best<'_>,
+    share: &mut S,
+    agreed: &mut AgreedPrefix,
+    left: &mut Option<u64>,
+) -> Option<Branch>
+    requires state { IsStateOf best.old.problem state.old }
+    requires at_path { IsAtSomePath state.old.engine state.old.branches.items }
+    requires known { KnowsHeldPrefix state.old.engine.trail best.old.held agreed.old }
+    ensures next { IfSome result (λ b. (start : EngineState) → IsUnderWay best.old.problem start state.old best.old.held → IsNext best.old.problem start state.new b best.new.held) }
+    ensures returns { state.new.root_work.returns ≡ state.old.root_work.returns }
+    ensures finished { IfNone result ((start : EngineState) → IsUnderWay best.old.problem start state.old best.old.held → IsSearched best.old.problem start best.new.held) }
+    ensures moves_on { MovesOn best.old best.new }
+    ensures own { (start : EngineState) → IsUnderWay best.old.problem start state.old best.old.held → IsOwn start best.old best.new }
+    ensures kept { S.keeps share.old share.new }
+    ensures same_lending { S.lends share.new ≡ S.lends share.old }
+    ensures made_for { IsStateOf best.old.problem state.new }
+    ensures constraints { SameConstraints state.old.engine state.new.engine }
+    ensures known { KnowsHeldPrefix state.new.engine.trail best.new.held agreed.new }
+    ensures budget { IsLeftOf left.old left.new }
+{
+    step_back(state, count, best, agreed);
+    if let Some(branch) = expand_node(state, best, share, agreed, left) {
+        return Some(branch);
+    }
+    backtrack(state, best, agreed)
 }
 
 /// Searches all solutions below the trail, or stops where it would need one decision more than are left. No call of it

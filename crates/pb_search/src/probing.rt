@@ -72,7 +72,10 @@ impl Probing {
     /// The search put so many literals on the trail by propagation at a node, and one by the decision before it: trials may
     /// put as many there.
     pub fn earn(&mut self, literals: usize) {
-        let credit = self.credit.saturating_add(literals as u64).saturating_add(1);
+        let credit = self
+            .credit
+            .saturating_add(literals as u64)
+            .saturating_add(1);
         self.credit = credit.min(MOST_CREDIT);
     }
 

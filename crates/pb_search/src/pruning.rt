@@ -1,15 +1,16 @@
 //! Whether a subtree may be left.
 
-ghost use Rattle.std.specs.Prelude.{◌≡◌, false, length, IsTrue, IfSome, ◌⊎◌, true};
+ghost use Rattle.std.specs.Prelude.{◌≡◌, ◌-◌, ℕ, false, length, IsTrue, IfSome, ◌⊎◌, true};
 ghost use Rattle.pb_engine.specs.Completion.{IsLowerBound};
 ghost use Rattle.pb_engine.specs.Fixing.{IsBelowCompletions};
-ghost use Rattle.pb_search.specs.SearchState.{IsClosed, IsEngineOf, IsNotBefore};
+ghost use Rattle.pb_search.specs.SearchState.{HasOnesWithin, IsClosed, IsEngineOf, IsNotBefore, IsOpenOnOneSide, IsTied};
 ghost use Rattle.pb_search.specs.AgreedPrefix.{KnowsPrefix, KnowsHeldPrefix};
 
 use crate::agreed_prefix::AgreedPrefix;
 use crate::branch::Branch;
+use crate::decisions::settled_from;
 use pb_engine::{Count, EngineAt};
-use pb_inst::{Assignment, Best, Number};
+use pb_inst::{Assignment, Best, Lit, Number};
 
 /// What the bound says of a subtree.
 #[derive(Clone, Copy, PartialEq, Eq)]
@@ -32,6 +33,7 @@ pub fn check_bound<C: Count>(
     requires engine { IsEngineOf best.now.problem engine.old }
     requires known { KnowsHeldPrefix engine.old.trail best.now.held agreed.old }
     ensures closed { result.0 ≡ Pruning.Closed → IsClosed best.now.problem engine.old best.now.held }
+    ensures tied { (var : ℕ) → result.0 ≡ Pruning.Tied var → IsTied best.now.problem engine.old best.now.held var }
     ensures unchanged { engine.new ≡ engine.old }
     ensures known { KnowsHeldPrefix engine.old.trail best.now.held agreed.new }
 {
@@ -48,6 +50,7 @@ pub fn check_rows<C: Count>(
     requires engine { IsEngineOf best.now.problem engine.old }
     requires known { KnowsHeldPrefix engine.old.trail best.now.held agreed.old }
     ensures closed { result.0 ≡ Pruning.Closed → IsClosed best.now.problem engine.old best.now.held }
+    ensures tied { (var : ℕ) → result.0 ≡ Pruning.Tied var → IsTied best.now.problem engine.old best.now.held var }
     ensures bound { IfSome result.1 (IsLowerBound engine.old.form engine.old.rows engine.old.trail) }
     ensures unchanged { engine.new ≡ engine.old }
     ensures known { KnowsHeldPrefix engine.old.trail best.now.held agreed.new }
@@ -72,9 +75,11 @@ pub fn check_multipliers<C: Count>(
 ) -> (Pruning, Option<Number>)
     requires engine { IsEngineOf best.now.problem engine.old }
     requires closed { pruning ≡ Pruning.Closed → IsClosed best.now.problem engine.old best.now.held }
+    requires tied { (var : ℕ) → pruning ≡ Pruning.Tied var → IsTied best.now.problem engine.old best.now.held var }
     requires bound { IfSome bound (IsLowerBound engine.old.form engine.old.rows engine.old.trail) }
     requires known { KnowsHeldPrefix engine.old.trail best.now.held agreed.old }
     ensures closed { result.0 ≡ Pruning.Closed → IsClosed best.now.problem engine.old best.now.held }
+    ensures tied { (var : ℕ) → result.0 ≡ Pruning.Tied var → IsTied best.now.problem engine.old best.now.held var }
     ensures unchanged { engine.new ≡ engine.old }
     ensures known { KnowsHeldPrefix engine.old.trail best.now.held agreed.new }
 {
@@ -129,6 +134,7 @@ pub fn judge_bound<C: Count>(
     requires bound { IsBelowCompletions engine.now bound }
     requires known { KnowsHeldPrefix engine.now.trail best.now.held agreed.old }
     ensures closed { result ≡ Pruning.Closed → IsClosed best.now.problem engine.now best.now.held }
+    ensures tied { (var : ℕ) → result ≡ Pruning.Tied var → IsTied best.now.problem engine.now best.now.held var }
     ensures known { KnowsHeldPrefix engine.now.trail best.now.held agreed.new }
 {
     let Some(cost) = best.cost() else {
@@ -156,6 +162,7 @@ fn judge_tie<C: Count>(
     requires room { length held.now ≡ engine.now.vars }
     requires known { KnowsPrefix engine.now.trail held.now agreed.old }
     ensures closed { result ≡ Pruning.Closed → IsNotBefore engine.now.trail held.now }
+    ensures tied { (var : ℕ) → result ≡ Pruning.Tied var → HasOnesWithin engine.now.trail held.now 0 (var - 1) }
     ensures known { KnowsPrefix engine.now.trail held.now agreed.new }
 {
     // With zeros elsewhere the trail is the first of its completions, so all of them come after the best assignment where
@@ -171,6 +178,34 @@ fn judge_tie<C: Count>(
         return Pruning::Tied(count + 1);
     }
     Pruning::Closed
+}
+
+/// At a tie, the negated lowest variable without a value before that of the first difference, or none where each of them has
+/// one: with 1 there nothing comes before the best assignment. The first `settled` variables are known to have values; no
+/// more than a hint.
+pub fn tied_literal<C: Count>(
+    engine: &EngineAt<'_, C>,
+    best: &Best<'_>,
+    pruning: Pruning,
+    settled: u32,
+) -> Option<Lit>
+    requires engine { IsEngineOf best.now.problem engine.now }
+    requires tied { (var : ℕ) → pruning ≡ Pruning.Tied var → IsTied best.now.problem engine.now best.now.held var }
+    ensures { IfSome result (IsOpenOnOneSide best.now.problem engine.now best.now.held) }
+{
+    let Pruning::Tied(var) = pruning else {
+        return None;
+    };
+    let held = best.assignment()?;
+    let end = var.saturating_sub(1).min(held.len());
+    let place = settled_from(engine, settled, end);
+    if place >= end || held.get(place + 1) {
+        return None;
+    }
+    let Ok(lit) = Lit::new(place + 1, false) else {
+        return None;
+    };
+    Some(lit)
 }
 
 /// Whether nothing is left to try at a branch whose decision was taken back: both values were tried, or by now no

@@ -6,6 +6,7 @@ ghost use Rattle.pb_engine.specs.Trail.{value_on};
 
 use crate::branch::{Branch, Hints};
 use crate::decisions::{decision, is_free};
+use crate::pruning::Pruning;
 use pb_engine::{Count, EngineAt};
 use pb_inst::{Lit, Number};
 
@@ -28,17 +29,22 @@ pub fn note(replay: &mut Vec<Replayed>, branch: &Branch) {
 }
 
 /// The last one of the decisions to make again whose variable has no value, or none where there is none. Those behind it are
-/// dropped with it.
+/// dropped with it. At a tie all are: what led to the best assignment leads to no other one of its cost.
 pub fn next_replayed<C: Count>(
     engine: &EngineAt<'_, C>,
     vars: u32,
     replay: &mut Vec<Replayed>,
+    pruning: Pruning,
     bound: Option<Number>,
 ) -> Option<Branch>
     requires variables { vars ≡ engine.now.vars }
     ensures free { IfSome result (λ b. (b.lit.var ≤ vars) × (value_on engine.now.trail b.lit.var ≡ None)) }
     ensures fresh { IfSome result (λ b. b.flipped ≡ false) }
 {
+    if pruning != Pruning::Open {
+        replay.clear();
+        return None;
+    }
     while let Some(replayed) = replay.pop() {
         if is_free(engine, vars, replayed.lit) {
             return Some(decision(replayed.lit, bound, replayed.hints));

@@ -1,22 +1,17 @@
 //! What is done at the root of a search: where no decision on the trail has another value to try.
 
-ghost use Rattle.std.specs.Prelude.{◌≡◌, ◌+◌, ◌<◌, ◌≤◌, false, length, IfNone, IfSome, IsSomeAnd};
-ghost use Rattle.pb_engine.specs.EngineState.{EngineState};
+ghost use Rattle.std.specs.Prelude.{◌≡◌, ◌+◌, ◌≤◌, false, length, IfNone, IfSome};
 ghost use Rattle.pb_engine.specs.Soundness.{IsSoundTrail};
-ghost use Rattle.pb_search.specs.AgreedPrefix.{KnowsHeldPrefix};
 ghost use Rattle.pb_search.specs.Budget.{IsLeftOf};
-ghost use Rattle.pb_search.specs.Solutions.{SameConstraints};
-ghost use Rattle.pb_search.specs.SearchState.{IsStateOf, IsAtSomePath, IsEngineOf, IsNext, IsOpenOnOneSide, IsUnderWay};
+ghost use Rattle.pb_search.specs.SearchState.{IsEngineOf, IsOpenOnOneSide};
 
-use crate::agreed_prefix::AgreedPrefix;
 use crate::branch::Branch;
-use crate::decisions::decision;
-use crate::fixing::{judge_node, one_sided};
 use crate::probing::{Probing, find_failed};
-use crate::replay::{Replayed, note};
+use crate::pruning::Pruning;
+use crate::replay::Replayed;
 use crate::search_state::SearchState;
-use crate::step_back::step_back;
-use pb_engine::Count;
+use crate::ties::Ties;
+use pb_engine::{Count, EngineAt};
 use pb_inst::{Best, Lit, Memory, Number};
 use pb_normal::Form;
 use std::alloc::Global;
@@ -42,7 +37,10 @@ pub struct RootWork {
     /// Whether nothing is minimised.
     is_decision: bool,
     /// Whether the search of the piece was about to turn to another value: what has none is searched without any work.
+    was_left: bool,
+    /// Whether the root is worked on since.
     is_open: bool,
+    pub ties: Ties,
     /// The trail's length and the best cost where no literal failed in the last round.
     done: Option<(usize, Option<Number>)>,
     pub probing: Probing,
@@ -63,7 +61,9 @@ impl RootWork {
             prefix: 0,
             is_large,
             is_decision,
+            was_left: false,
             is_open: false,
+            ties: Ties::new(),
             done: None,
             probing: Probing::new(is_decision),
             replay,
@@ -72,9 +72,11 @@ impl RootWork {
 
     /// The search of a piece begins, with so many decisions left of its budget.
     pub fn begin(&mut self, left: Option<u64>) {
-        self.returns = 1;
+        self.returns = u32::MAX;
         self.prefix = 0;
+        self.was_left = false;
         self.is_open = false;
+        self.ties = Ties::new();
         self.done = None;
         let trials = match left {
             Some(count) => count / TRIALS_OF_A_BUDGET,
@@ -84,23 +86,46 @@ impl RootWork {
         self.replay.clear();
     }
 
-    /// The search is about to turn to another value, after a conflict or not. Answers how many decisions are to be left, where
-    /// it is to step back to its root before.
-    pub fn take_return(&mut self, path: &[Branch], is_conflict: bool) -> Option<usize>
+    /// Nothing is left below the path, after a conflict or not, where the best cost is this one. Answers how many decisions are
+    /// to be left, where the search is to step back and go on from there.
+    pub fn take_return(
+        &mut self,
+        path: &[Branch],
+        is_conflict: bool,
+        cost: Option<Number>,
+    ) -> Option<usize>
         ensures used { IfSome result (λ _. self.old.returns ≡ self.new.returns + 1) }
-        ensures some { IfSome result (λ count. count < length path.now) }
         ensures kept { IfNone result (self.new.returns ≤ self.old.returns) }
     {
-        if self.returns == 0 {
+        let count = self.return_to(path, is_conflict, cost)?;
+        if self.returns == 0 || count >= path.len() {
             return None;
         }
         self.returns -= 1;
-        self.is_open = self.is_large || !self.is_decision;
+        Some(count)
+    }
+
+    /// How many decisions are to be left, if there is a reason to take any back: work at the root, the first time that the
+    /// search is about to turn to another value, or else a tie.
+    fn return_to(
+        &mut self,
+        path: &[Branch],
+        is_conflict: bool,
+        cost: Option<Number>,
+    ) -> Option<usize>
+        ensures { self.new.returns ≡ self.old.returns }
+    {
         let prefix = self.prefix_of(path);
-        if !self.pays(path, is_conflict) || prefix == path.len() {
-            return None;
+        let count = self.ties.leave(path, prefix, cost);
+        if self.was_left {
+            return count;
         }
-        Some(prefix)
+        self.was_left = true;
+        self.is_open = self.is_large || !self.is_decision;
+        if self.pays(path, is_conflict) {
+            return Some(prefix);
+        }
+        count
     }
 
     /// Whether the search pays for a step back to its root, by what it did so far. Where nothing is minimised the root is
@@ -132,10 +157,12 @@ impl RootWork {
 }
 
 /// Works at the root, where the search stands there. Gives a literal whose negation has nothing to give, or none where none
-/// was found. Its trials are decisions.
+/// was found. Its trials are decisions. Once ties alone are left there is nothing to work for.
 pub fn work_at_root<C: Count>(
     state: &mut SearchState<'_, C>,
     best: &Best<'_>,
+    pruning: Pruning,
+    bound: Option<Number>,
     left: &mut Option<u64>,
 ) -> Option<Lit>
     requires engine { IsEngineOf best.now.problem state.old.engine }
@@ -149,7 +176,11 @@ pub fn work_at_root<C: Count>(
     ensures budget { IsLeftOf left.old left.new }
 {
     let work = &mut state.root_work;
-    if !work.is_open || work.prefix_of(&state.branches) < state.branches.len() {
+    if work.prefix_of(&state.branches) < state.branches.len() {
+        return None;
+    }
+    note_root_bound(&mut work.ties, &mut state.engine, bound);
+    if !work.is_open || pruning != Pruning::Open {
         return None;
     }
     // A round is due again where the trail or the best cost is another one.
@@ -165,57 +196,12 @@ pub fn work_at_root<C: Count>(
     found
 }
 
-/// A literal whose negation has nothing to give at the root, to which the search stepped back: one that the multipliers fix,
-/// since the best cost may be another one, or else one that the work at the root finds.
-fn literal_at_root<C: Count>(
-    state: &mut SearchState<'_, C>,
-    best: &Best<'_>,
-    agreed: &mut AgreedPrefix,
-    left: &mut Option<u64>,
-) -> Option<Lit>
-    requires engine { IsEngineOf best.now.problem state.old.engine }
-    requires sound { IsSoundTrail state.old.engine }
-    requires no_conflict { state.old.engine.conflict ≡ false }
-    requires known { KnowsHeldPrefix state.old.engine.trail best.now.held agreed.old }
-    ensures found { IfSome result (IsOpenOnOneSide best.now.problem state.old.engine best.now.held) }
-    ensures engine { state.new.engine ≡ state.old.engine }
-    ensures branches { state.new.branches ≡ state.old.branches }
-    ensures candidate { state.new.candidate ≡ state.old.candidate }
-    ensures returns { state.new.root_work.returns ≡ state.old.root_work.returns }
-    ensures known { KnowsHeldPrefix state.new.engine.trail best.now.held agreed.new }
-    ensures budget { IsLeftOf left.old left.new }
+/// Notes the bound that was taken at the root; where none was, that of disjoint rows once.
+fn note_root_bound<C: Count>(ties: &mut Ties, engine: &mut EngineAt<'_, C>, bound: Option<Number>)
+    ensures { engine.new ≡ engine.old }
 {
-    let (_, _, fixed) = judge_node(&mut state.engine, best, agreed, left.is_some());
-    if let Some(lit) = fixed {
-        return Some(lit);
+    if bound.is_none() && ties.root_bound.is_none() {
+        ties.root_bound = Some(engine.bound());
     }
-    work_at_root(state, best, left)
-}
-
-/// Steps back to the root and works there. Gives the decision to make next: the first one of those that were taken back, where
-/// the work gives none.
-pub fn step_back_to_root<C: Count>(
-    state: &mut SearchState<'_, C>,
-    count: usize,
-    best: &Best<'_>,
-    agreed: &mut AgreedPrefix,
-    left: &mut Option<u64>,
-) -> Option<Branch>
-    requires some { count < length state.old.branches.items }
-    requires state { IsStateOf best.now.problem state.old }
-    requires at_path { IsAtSomePath state.old.engine state.old.branches.items }
-    requires known { KnowsHeldPrefix state.old.engine.trail best.now.held agreed.old }
-    ensures next { IsSomeAnd result (λ b. (start : EngineState) → IsUnderWay best.now.problem start state.old best.now.held → IsNext best.now.problem start state.new b best.now.held) }
-    ensures made_for { IsStateOf best.now.problem state.new }
-    ensures constraints { SameConstraints state.old.engine state.new.engine }
-    ensures returns { state.new.root_work.returns ≡ state.old.root_work.returns }
-    ensures known { KnowsHeldPrefix state.new.engine.trail best.now.held agreed.new }
-    ensures budget { IsLeftOf left.old left.new }
-{
-    let first = step_back(state, count, best, agreed)?;
-    let Some(lit) = literal_at_root(state, best, agreed, left) else {
-        return Some(decision(first.lit, first.bound, first.hints));
-    };
-    note(&mut state.root_work.replay, &first);
-    Some(one_sided(lit, None, state.hints()))
+    ties.root_bound = ties.root_bound.max(bound);
 }

@@ -1,33 +1,30 @@
 //! Decisions are taken back though something is left to try below them.
 
-ghost use Rattle.std.specs.Prelude.{◌≡◌, ◌<◌, length, IsSomeAnd};
+ghost use Rattle.std.specs.Prelude.{◌≡◌};
 ghost use Rattle.pb_engine.specs.EngineState.{EngineState};
 ghost use Rattle.pb_search.specs.AgreedPrefix.{KnowsHeldPrefix};
 ghost use Rattle.pb_search.specs.Solutions.{SameConstraints};
-ghost use Rattle.pb_search.specs.SearchState.{IsStateOf, IsAtSomePath, IsFree, IsUnderWay};
+ghost use Rattle.pb_search.specs.SearchState.{IsStateOf, IsAtSomePath, IsUnderWay};
 
 use crate::agreed_prefix::AgreedPrefix;
 use crate::backtrack::undo_decision;
-use crate::branch::Branch;
 use crate::replay::note;
 use crate::search_state::SearchState;
 use pb_engine::Count;
 use pb_inst::Best;
 
-/// Takes back all decisions but the first so many, and gives the first of those; the others are noted to be made again. What
-/// lay below them lies below the last one that is left, so what is under way stays so. Where none of them was turned to its
-/// other value, nothing that was closed is opened again.
+/// Takes back all decisions but the first so many; they are noted to be made again. What lay below them lies below the last
+/// one that is left, so what is under way stays so. Where none of them was turned to its other value, nothing that was closed
+/// is opened again.
 pub fn step_back<C: Count>(
     state: &mut SearchState<'_, C>,
     count: usize,
     best: &Best<'_>,
     agreed: &mut AgreedPrefix,
-) -> Option<Branch>
-    requires some { count < length state.old.branches.items }
+)
     requires state { IsStateOf best.now.problem state.old }
     requires at_path { IsAtSomePath state.old.engine state.old.branches.items }
     requires known { KnowsHeldPrefix state.old.engine.trail best.now.held agreed.old }
-    ensures free { IsSomeAnd result (λ b. IsFree state.new.engine b.lit) }
     ensures under_way { (start : EngineState) → IsUnderWay best.now.problem start state.old best.now.held → IsUnderWay best.now.problem start state.new best.now.held }
     ensures made_for { IsStateOf best.now.problem state.new }
     ensures at_path { IsAtSomePath state.new.engine state.new.branches.items }
@@ -35,10 +32,9 @@ pub fn step_back<C: Count>(
     ensures returns { state.new.root_work.returns ≡ state.old.root_work.returns }
     ensures known { KnowsHeldPrefix state.new.engine.trail best.now.held agreed.new }
 {
-    while state.branches.len() - 1 > count {
+    while state.branches.len() > count {
         if let Some(branch) = undo_decision(&mut state.engine, &mut state.branches, best, agreed) {
             note(&mut state.root_work.replay, &branch);
         }
     }
-    undo_decision(&mut state.engine, &mut state.branches, best, agreed)
 }

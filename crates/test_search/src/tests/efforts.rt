@@ -5,8 +5,9 @@ use super::instances::{
     Row, cover, crowd_behind_ring, instance, nothing, packing, ring, ring_cover, search_pieces,
 };
 use super::lenders::InTurn;
+use super::listing::Random;
 use pb_cubes::{Pieces, split};
-use pb_inst::{Cube, Instance, Relation};
+use pb_inst::{Cube, Instance, Number, Relation};
 use pb_normal::normalise;
 use pb_search::{Alone, Search};
 use std::alloc::Global;
@@ -103,6 +104,31 @@ fn a_packing_without_room_is_refuted(rt: HostRuntime) {
     let packing = packing(&rt, alloc, 13, 4, 3);
     let count = decisions(&rt, alloc, &packing);
     assert!(rt; count <= 2_820, "{count} decisions");
+}
+
+/// A few clauses leave most values free, so after the first solution only the order of assignments is left. Settled anew below
+/// each decision of the first way down it takes fifty times as many decisions.
+#[test]
+fn ties_are_settled_once(rt: HostRuntime) {
+    let alloc = rt.alloc();
+    let mut random = Random { state: 1 };
+    let free = random.clauses(&rt, alloc, 300, &[], 750);
+    let count = decisions(&rt, alloc, &free);
+    assert!(rt; count <= 4_200, "{count} decisions");
+}
+
+/// The same where some variables cost something, and the least cost is found soon.
+#[test]
+fn ties_of_a_cost_are_settled_once(rt: HostRuntime) {
+    let alloc = rt.alloc();
+    let mut random = Random { state: 1 };
+    let mut costs: Vec<(Number, i32)> = Vec::new(alloc);
+    for place in 290..300i32 {
+        costs.push((1, place + 1)).expect(&rt, "memory");
+    }
+    let nearly_free = random.clauses(&rt, alloc, 300, &costs, 750);
+    let count = decisions(&rt, alloc, &nearly_free);
+    assert!(rt; count <= 5_200, "{count} decisions");
 }
 
 /// All cubes over the last nine of 49 variables.

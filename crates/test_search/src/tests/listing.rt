@@ -88,11 +88,17 @@ impl Random {
         instance(rt, alloc, vars, &objective, &rows)
     }
 
-    /// Costs, and four clauses of three literals for each variable, so that many decisions end in a conflict.
-    fn clauses(&mut self, rt: &impl Abort, alloc: Global, vars: u32) -> Instance {
-        let objective = self.terms(rt, alloc, vars, vars);
+    /// An objective, and so many clauses of three literals.
+    pub fn clauses(
+        &mut self,
+        rt: &impl Abort,
+        alloc: Global,
+        vars: u32,
+        objective: &[(Number, i32)],
+        count: u32,
+    ) -> Instance {
         let mut sums = Vec::new(alloc);
-        for _ in 0..vars.saturating_mul(4) {
+        for _ in 0..count {
             let mut sum = Vec::new(alloc);
             for _ in 0..3 {
                 sum.push((1, self.literal(vars))).expect(rt, "memory");
@@ -104,7 +110,7 @@ impl Random {
             rows.push((sum.as_slice(), Relation::AtLeast, 1))
                 .expect(rt, "memory");
         }
-        instance(rt, alloc, vars, &objective, &rows)
+        instance(rt, alloc, vars, objective, &rows)
     }
 
     /// Some cubes: a split, or any lists of literals.
@@ -200,12 +206,14 @@ fn a_search_finds_what_the_listing_gives(rt: HostRuntime) {
     assert!(rt; feasible < 500);
 }
 
+/// With four clauses for each variable many decisions end in a conflict.
 #[test]
 fn conflicts_change_no_answer(rt: HostRuntime) {
     let alloc = rt.alloc();
     let mut random = Random { state: 11 };
     for number in 0..40 {
-        let instance = random.clauses(&rt, alloc, 10);
+        let objective = random.terms(&rt, alloc, 10, 10);
+        let instance = random.clauses(&rt, alloc, 10, &objective, 40);
         expect_least(&rt, alloc, &instance, &mut random, number);
     }
 }

@@ -37,12 +37,12 @@ returns-then-eq-2-clause-same_branches g c = record {
   returns = refl;
 }
 
-pub returns-in_default-next_decision-clause-same_branches : goal.returns-in_default-next_decision-clause-same_branches
-returns-in_default-next_decision-clause-same_branches g c = record {
+pub returns-in_default-next-clause-same_branches : goal.returns-in_default-next-clause-same_branches
+returns-in_default-next-clause-same_branches g c = record {
   constraints = same_constraints c.args.state.now.engine c.work_at_root.new.state.engine c.propagate-step.new.self.trail c.args.state.now.engine.levels (is_conflict c.propagate-step.result) ((c.work_at_root.ensures.engine ∙ c.judge_node-pruning.ensures.unchanged) ∙ c.propagate-step.ensures.added);
   assumptions = propagated c.args.state.now.engine c.work_at_root.new.state.engine c.propagate-step.new.self.trail (is_conflict c.propagate-step.result) c.requires.sound ((c.work_at_root.ensures.engine ∙ c.judge_node-pruning.ensures.unchanged) ∙ c.propagate-step.ensures.added) c.propagate-step.ensures.forced;
   branches = c.work_at_root.ensures.branches;
-  room = c.take_leaf.ensures.same_length ∙ ap (λ (a : List Bool). length a) c.work_at_root.ensures.candidate;
+  room = c.take_leaf-has_improved.ensures.same_length ∙ ap (λ (a : List Bool). length a) c.work_at_root.ensures.candidate;
   returns = c.work_at_root.ensures.returns;
 }
 
@@ -76,8 +76,8 @@ judge_node-pruning-requires-clause-engine g c =
     (same_constraints c.args.state.now.engine c.propagate-step.new.self c.propagate-step.new.self.trail c.args.state.now.engine.levels (is_conflict c.propagate-step.result) c.propagate-step.ensures.added)
     c.requires.state.engine
 
-pub take_leaf-requires-clause-engine : goal.take_leaf-requires-clause-engine
-take_leaf-requires-clause-engine g c =
+pub take_leaf-has_improved-requires-clause-engine : goal.take_leaf-has_improved-requires-clause-engine
+take_leaf-has_improved-requires-clause-engine g c =
     same_engine c.args.best.now.problem c.args.state.now.engine c.work_at_root.new.state.engine
     (same_constraints c.args.state.now.engine c.work_at_root.new.state.engine c.propagate-step.new.self.trail c.args.state.now.engine.levels (is_conflict c.propagate-step.result) ((c.work_at_root.ensures.engine ∙ c.judge_node-pruning.ensures.unchanged) ∙ c.propagate-step.ensures.added))
     c.requires.state.engine
@@ -112,11 +112,11 @@ returns-clause-own g c = inl refl
 pub returns-then-eq-2-clause-sound : goal.returns-then-eq-2-clause-sound
 returns-then-eq-2-clause-sound g c = subst (λ (e : EngineState). IsSoundTrail e) (sym c.judge_node-pruning.ensures.unchanged) c.propagate-step.ensures.sound
 
-pub take_leaf-requires-clause-sound : goal.take_leaf-requires-clause-sound
-take_leaf-requires-clause-sound g c = subst (λ (e : EngineState). IsSoundTrail e) (sym (c.work_at_root.ensures.engine ∙ c.judge_node-pruning.ensures.unchanged)) c.propagate-step.ensures.sound
+pub take_leaf-has_improved-requires-clause-sound : goal.take_leaf-has_improved-requires-clause-sound
+take_leaf-has_improved-requires-clause-sound g c = subst (λ (e : EngineState). IsSoundTrail e) (sym (c.work_at_root.ensures.engine ∙ c.judge_node-pruning.ensures.unchanged)) c.propagate-step.ensures.sound
 
-pub returns-in_default-next_decision-clause-sound : goal.returns-in_default-next_decision-clause-sound
-returns-in_default-next_decision-clause-sound g c = subst (λ (e : EngineState). IsSoundTrail e) (sym (c.work_at_root.ensures.engine ∙ c.judge_node-pruning.ensures.unchanged)) c.propagate-step.ensures.sound
+pub returns-in_default-next-clause-sound : goal.returns-in_default-next-clause-sound
+returns-in_default-next-clause-sound g c = subst (λ (e : EngineState). IsSoundTrail e) (sym (c.work_at_root.ensures.engine ∙ c.judge_node-pruning.ensures.unchanged)) c.propagate-step.ensures.sound
 
 pub returns-clause-sound : goal.returns-clause-sound
 returns-clause-sound g c = subst (λ (e : EngineState). IsSoundTrail e) (sym (c.work_at_root.ensures.engine ∙ c.judge_node-pruning.ensures.unchanged)) c.propagate-step.ensures.sound
@@ -127,14 +127,14 @@ returns-then-eq-2-clause-known g c = subst (λ (e : EngineState). KnowsHeldPrefi
 pub returns-clause-known : goal.returns-clause-known
 returns-clause-known g c = subst (λ (e : EngineState). KnowsHeldPrefix e.trail c.args.best.now.held c.judge_node-pruning.new.agreed) (sym (c.work_at_root.ensures.engine ∙ c.judge_node-pruning.ensures.unchanged)) c.judge_node-pruning.ensures.known
 
-pub returns-in_default-next_decision-clause-closed : goal.returns-in_default-next_decision-clause-closed
-returns-in_default-next_decision-clause-closed g c = c.take_leaf.ensures.closed
+pub returns-in_default-next-clause-closed : goal.returns-in_default-next-clause-closed
+returns-in_default-next-clause-closed g c = c.take_leaf-has_improved.ensures.closed
 
-pub returns-in_default-next_decision-clause-moves_on : goal.returns-in_default-next_decision-clause-moves_on
-returns-in_default-next_decision-clause-moves_on g c = c.take_leaf.ensures.moves_on
+pub returns-in_default-next-clause-moves_on : goal.returns-in_default-next-clause-moves_on
+returns-in_default-next-clause-moves_on g c = c.take_leaf-has_improved.ensures.moves_on
 
-pub returns-in_default-next_decision-clause-own : goal.returns-in_default-next_decision-clause-own
-returns-in_default-next_decision-clause-own g c = c.take_leaf.ensures.own
+pub returns-in_default-next-clause-own : goal.returns-in_default-next-clause-own
+returns-in_default-next-clause-own g c = c.take_leaf-has_improved.ensures.own
 
 pub work_at_root-requires-clause-engine : goal.work_at_root-requires-clause-engine
 work_at_root-requires-clause-engine g c =

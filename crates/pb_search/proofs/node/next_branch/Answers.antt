@@ -3,9 +3,10 @@ use Rattle.pb_inst.specs.Problem.{Problem}
 use Rattle.pb_engine.specs.EngineState.{EngineState}
 use Rattle.pb_search.specs.declared.search_state.SearchState.{SearchState}
 use Rattle.pb_search.specs.Paths.{steps_left, search_steps}
-use Rattle.pb_search.specs.SearchState.{IsUnderWay, IsLeaving, IsNext, IsSearched, LeavesFewer}
+use Rattle.pb_search.specs.SearchState.{IsUnderWay, IsLeaving, IsNext, IsSearched, IsOwn, LeavesFewer}
+use Rattle.pb_search.proofs.HeldLemmas.{moves_onward}
 use Rattle.pb_search.proofs.PathLemmas.{decide_falls, fewer_steps, fewer_from, step_back_falls}
-use Rattle.pb_search.proofs.SearchLemmas.{open_next, closed_leaving, expanded_own, at_problem, if_some_map, if_none_map, some_and_map, some_and_none, some_and_unit, stays_under_way, with_work, leaving_with_work}
+use Rattle.pb_search.proofs.SearchLemmas.{open_next, closed_leaving, expanded_own, at_problem, if_some_map, if_none_map, own_onward, stays_under_way, with_work, leaving_with_work}
 use Rattle.pb_search.proofs.node.next_branch.Goals as goal
 
 pub returns-in-Some-clause-next : goal.returns-in-Some-clause-next
@@ -28,28 +29,53 @@ returns-in-Some-take_return-clause-next g c =
     let p = c.args.best.now.problem in
     let q = c.expand_node.new.best.problem in
     let held = c.expand_node.new.best.held in
+    let last = c.expand_above.new.best.held in
     let w = c.take_return.new.self in
     let t = c.expand_node.new.state in
     let s : SearchState _ = record { engine = t.engine; branches = t.branches; candidate = t.candidate; order = t.order; root_work = w } in
-    some_and_map c.step_back_to_root.result (λ b. (start : EngineState) → IsUnderWay q start s held → IsNext q start c.step_back_to_root.new.state b held)
-    (λ b. (start : EngineState) → IsUnderWay p start c.args.state.now c.args.best.now.held → IsNext p start c.step_back_to_root.new.state b held)
-    (λ b f start h. at_problem p q (λ (x : Problem). IsUnderWay x start s held) (λ (x : Problem). IsNext x start c.step_back_to_root.new.state b held) c.expand_node.ensures.moves_on.same_instance (f start)
+    if_some_map c.expand_above.result (λ b. (start : EngineState) → IsUnderWay q start s held → IsNext q start c.expand_above.new.state b last)
+    (λ b. (start : EngineState) → IsUnderWay p start c.args.state.now c.args.best.now.held → IsNext p start c.expand_above.new.state b last)
+    (λ b f start h. at_problem p q (λ (x : Problem). IsUnderWay x start s held) (λ (x : Problem). IsNext x start c.expand_above.new.state b last) c.expand_node.ensures.moves_on.same_instance (f start)
     (with_work p start t w held (stays_under_way p start c.args.state.now t c.args.best.now.held held c.expand_node.ensures.same_branches c.expand_node.ensures.sound c.expand_node.ensures.moves_on.not_after h)))
-    c.step_back_to_root.ensures.next
+    c.expand_above.ensures.next
 
 pub returns-in-Some-take_return-clause-fewer : goal.returns-in-Some-take_return-clause-fewer
 returns-in-Some-take_return-clause-fewer g c =
-    some_and_map c.step_back_to_root.result (λ _. Unit {0}) (λ b. LeavesFewer c.args.best.now.problem c.args.state.now c.step_back_to_root.new.state b)
-    (λ b _ few. step_back_falls c.args.best.now.problem.vars c.args.state.now.root_work.returns c.step_back_to_root.new.state.root_work.returns c.args.state.now.branches.items c.step_back_to_root.new.state.branches.items b
-    (omega (arith, c.expand_node.ensures.same_branches.returns, c.in-Some-take_return.ensures.used, c.step_back_to_root.ensures.returns)) few)
-    (some_and_unit c.step_back_to_root.result _ c.step_back_to_root.ensures.next)
+    if_some_map c.expand_above.result _ (λ b. LeavesFewer c.args.best.now.problem c.args.state.now c.expand_above.new.state b)
+    (λ b _ few. step_back_falls c.args.best.now.problem.vars c.args.state.now.root_work.returns c.expand_above.new.state.root_work.returns c.args.state.now.branches.items c.expand_above.new.state.branches.items b
+    (omega (arith, c.expand_node.ensures.same_branches.returns, c.in-Some-take_return.ensures.used, c.expand_above.ensures.returns)) few)
+    c.expand_above.ensures.next
 
 pub returns-in-Some-take_return-clause-finished : goal.returns-in-Some-take_return-clause-finished
-returns-in-Some-take_return-clause-finished g c = some_and_none c.step_back_to_root.result _ _ c.step_back_to_root.ensures.next
+returns-in-Some-take_return-clause-finished g c =
+    let p = c.args.best.now.problem in
+    let q = c.expand_node.new.best.problem in
+    let held = c.expand_node.new.best.held in
+    let last = c.expand_above.new.best.held in
+    let w = c.take_return.new.self in
+    let t = c.expand_node.new.state in
+    let s : SearchState _ = record { engine = t.engine; branches = t.branches; candidate = t.candidate; order = t.order; root_work = w } in
+    if_none_map c.expand_above.result ((start : EngineState) → IsUnderWay q start s held → IsSearched q start last)
+    ((start : EngineState) → IsUnderWay p start c.args.state.now c.args.best.now.held → IsSearched p start last)
+    (λ f start h. at_problem p q (λ (x : Problem). IsUnderWay x start s held) (λ (x : Problem). IsSearched x start last) c.expand_node.ensures.moves_on.same_instance (f start)
+    (with_work p start t w held (stays_under_way p start c.args.state.now t c.args.best.now.held held c.expand_node.ensures.same_branches c.expand_node.ensures.sound c.expand_node.ensures.moves_on.not_after h)))
+    c.expand_above.ensures.finished
+
+pub returns-in-Some-take_return-clause-moves_on : goal.returns-in-Some-take_return-clause-moves_on
+returns-in-Some-take_return-clause-moves_on g c = moves_onward c.args.best.now c.expand_node.new.best c.expand_above.new.best c.expand_node.ensures.moves_on c.expand_above.ensures.moves_on
 
 pub returns-in-Some-take_return-clause-own : goal.returns-in-Some-take_return-clause-own
 returns-in-Some-take_return-clause-own g c start h =
-    expanded_own c.args.best.now.problem start c.args.state.now c.expand_node.new.state c.args.best.now c.expand_node.new.best c.expand_node.ensures.same_branches c.expand_node.ensures.sound c.expand_node.ensures.own h
+    let p = c.args.best.now.problem in
+    let q = c.expand_node.new.best.problem in
+    let held = c.expand_node.new.best.held in
+    let w = c.take_return.new.self in
+    let t = c.expand_node.new.state in
+    let s : SearchState _ = record { engine = t.engine; branches = t.branches; candidate = t.candidate; order = t.order; root_work = w } in
+    own_onward start c.args.best.now c.expand_node.new.best c.expand_above.new.best
+    (expanded_own p start c.args.state.now t c.args.best.now c.expand_node.new.best c.expand_node.ensures.same_branches c.expand_node.ensures.sound c.expand_node.ensures.own h)
+    (at_problem p q (λ (x : Problem). IsUnderWay x start s held) (λ _. IsOwn start c.expand_node.new.best c.expand_above.new.best) c.expand_node.ensures.moves_on.same_instance (c.expand_above.ensures.own start)
+    (with_work p start t w held (stays_under_way p start c.args.state.now t c.args.best.now.held held c.expand_node.ensures.same_branches c.expand_node.ensures.sound c.expand_node.ensures.moves_on.not_after h)))
 
 pub returns-in-None-clause-next : goal.returns-in-None-clause-next
 returns-in-None-clause-next g c =

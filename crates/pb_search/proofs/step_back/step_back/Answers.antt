@@ -1,8 +1,7 @@
-use Rattle.std.proofs.Common.{◌≡◌, ◌+◌, ◌∷◌, [], ◌∙◌, List, length, length-append, refl, ap, arith}
-use Rattle.pb_search.specs.declared.branch.Branch.{Branch}
+use Rattle.std.proofs.Common.{refl}
 use Rattle.pb_search.specs.declared.search_state.SearchState.{SearchState}
 use Rattle.pb_search.proofs.Engines.{same_constraints_onward}
-use Rattle.pb_search.proofs.SearchLemmas.{IsStep, step_of, under_way_without, under_way_before}
+use Rattle.pb_search.proofs.SearchLemmas.{IsStep, step_of, under_way_without}
 use Rattle.pb_search.proofs.step_back.step_back.Goals as goal
 
 pub loop-state-preserved-in-Some : goal.loop-state-preserved-in-Some
@@ -10,9 +9,7 @@ loop-state-preserved-in-Some g c =
     let w = c.loop-state.state.root_work in
     let u : SearchState _ = record { engine = c.undo_decision.new.engine; branches = c.undo_decision.new.path; candidate = c.loop-state.state.candidate; order = c.loop-state.state.order; root_work = record w { replay = c.note.new.replay } } in
     let step : IsStep c.args.best.now.problem c.loop-state.state u c.in-Some.branch = step_of c.args.best.now.problem c.loop-state.state u c.undo_decision.new.engine c.in-Some.branch c.in-Some.ensures.popped c.undo_decision.ensures.constraints c.undo_decision.ensures.at_path c.in-Some.ensures.free c.undo_decision.ensures.same_room refl refl in
-    let one_less : length c.loop-state.state.branches.items ≡ length c.undo_decision.new.path.items + 1 = ap (λ (x : List Branch). length x) c.in-Some.ensures.popped ∙ length-append c.undo_decision.new.path.items (c.in-Some.branch ∷ []) in
     record {
-      some = omega arith;
       made_for = step.made_for c.loop-state.invariant.made_for;
       at_path = record { root = c.loop-state.invariant.at_path.root; at = step.at_path c.loop-state.invariant.at_path.root c.loop-state.invariant.at_path.at };
       under_way = λ start h. under_way_without c.args.best.now.problem start c.loop-state.state u c.in-Some.branch c.args.best.now.held step (c.loop-state.invariant.under_way start h);
@@ -20,9 +17,3 @@ loop-state-preserved-in-Some g c =
       returns = c.loop-state.invariant.returns;
       known = c.undo_decision.ensures.known;
     }
-
-pub returns-clause-under_way : goal.returns-clause-under_way
-returns-clause-under_way g c start h =
-    let u : SearchState _ = record { engine = c.undo_decision-2.new.engine; branches = c.undo_decision-2.new.path; candidate = c.loop-state.state.candidate; order = c.loop-state.state.order; root_work = c.loop-state.state.root_work } in
-    let e = c.undo_decision-2.ensures in
-    under_way_before c.args.best.now.problem start c.loop-state.state u c.undo_decision-2.result c.args.count c.args.best.now.held e.popped e.free e.no_decisions c.loop-state.invariant.some e.constraints e.at_path e.same_room refl (c.loop-state.invariant.under_way start h)

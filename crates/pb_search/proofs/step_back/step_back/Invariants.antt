@@ -1,4 +1,4 @@
-use Rattle.std.proofs.Common.{◌≡◌, ◌<◌, length, vec_len}
+use Rattle.std.proofs.Common.{◌≡◌, vec_len}
 use Rattle.pb_engine.specs.EngineState.{EngineState}
 use Rattle.pb_search.specs.Solutions.{SameConstraints}
 use Rattle.pb_search.specs.AgreedPrefix.{KnowsHeldPrefix}
@@ -7,7 +7,6 @@ use Rattle.pb_search.proofs.step_back.step_back.Given as goal
 
 abbrev pub invariant-loop-state : goal.invariant-loop-state
 invariant-loop-state g l = record {
-  some : l.fn.count < length l.state.branches.items;
   made_for : IsStateOf l.best.problem l.state;
   at_path : IsAtSomePath l.state.engine l.state.branches.items;
   under_way : (start : EngineState) → IsUnderWay l.best.problem start l.initial.state l.best.held → IsUnderWay l.best.problem start l.state l.best.held;
