@@ -130,23 +130,23 @@ fn found_on_the_way(
     held
 }
 
-/// All of 550 variables but the first few of even number.
+/// All of 390 variables but the first few of even number.
 fn nearly_all(rt: &impl Abort, alloc: Global, free: u32) -> Assignment {
     let mut list = Vec::new(alloc);
-    for place in 0..550u32 {
+    for place in 0..390u32 {
         let is_free = place % 2 == 1 && place < free.saturating_mul(2);
         if !is_free {
             list.push(place + 1).expect(rt, "memory");
         }
     }
-    assignment(rt, alloc, 550, &list)
+    assignment(rt, alloc, 390, &list)
 }
 
 /// Whatever is handed over on the way, the answer is the same.
 #[test]
 fn assignments_handed_over_on_the_way(rt: HostRuntime) {
     let alloc = rt.alloc();
-    let cover = ring_cover(&rt, alloc, 550);
+    let cover = ring_cover(&rt, alloc, 390);
     let want = found_on_the_way(&rt, alloc, &cover, Vec::new(alloc), 28);
     let mut lent = Vec::new(alloc);
     for free in 0..12u32 {
