@@ -36,26 +36,26 @@ SOME_CLAUSES = "".join(f"1 x{1 + place} 1 ~x{2 + place} >= 1 ;\n" for place in r
 
 # What one worker asks for on each instance of tests/work/ today.
 REQUESTS = {
-    "aside": 123,
-    "assignment": 142,
-    "chain": 123,
-    "clauses": 119,
-    "colours": 126,
-    "cubes": 343,
-    "cubes_of_a_contradiction": 375,
-    "cubes_of_last_variables": 183,
-    "descent": 140,
-    "garden": 146,
-    "groups": 141,
-    "knapsack": 129,
-    "long_row": 131,
-    "machines": 145,
-    "met_rows": 144,
-    "packages": 141,
-    "short_knapsack": 129,
-    "two_sides": 142,
-    "unconstrained": 108,
-    "wide_knapsack": 133,
+    "aside": 127,
+    "assignment": 147,
+    "chain": 126,
+    "clauses": 122,
+    "colours": 129,
+    "cubes": 349,
+    "cubes_of_a_contradiction": 371,
+    "cubes_of_last_variables": 189,
+    "descent": 145,
+    "garden": 151,
+    "groups": 146,
+    "knapsack": 134,
+    "long_row": 136,
+    "machines": 150,
+    "met_rows": 149,
+    "packages": 146,
+    "short_knapsack": 134,
+    "two_sides": 147,
+    "unconstrained": 111,
+    "wide_knapsack": 138,
 }
 
 
@@ -80,10 +80,10 @@ def runs(room):
     for name, text in (("long.opb", LONG_TEXT), ("wide.opb", WIDE_TEXT), ("some.opb", SOME_CLAUSES), ("some.cubes", CUBES)):
         (room / name).write_text(text)
     cubes = ("--cubes", room / "some.cubes", room / "some.opb")
-    yield Run("a long text", (room / "long.opb",), 10, 81, 128.0)
-    yield Run("long rows", ("--nodes", "0", room / "wide.opb"), 0, 198, 15.7)
-    yield Run("many cubes", cubes, 10, 16_189, 1.6)
-    yield Run("many cubes, two workers", ("--workers", "2", *cubes), 10, 16_251, 1.6)
+    yield Run("a long text", (room / "long.opb",), 10, 84, 128.0)
+    yield Run("long rows", ("--nodes", "0", room / "wide.opb"), 0, 203, 15.7)
+    yield Run("many cubes", cubes, 10, 16_195, 1.6)
+    yield Run("many cubes, two workers", ("--workers", "2", *cubes), 10, 16_263, 1.6)
     for name, requests in REQUESTS.items():
         text = (TOP / "tests/work" / name).read_text()
         status = next(STATUSES[line] for line in (TOP / f"tests/work/{name}.stdout").read_text().splitlines() if line in STATUSES)

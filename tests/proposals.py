@@ -50,7 +50,7 @@ CONSTANTS = {  # what they are in the copy
 LINES = {  # what they become in the copy
     ("pb_inst/src/lib.rt", "mod cubes;"): "mod cubes;\nmod draws;",
     ("pb_inst/src/lib.rt", "pub use cubes::Cube;"): "pub use cubes::Cube;\npub use draws::{drawn, drawn_multiplier};",
-    ("pb_lagrange/src/relaxation/passes.rt", "        self.nodes == LONG_PATIENCE"): "        self.nodes % 4 == 1",
+    ("pb_lagrange/src/relaxation/passes.rt", "        self.is_renewed || self.nodes == LONG_PATIENCE"): "        self.is_renewed || self.nodes % 4 == 1",
     ("pb_search/src/root_work.rt", "        self.returns = u32::MAX;"): "        self.returns = 3;",
     (f"{PROGRAM}/src/main.rt", "        split: 0,"): "        split: (text.len() % 3) as u32,",
 }

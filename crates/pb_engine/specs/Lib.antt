@@ -2,6 +2,7 @@ pub mod DisjointRows
 pub mod Needs
 pub mod Offers
 pub mod Fixing
+pub mod Free
 pub mod Laws
 pub use Rattle.pb_trail.specs.Trail
 pub use Rattle.pb_trail.specs.Completion

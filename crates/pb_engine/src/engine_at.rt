@@ -159,20 +159,11 @@ impl<'a, C: Count> EngineAt<'a, C> {
         self.propagator.literal(place)
     }
 
-    /// Where a conflict stands: the row at which it was found, which can't be met under the trail.
-    pub fn conflict_row(&self) -> Option<usize>
-        ensures stands { IfSome result (λ _. self.now.conflict ≡ true) }
-        ensures broken { IfSome result (λ row. IsBrokenAt self.now.rows self.now.trail row) }
+    /// The trail and the rows themselves, which tell too at which row a conflict was found, and which rows forced literals.
+    pub fn propagator(&self) -> &Propagator<'a, C>
+        ensures { result.now ≡ self.now }
     {
-        self.propagator.conflict_row()
-    }
-
-    /// The terms of a row.
-    pub fn row_terms(&self, row: usize) -> RowTerms<'_, C>
-        requires { row < length self.now.rows }
-        ensures { terms_in result ≡ (row_at self.now.rows row).terms }
-    {
-        self.propagator.row_terms(row)
+        &self.propagator
     }
 
     /// Puts a literal without a value on the trail, as an assumption.
@@ -317,6 +308,36 @@ impl<'a, C: Count> EngineAt<'a, C> {
         match &self.relaxation {
             Some(relaxation) => relaxation.gap(limit),
             None => None,
+        }
+    }
+
+    /// Plans in which order the variables without a value may be decided, where there are multipliers: by a point of least cost
+    /// beside the trail, approached by so many steps from the last one. It leaves the trail and the conflict as they are, and
+    /// takes no memory.
+    pub fn plan(&mut self, steps: u32)
+        ensures { self.new ≡ self.old }
+    {
+        let slacks = self.propagator.slacks();
+        let _vars = slacks.tables().vars();
+        if let Some(relaxation) = &mut self.relaxation {
+            relaxation.plan(&slacks, steps);
+        }
+    }
+
+    /// What is at the place, from 0 on, of the order that was planned last. None behind its end, and where nothing was planned.
+    pub fn planned(&self, place: usize) -> Option<Lit> {
+        match &self.relaxation {
+            Some(relaxation) => relaxation.planned(place),
+            None => None,
+        }
+    }
+
+    /// Multipliers are to be improved by the first-order method once more. No more than a hint.
+    pub fn renew(&mut self)
+        ensures { self.new ≡ self.old }
+    {
+        if let Some(relaxation) = &mut self.relaxation {
+            relaxation.renew();
         }
     }
 

@@ -5,11 +5,13 @@ mod bound;
 mod engine;
 mod engine_at;
 mod extras;
+mod free;
 mod laws;
 mod needs;
 
 pub use engine::Engine;
 pub use engine_at::EngineAt;
+pub use free::{is_free, lowest_free, settled_from};
 pub use laws::clause_laws;
 pub use pb_count::Count;
 pub use pb_lagrange::Fixed;

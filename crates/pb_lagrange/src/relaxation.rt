@@ -281,6 +281,28 @@ impl<'a, C: Count> Relaxation<'a, C> {
         self.multipliers.unassign_to(length);
     }
 
+    /// Plans in which order the variables without a value may be decided, by a point of least cost beside the trail that is
+    /// approached by so many steps from the last one.
+    pub fn plan(&mut self, slacks: &Slacks<'_, '_, C>, steps: u32)
+        requires { IsBeside slacks.now.form slacks.now.trail self.old }
+        ensures { IsBeside slacks.now.form slacks.now.trail self.new }
+    {
+        self.catch_up(slacks);
+        self.passes.plan(&self.multipliers, steps);
+    }
+
+    /// What is at the place, from 0 on, of the order that was planned last.
+    pub fn planned(&self, place: usize) -> Option<Lit> {
+        self.passes.planned(place)
+    }
+
+    /// All rows are to be shifted at once again.
+    pub fn renew(&mut self)
+        ensures { self.new ≡ self.old }
+    {
+        self.passes.renew();
+    }
+
     /// Counts a node of the search whose trail has so many literals.
     fn count_node(&mut self, length: usize)
         ensures { self.new ≡ self.old }

@@ -1,36 +1,33 @@
 //! Activities of variables, which conflicts bump. No answer depends on them, so nothing is promised.
 
-ghost use Rattle.std.specs.Prelude.{◌≡◌, ◌+◌, ◌-◌, ◌^◌, min};
-
 use crate::gains::{Gain, LearnedGains};
 use pb_inst::Lit;
 
-/// An activity, scaled up. The greatest one stands for all that are greater.
-pub type Activity = u64;
+/// What a conflict adds to the activity of a variable that costs nothing, before any conflict.
+pub const BUMP: f64 = 1.0;
 
-/// What a conflict adds to the activity of a variable that costs nothing.
-pub const BUMP: Activity = 16_777_216;
+/// By how much more each conflict adds than the one before, since what older ones added is to count less: 1 / 0.95.
+const GROWTH: f64 = 1.052_631_578_947_368_4;
 
-/// The activity of a variable, and what a conflict adds to it.
+/// Where bumps are as large as this, they and all activities are scaled down.
+const LARGE: f64 = 1e100;
+
+/// What they are multiplied by then.
+const SCALED_DOWN: f64 = 1e-100;
+
+/// The activity of a variable, and what a conflict adds to it, by the bump of one that costs nothing.
 #[derive(Clone, Copy)]
 pub struct VariableActivity {
-    pub activity: Activity,
-    pub bump: Activity,
-}
-
-impl VariableActivity {
-    /// Adds to the activity what a conflict adds. Nothing ever decays.
-    fn rise(&mut self)
-        ensures { self.new.activity ≡ min (self.old.activity + self.old.bump) (2 ^ 64 - 1) }
-    {
-        self.activity = self.activity.saturating_add(self.bump);
-    }
+    pub activity: f64,
+    pub bump: f64,
 }
 
 /// The activity of each variable, by its index from 0 on, and what decisions of it gained.
 #[derive(Drop)]
 pub struct Activities {
     entries: Vec<VariableActivity>,
+    /// What a conflict adds to the activity of a variable that costs nothing.
+    bump: f64,
     gains: LearnedGains,
     /// Whether gains count too, or activities alone.
     is_led_by_gains: bool,
@@ -41,6 +38,7 @@ impl Activities {
     pub fn new(entries: Vec<VariableActivity>, gains: LearnedGains) -> Activities {
         Activities {
             entries,
+            bump: BUMP,
             gains,
             is_led_by_gains: false,
         }
@@ -62,34 +60,49 @@ impl Activities {
     }
 
     /// The activity at the index, 0 where there is none.
-    fn activity(&self, index: u32) -> Activity {
+    fn activity(&self, index: u32) -> f64 {
         match self.entries.get(index as usize) {
             Some(entry) => entry.activity,
-            None => 0,
+            None => 0.0,
         }
     }
 
     /// The activity of the variable at the index, times what its decisions gained.
-    fn rank(&self, index: u32) -> u128 {
-        (self.activity(index) as u128).saturating_mul(self.gains.factor(index) as u128)
+    fn rank(&self, index: u32) -> f64 {
+        self.activity(index) * self.gains.factor(index)
     }
 
     /// Whether the first variable comes before the second: by falling activity, or rank where gains count too, and then by
     /// index.
     pub fn precedes(&self, first: u32, second: u32) -> bool {
-        // Asked at each step in the heap: activities alone are compared in 64 bits.
-        let order = if self.is_led_by_gains {
-            self.rank(second).cmp(&self.rank(first))
+        let (before, after) = if self.is_led_by_gains {
+            (self.rank(first), self.rank(second))
         } else {
-            self.activity(second).cmp(&self.activity(first))
+            (self.activity(first), self.activity(second))
         };
-        order.then(first.cmp(&second)).is_lt()
+        before > after || (before == after && first < second)
     }
 
     /// Adds to the activity of the variable at the index what a conflict adds, where there is one.
     pub fn bump(&mut self, index: u32) {
         if let Some(entry) = self.entries.get_mut(index as usize) {
-            entry.rise();
+            entry.activity += entry.bump * self.bump;
+        }
+    }
+
+    /// What was added so far counts less from now on.
+    pub fn decay(&mut self) {
+        self.bump *= GROWTH;
+        if self.bump > LARGE {
+            self.scale_down();
+        }
+    }
+
+    /// Scales all activities down, and what conflicts add.
+    fn scale_down(&mut self) {
+        self.bump *= SCALED_DOWN;
+        for entry in self.entries.iter_mut() {
+            entry.activity *= SCALED_DOWN;
         }
     }
 }

@@ -2,15 +2,16 @@
 
 use pb_inst::{Lit, Memory};
 use std::alloc::Global;
+use std::num::nearest_u64_to_f64;
 
 /// By how much a decision raised the bound. The greatest one stands for all that are greater.
 pub type Gain = u64;
 
-/// How much a factor of a variable may be, and how finely it is told.
-pub type Factor = u64;
+/// The quotient of a mean gain and the mean of all gains, scaled up.
+type Quotient = u64;
 
 /// The factor of a variable of which nothing is known: about that of one whose two values gain as much as others do.
-const UNKNOWN: Factor = 1_048_576;
+const UNKNOWN: f64 = 1_048_576.0;
 
 /// By how much quotients of gains are scaled up.
 const SCALE: u128 = 1024;
@@ -54,19 +55,19 @@ impl Gains {
     }
 
     /// The mean of these gains by that of all gains, as if there were one more of a little over the mean.
-    fn quotient(&self, mean: u128) -> Factor {
+    fn quotient(&self, mean: u128) -> Quotient {
         let sum = (self.sum as u128)
             .saturating_mul(SCALE)
             .saturating_add(mean.saturating_mul(PRIOR));
         let count = mean.saturating_mul(self.count as u128 + 1).max(1);
-        (sum / count).max(1).min(MAX_QUOTIENT) as Factor
+        (sum / count).max(1).min(MAX_QUOTIENT) as Quotient
     }
 }
 
 /// What decisions of one variable gained.
 #[derive(Clone, Copy)]
 struct VariableGains {
-    factor: Factor,
+    factor: f64,
     positive: Gains,
     negative: Gains,
 }
@@ -96,7 +97,7 @@ impl LearnedGains {
 
     /// What the activity of the variable is worth: the product of what its two values gain by the mean gain, for a variable
     /// is the better the more both of them do.
-    pub fn factor(&self, index: u32) -> Factor {
+    pub fn factor(&self, index: u32) -> f64 {
         match self.variables.get(index as usize) {
             Some(variable) => variable.factor,
             None => UNKNOWN,
@@ -116,6 +117,7 @@ impl LearnedGains {
             variable.negative.add(gain);
         }
         let positive = variable.positive.quotient(mean);
-        variable.factor = positive.saturating_mul(variable.negative.quotient(mean));
+        let factor = positive.saturating_mul(variable.negative.quotient(mean));
+        variable.factor = nearest_u64_to_f64(factor);
     }
 }

@@ -3,11 +3,12 @@
 
 ghost use Rattle.std.specs.Prelude.{◌≤◌};
 
-use crate::activity::{Activity, BUMP, VariableActivity};
+use crate::activity::{BUMP, VariableActivity};
 use pb_count::Count;
 use pb_inst::{Cube, Lit, Memory};
 use pb_normal::{Form, FormTerm};
 use std::alloc::Global;
+use std::num::nearest_u64_to_f64;
 
 /// What speaks for a variable before any conflict, scaled up. The greatest one stands for all that are greater, however wide
 /// the coefficients are.
@@ -15,6 +16,9 @@ type Score = u64;
 
 /// By how much quotients are scaled up.
 const SCALE: Score = HALF_SCALE * HALF_SCALE;
+
+/// The same as a float.
+const SCALE_AS_FLOAT: f64 = 16_777_216.0;
 
 /// The square root of the scale.
 const HALF_SCALE: Score = 4096;
@@ -26,9 +30,10 @@ const HALF_SCALE: Score = 4096;
 pub fn initial_activities<C: Count>(
     alloc: Global,
     form: &Form<C>,
+    scores: &[LiteralScores],
     negated: &[Cube],
 ) -> Result<Vec<VariableActivity>, Memory> {
-    let scores = static_scores(alloc, form)?;
+    let scores = static_scores(alloc, form, scores)?;
     let mut activities = activities_of(alloc, &scores)?;
     add_costs(&mut activities, form.objective());
     lead_by_costs(&mut activities, form.objective());
@@ -38,11 +43,18 @@ pub fn initial_activities<C: Count>(
     Ok(activities)
 }
 
-/// For each variable the literal that costs nothing, and the negated one where neither costs.
-pub fn initial_phases<C: Count>(alloc: Global, form: &Form<C>) -> Result<Vec<Lit>, Memory> {
+/// For each variable the literal that costs nothing, and the negated one where neither costs. Where nothing is minimised the
+/// literal that does more for its rows, by the sum of coefficient / degree, and the negated one where they do as much.
+pub fn initial_phases<C: Count>(
+    alloc: Global,
+    form: &Form<C>,
+    scores: &[LiteralScores],
+) -> Result<Vec<Lit>, Memory> {
+    let is_decision = form.objective().is_empty();
     let mut phases = Vec::with_capacity(alloc, form.vars() as usize)?;
     for place in 0..form.vars() {
-        if let Ok(lit) = Lit::new(place + 1, false) {
+        let positive = is_decision && does_more(scores.get(place as usize));
+        if let Ok(lit) = Lit::new(place + 1, positive) {
             phases.push(lit)?;
         }
     }
@@ -55,15 +67,23 @@ pub fn initial_phases<C: Count>(alloc: Global, form: &Form<C>) -> Result<Vec<Lit
     Ok(phases)
 }
 
+/// Whether the variable does more for its rows than its negation.
+fn does_more(scores: Option<&LiteralScores>) -> bool {
+    match scores {
+        Some(scores) => scores.positive > scores.negative,
+        None => false,
+    }
+}
+
 /// The activities by score, as shares of the greatest one.
 fn activities_of(alloc: Global, scores: &[Score]) -> Result<Vec<VariableActivity>, Memory> {
     let most = greatest(scores);
     let mut activities = Vec::with_capacity(alloc, scores.len())?;
     for score in scores {
         // Less than one bump, so that before any conflict the order is the static one, and after it conflicts decide.
-        let activity = ratio(*score, most).min(SCALE - 1);
+        let share = ratio(*score, most).min(SCALE - 1);
         activities.push(VariableActivity {
-            activity,
+            activity: float(share),
             bump: BUMP,
         })?;
     }
@@ -84,8 +104,7 @@ fn add_costs<C: Count>(activities: &mut [VariableActivity], objective: &[FormTer
     let mean = mean_cost(objective);
     for term in objective {
         if let Some(entry) = activities.get_mut(term.lit().var() as usize - 1) {
-            let share = wide_ratio(coefficient(term), mean);
-            entry.bump = entry.bump.saturating_add(share);
+            entry.bump += float(wide_ratio(coefficient(term), mean));
         }
     }
 }
@@ -98,7 +117,7 @@ fn lead_by_costs<C: Count>(activities: &mut [VariableActivity], objective: &[For
     }
     for term in objective {
         if let Some(entry) = activities.get_mut(term.lit().var() as usize - 1) {
-            entry.activity = entry.activity.saturating_add(HEAD_START);
+            entry.activity += HEAD_START;
         }
     }
 }
@@ -107,38 +126,69 @@ fn lead_by_costs<C: Count>(activities: &mut [VariableActivity], objective: &[For
 const VARIABLES_OF_A_COST: usize = 4;
 
 /// Adds to the activities of the variables that occur, for each time what a conflict adds.
-fn give_head_starts(activities: &mut [VariableActivity], counts: &[Activity]) {
+fn give_head_starts(activities: &mut [VariableActivity], counts: &[u64]) {
     for i in 0..counts.len() {
         if let Some(entry) = activities.get_mut(i) {
-            let head_start = HEAD_START.saturating_mul(counts[i]);
-            entry.activity = entry.activity.saturating_add(head_start);
+            entry.activity += HEAD_START * nearest_u64_to_f64(counts[i]);
         }
     }
 }
 
 /// What each occurrence in a cube that is to be false, or a cost where few variables have one, adds to the initial activity.
-const HEAD_START: Activity = BUMP;
+const HEAD_START: f64 = BUMP;
 
-/// The score of each variable, before any conflict.
-fn static_scores<C: Count>(alloc: Global, form: &Form<C>) -> Result<Vec<Score>, Memory> {
+/// What speaks for the two literals of a variable: for each the sum of coefficient / degree over its rows.
+#[derive(Clone, Copy)]
+pub struct LiteralScores {
+    positive: Score,
+    negative: Score,
+}
+
+/// The scores of the literals of each variable.
+pub fn literal_scores<C: Count>(
+    alloc: Global,
+    form: &Form<C>,
+) -> Result<Vec<LiteralScores>, Memory> {
+    let none = LiteralScores {
+        positive: 0,
+        negative: 0,
+    };
     let vars = form.vars() as usize;
-    let mut scores = vec![in alloc; 0; vars]?;
+    let mut scores = vec![in alloc; none; vars]?;
     for row in 0..form.len() {
         let degree = form.degree(row).number();
         add_row(&mut scores, form.terms(row), degree);
     }
-    raise_by_cost(&mut scores, form.objective());
     Ok(scores)
 }
 
-/// Adds coefficient / degree to the score of each variable of the row.
-fn add_row<C: Count>(scores: &mut [Score], terms: &[FormTerm<C>], degree: u128) {
+/// Adds coefficient / degree to the score of each literal of the row.
+fn add_row<C: Count>(scores: &mut [LiteralScores], terms: &[FormTerm<C>], degree: u128) {
     for term in terms {
-        if let Some(score) = scores.get_mut(term.lit().var() as usize - 1) {
+        let lit = term.lit();
+        if let Some(scores) = scores.get_mut(lit.var() as usize - 1) {
             let share = wide_ratio(coefficient(term), degree);
-            *score = score.saturating_add(share);
+            if lit.positive() {
+                scores.positive = scores.positive.saturating_add(share);
+            } else {
+                scores.negative = scores.negative.saturating_add(share);
+            }
         }
     }
+}
+
+/// The score of each variable, before any conflict.
+fn static_scores<C: Count>(
+    alloc: Global,
+    form: &Form<C>,
+    scores: &[LiteralScores],
+) -> Result<Vec<Score>, Memory> {
+    let mut totals = Vec::with_capacity(alloc, scores.len())?;
+    for scores in scores {
+        totals.push(scores.positive.saturating_add(scores.negative))?;
+    }
+    raise_by_cost(&mut totals, form.objective());
+    Ok(totals)
 }
 
 /// Multiplies the score of each variable by 1 + cost / mean cost.
@@ -180,6 +230,11 @@ fn leading(number: u128, excess: u32) -> Score
     (number >> excess).min(Score::MAX as u128) as Score
 }
 
+/// The number that is scaled up.
+fn float(scaled: Score) -> f64 {
+    nearest_u64_to_f64(scaled) / SCALE_AS_FLOAT
+}
+
 /// The scaled quotient. Where the part is too large to be scaled, the whole is scaled down.
 fn ratio(part: Score, whole: Score) -> Score {
     if part <= Score::MAX / SCALE {
@@ -190,7 +245,7 @@ fn ratio(part: Score, whole: Score) -> Score {
 }
 
 /// How often each variable occurs in the cubes.
-fn occurrences(alloc: Global, vars: u32, cubes: &[Cube]) -> Result<Vec<Activity>, Memory> {
+fn occurrences(alloc: Global, vars: u32, cubes: &[Cube]) -> Result<Vec<u64>, Memory> {
     let mut counts = vec![in alloc; 0; vars as usize]?;
     for cube in cubes {
         count(&mut counts, cube.lits());
@@ -199,7 +254,7 @@ fn occurrences(alloc: Global, vars: u32, cubes: &[Cube]) -> Result<Vec<Activity>
 }
 
 /// Counts the variables of the literals.
-fn count(counts: &mut [Activity], lits: &[Lit]) {
+fn count(counts: &mut [u64], lits: &[Lit]) {
     for lit in lits {
         if let Some(count) = counts.get_mut(lit.var() as usize - 1) {
             *count = count.saturating_add(1);

@@ -7,6 +7,7 @@
 #![tactic(auto)]
 
 mod activity;
+mod causes;
 mod gains;
 mod heap;
 mod initial;

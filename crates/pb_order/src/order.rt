@@ -1,13 +1,17 @@
 //! The order of variables, and what moves them in it.
 
+ghost use Rattle.std.specs.Prelude.{◌<◌, length};
+
 use crate::activity::Activities;
+use crate::causes::Causes;
 use crate::gains::{Gain, LearnedGains};
 use crate::heap::Heap;
-use crate::initial::{initial_activities, initial_phases};
+use crate::initial::{initial_activities, initial_phases, literal_scores};
 use pb_count::Count;
-use pb_inst::{Cube, Lit, Memory};
+use pb_inst::{Assignment, Cube, Lit, Memory};
 use pb_normal::Form;
 use pb_rows::RowTerms;
+use pb_trail::Propagator;
 use std::alloc::Global;
 use std::marker::Model;
 
@@ -22,8 +26,11 @@ pub struct Order {
     heap: Heap,
     /// How many variables could have been put in order since that was last done.
     waited: u32,
-    /// Of each variable the literal that is tried first. No search changes it.
+    /// Of each variable the literal that is tried first.
     phases: Vec<Lit>,
+    /// Whether nothing is minimised.
+    is_decision: bool,
+    causes: Causes,
 }
 
 // No answer depends on the order, so contracts see nothing of it.
@@ -41,6 +48,8 @@ impl Drop for Order {
             heap: _,
             waited: _,
             phases: _,
+            is_decision: _,
+            causes: _,
         } = self;
     }
 }
@@ -48,17 +57,35 @@ impl Drop for Order {
 impl Order {
     /// All variables of the normal form. Where cubes are to be false, their variables come first.
     pub fn new<C: Count>(alloc: Global, form: &Form<C>, negated: &[Cube]) -> Result<Order, Memory> {
-        let entries = initial_activities(alloc, form, negated)?;
+        let scores = literal_scores(alloc, form)?;
+        let entries = initial_activities(alloc, form, &scores, negated)?;
         let gains = LearnedGains::new(alloc, vars_with_gains(form))?;
         let activities = Activities::new(entries, gains);
         let heap = Heap::new(alloc, form.vars(), &activities)?;
-        let phases = initial_phases(alloc, form)?;
+        let phases = initial_phases(alloc, form, &scores)?;
+        let causes = Causes::new(alloc, form.vars())?;
         Ok(Order {
             activities,
             heap,
             waited: 0,
             phases,
+            is_decision: form.objective().is_empty(),
+            causes,
         })
+    }
+
+    /// Where nothing is minimised the values of the assignment are tried first from now on.
+    pub fn prefer(&mut self, assignment: &Assignment) {
+        // It meets all constraints, and what is left to find is like it but for the variables that come first.
+        if !self.is_decision {
+            return;
+        }
+        for lit in self.phases.iter_mut() {
+            let var = lit.var();
+            if var <= assignment.len() && assignment.get(var) != lit.positive() {
+                *lit = lit.negate();
+            }
+        }
     }
 
     /// How many variables are left, those that were not passed over.
@@ -82,11 +109,47 @@ impl Order {
         self.heap.put_back(left, &self.activities);
     }
 
-    /// Bumps the activities of the variables of a row that could not be met.
-    pub fn bump_conflict<C: Count>(&mut self, row: RowTerms<'_, C>) {
-        // Where a row could not be met the search is hard, so its variables come sooner from now on. Beside the order that
-        // the search begins with, kept as it is, this took 2 to 7 times fewer decisions on some kinds of instances, and at
-        // most 1.3 times as many on others.
+    /// Where a conflict stands: bumps the activities of the variables of the row that could not be met. Where nothing is
+    /// minimised, those of the variables whose values led to that too, back to the decisions, and what was bumped before counts
+    /// less from now on.
+    pub fn bump_conflict<C: Count>(&mut self, propagator: &Propagator<'_, C>) {
+        // Where a row could not be met the search is hard, so its variables come sooner from now on. Where costs are to be
+        // paid, bounds close most nodes, and conflicts tell too little to forget for them what costs and rows told.
+        let Some(row) = propagator.conflict_row() else {
+            return;
+        };
+        self.bump_row(propagator.row_terms(row));
+        if self.is_decision {
+            self.bump_causes(propagator, row);
+            self.activities.decay();
+        }
+    }
+
+    /// Bumps the variables whose values led to the conflict at the row.
+    fn bump_causes<C: Count>(&mut self, propagator: &Propagator<'_, C>, row: usize)
+        requires { row < length propagator.now.rows }
+    {
+        self.causes.add_row(propagator, propagator.row_terms(row));
+        for place in (0..propagator.trail_len()).rev() {
+            if !self.causes.are_waiting() {
+                return;
+            }
+            self.bump_cause(propagator, propagator.literal(place));
+        }
+    }
+
+    /// Bumps the literal's variable where it led to the conflict, and then so did those of the row that forced it.
+    fn bump_cause<C: Count>(&mut self, propagator: &Propagator<'_, C>, lit: Lit) {
+        if self.causes.meet(lit.var()) {
+            self.bump(lit);
+            if let Some(row) = propagator.reason(lit.var()) {
+                self.causes.add_row(propagator, propagator.row_terms(row));
+            }
+        }
+    }
+
+    /// Bumps the activities of the variables of a row.
+    fn bump_row<C: Count>(&mut self, row: RowTerms<'_, C>) {
         match row {
             RowTerms::Weighted(terms) => {
                 for term in terms {
@@ -120,7 +183,7 @@ impl Order {
     }
 
     /// Bumps the activity of the literal's variable.
-    fn bump(&mut self, lit: Lit) {
+    pub fn bump(&mut self, lit: Lit) {
         let index = lit.var() - 1;
         self.activities.bump(index);
         self.heap.bumped(index, &self.activities);

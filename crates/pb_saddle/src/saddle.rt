@@ -28,12 +28,12 @@ const LOOK: u32 = 25;
 /// How far the bound may be below what it can be, about, where more steps are not worth it: a part of a cost.
 const NEAR: f64 = 1.0 / 64.0;
 
-/// The same as a part of the bound, where costs are great.
+/// The same as a part of the bound, where costs are great, or of what it lacks to the limit where that is less.
 const NEAR_PART: f64 = 1.0e-6;
 
-/// Which part of the bound a better one must gain for its multipliers to be taken. Where they gain less, as beside few rows that
-/// were stepped one by one, those are left as they are: theirs lie between the vertices of the dual, where more reduced costs
-/// tell which value is the better one.
+/// Which part of the bound, or of what it lacks to the limit where that is less, a better one must gain for its multipliers to be
+/// taken. Where they gain less, as beside few rows that were stepped one by one, those are left as they are: theirs lie between
+/// the vertices of the dual, where more reduced costs tell which value is the better one.
 const LEAST_GAIN: f64 = 1.0 / 256.0;
 
 /// How far over 0 a bound is to be where nothing costs anything, so that it is none by rounding.
@@ -122,10 +122,10 @@ impl Saddle {
         self.begin_at(multipliers, scale);
         let start = self.top;
         let end = start + float(multipliers.gap(limit).number()) / scale;
-        let visits = self.run(steps, end, NEAR);
+        let visits = self.run(steps, end, nearness(start, end));
         self.hold(multipliers.form().len());
         let height = float(multipliers.height().number()) / scale;
-        if self.top - start > height * LEAST_GAIN {
+        if self.top - start > less(height, end - start) * LEAST_GAIN {
             self.adopt(multipliers, scale);
         }
         visits
@@ -159,7 +159,7 @@ impl Saddle {
         }
         self.load(multipliers);
         self.resume();
-        let visits = self.run(steps, f64::INFINITY, NEAR);
+        let visits = self.run(steps, f64::INFINITY, nearness(self.top, f64::INFINITY));
         self.hold(multipliers.form().len());
         self.order(multipliers);
         visits
@@ -278,7 +278,7 @@ impl Saddle {
     /// Whether the best bound is so near to the greatest, about.
     fn is_near(&self, near: f64) -> bool {
         let price = self.problem.price(&self.x.target, &self.y.target);
-        price - self.top <= near + NEAR_PART * self.top.abs()
+        price - self.top <= near
     }
 
     /// Keeps the best y by the rows of the form, of which there are so many. Rows that the trail meets have 0.
@@ -326,4 +326,15 @@ impl Saddle {
         }
         self.plan.sort();
     }
+}
+
+/// How far the bound may be below what it can be, about, where more steps are not worth it: it began at the start, and over the
+/// end it need not come.
+fn nearness(start: f64, end: f64) -> f64 {
+    NEAR + less(start.abs() * NEAR_PART, (end - start) / 256.0)
+}
+
+/// The less of the two.
+fn less(one: f64, other: f64) -> f64 {
+    if other < one { other } else { one }
 }

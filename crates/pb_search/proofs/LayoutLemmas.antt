@@ -1,5 +1,5 @@
 -- How a search is laid out when it is made.
-use Rattle.std.proofs.Common.{◌≡◌, ℕ, ◌≤◌, List, [], ◌++◌, length, get_or, sym, ◌∙◌, subst, Bool, All}
+use Rattle.std.proofs.Common.{◌≡◌, ℕ, ◌≤◌, List, [], ◌++◌, get_or, sym, ◌∙◌, subst, Bool, All}
 use Rattle.std.specs.Prelude.{◌↔◌, Option, IfNone, IfSome, vec_capacity}
 use Rattle.std.proofs.lemmas.List.Elements.{All-nil, All-append, All-contains, All-contains_itself, Contains-append_left, Contains-append_right}
 use Rattle.pb_inst.specs.Literal.{Literal}
@@ -8,7 +8,6 @@ use Rattle.pb_inst.specs.Meaning.{IsFeasible}
 use Rattle.pb_inst.specs.Cubes.{MakesFalse}
 use Rattle.pb_inst.specs.declared.TheConstants.{MAX_VARS}
 use Rattle.pb_normal.specs.NormalForm.{NormalForm, PositiveRow, MeetsRow, MeetsRows, KeepsFeasible, KeepsCost}
-use Rattle.pb_engine.specs.Clauses.{AreClausesOf}
 use Rattle.pb_engine.specs.EngineState.{EngineState}
 use Rattle.pb_engine.specs.Laws.{ClausesSayCubesAreFalse}
 use Rattle.pb_cubes.specs.Pieces.{CubeList}

@@ -8,4 +8,5 @@ pub mod SearchLemmas
 pub mod RootLemmas
 pub mod LayoutLemmas
 pub mod BudgetLemmas
+pub mod DivingLemmas
 pub mod ProbingLemmas

@@ -8,7 +8,8 @@ use Rattle.pb_engine.specs.EngineState.{EngineState, trail_before}
 use Rattle.pb_engine.specs.Soundness.{assumptions, IsSoundTrail}
 use Rattle.pb_search.specs.declared.branch.Branch.{Branch}
 use Rattle.pb_search.specs.Paths.{decided, IsOtherValue}
-use Rattle.pb_search.specs.SearchState.{IsAtPath, IsFree}
+use Rattle.pb_engine.specs.Free.{IsFree}
+use Rattle.pb_search.specs.SearchState.{IsAtPath}
 use Rattle.pb_search.proofs.Engines.{same_constraints, assumed, undone, assumptions-few}
 
 -- what holds of all holds of the front and of the last

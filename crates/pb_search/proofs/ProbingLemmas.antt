@@ -15,7 +15,8 @@ use Rattle.pb_engine.specs.Soundness.{assumptions, IsSoundTrail}
 use Rattle.pb_trail.proofs.EngineLemmas.{kept_front}
 use Rattle.pb_search.specs.Held.{IsImprovement}
 use Rattle.pb_search.specs.Solutions.{SameConstraints, Completes}
-use Rattle.pb_search.specs.SearchState.{IsClosed, IsFree, IsOpenOnOneSide}
+use Rattle.pb_engine.specs.Free.{IsFree}
+use Rattle.pb_search.specs.SearchState.{IsClosed, IsOpenOnOneSide}
 use Rattle.pb_search.proofs.Engines.{same_constraints}
 use Rattle.pb_search.proofs.PathLemmas.{negated_true}
 use Rattle.pb_search.proofs.SearchLemmas.{same_solution, assumptions_true}

@@ -20,8 +20,9 @@ use Rattle.pb_search.specs.Layout.{IsLaidOut}
 use Rattle.pb_search.specs.Held.{IsNotAfter}
 use Rattle.pb_search.specs.Paths.{decided, search_steps, LiesOpen, LeavesOpen, IsOtherValue}
 use Rattle.pb_search.specs.Solutions.{SameConstraints, Satisfies, SatisfiesUnder, Completes}
-use Rattle.pb_search.specs.SearchState.{IsEngineOf, IsStateOf, IsAtPath, IsFree, IsClosed, IsFreshOrOneSided, IsOpenOnOneSide, SameBranches, IsUnderWay, IsLeaving, IsNext, LeavesFewer, IsOwn}
-use Rattle.pb_search.proofs.HeldLemmas.{improvement_on_earlier, not_after_itself}
+use Rattle.pb_engine.specs.Free.{IsFree}
+use Rattle.pb_search.specs.SearchState.{IsEngineOf, IsStateOf, IsAtPath, IsClosed, IsFreshOrOneSided, IsOpenOnOneSide, SameBranches, IsUnderWay, IsLeaving, IsNext, LeavesFewer, IsOwn}
+use Rattle.pb_search.proofs.HeldLemmas.{improvement_on_earlier}
 use Rattle.pb_search.proofs.PathLemmas.{decide_keeps, decide_keeps_one_sided, back_keeps, leaves_open, leaves_last, turn_keeps}
 use Rattle.pb_search.proofs.Engines.{same_constraints_onward, same_constraints_itself}
 use Rattle.pb_search.proofs.Moves.{All_front, free_other}
@@ -178,14 +179,6 @@ under_way_without p start t u b held step h = record {
   all_open = λ a below better. back_keeps a u.branches.items b (subst (λ (x : List Branch). LiesOpen a x) step.popped (h.all_open a below better));
 }
 
--- the same where the last decision is one that there may be
-pub under_way_before : {C : Type 0} (p : Problem) (start : EngineState) (t u : SearchState C) (o : Option Branch) (n : ℕ) (held : Option Solution) → IfSome o (λ b. t.branches.items ≡ u.branches.items ++ b ∷ []) → IfSome o (λ b. IsFree u.engine b.lit) → IfNone o (t.branches.items ≡ []) → n < length t.branches.items → SameConstraints t.engine u.engine → ((root : List Literal) → IsAtPath root t.engine t.branches.items → IsAtPath root u.engine u.branches.items) → vec_capacity u.branches ≡ vec_capacity t.branches → length u.candidate ≡ length t.candidate → IsUnderWay p start t held → IsUnderWay p start u held
-under_way_before p start t u None n held popped free none some same at room candidate h =
-    let empty : length t.branches.items ≡ 0 = ap (λ (x : List Branch). length x) none in
-    absurd (omega arith)
-under_way_before p start t u (Some b) n held popped free none some same at room candidate h =
-    under_way_without p start t u b held (step_of p t u u.engine b popped same at free room candidate refl) h
-
 -- nothing is left to try at the decision that was taken back
 pub leaving_on : {C : Type 0} (p : Problem) (start : EngineState) (t u : SearchState C) (b : Branch) (held : Option Solution) → IsStep p t u b → (b.flipped ≡ true) ⊎ IsClosed p u.engine held → IsLeaving p start t held → IsLeaving p start u held
 leaving_on p start t u b held step spent h =
@@ -206,10 +199,6 @@ leaving_on p start t u b held step spent h =
     no_choice : (flipped : Bool) → (flipped ≡ true) ⊎ IsClosed p u.engine held → flipped ≡ false → (IsClosed p u.engine held → ⊥) → ⊥
     no_choice flipped (inl is) isnt none = let e : true ≡ false = sym is ∙ isnt in let bad : ⊥ = cc in bad
     no_choice flipped (inr closed) isnt none = none closed
-
--- what is under way doesn't depend on what is noted beside it
-pub beside_work : {C : Type 0} (p : Problem) (start : EngineState) (t u : SearchState C) (held : Option Solution) → SameBranches t u → IsSoundTrail u.engine → IsUnderWay p start t held → IsUnderWay p start u held
-beside_work p start t u held same sound h = stays_under_way p start t u held held same sound (not_after_itself p held) h
 
 -- other notes of the work at the root
 pub with_work : {C : Type 0} (p : Problem) (start : EngineState) (t : SearchState C) (w : RootWork) (held : Option Solution) → IsUnderWay p start t held → IsUnderWay p start (record t { root_work = w }) held
@@ -287,18 +276,6 @@ if_some_map (Some b) P Q f h = f b h
 pub if_none_map : (o : Option Branch) (P Q : Type 0) → (P → Q) → IfNone o P → IfNone o Q
 if_none_map None P Q f h = f h
 if_none_map (Some b) P Q f h = h
-
-pub some_and_map : (o : Option Branch) (P Q : Branch → Type 0) → ((b : Branch) → P b → Q b) → IsSomeAnd o P → IfSome o Q
-some_and_map None P Q f h = absurd h
-some_and_map (Some b) P Q f h = f b h
-
-pub some_and_unit : (o : Option Branch) (P : Branch → Type 0) → IsSomeAnd o P → IsSomeAnd o (λ _. Unit {0})
-some_and_unit None P h = h
-some_and_unit (Some b) P h = tt
-
-pub some_and_none : (o : Option Branch) (P : Branch → Type 0) (Q : Type 0) → IsSomeAnd o P → IfNone o Q
-some_and_none None P Q h = absurd h
-some_and_none (Some b) P Q h = tt
 
 -- a search is laid out as before where the state of the remainder has the same constraints
 pub rest_laid_out : {C : Type 0} (p : Problem) (pieces : CubeList) (cube : Option (SearchState C)) (rest new : SearchState C) → IsLaidOut p pieces cube rest → IsStateOf p new → SameConstraints rest.engine new.engine → IsLaidOut p pieces cube new

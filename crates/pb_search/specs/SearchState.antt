@@ -10,6 +10,7 @@ use Rattle.pb_inst.specs.declared.TheConstants.{MAX_VARS}
 use Rattle.pb_normal.specs.NormalForm.{KeepsCost, MeetsRows}
 use Rattle.pb_engine.specs.Trail.{value_on}
 use Rattle.pb_engine.specs.EngineState.{EngineState}
+use Rattle.pb_engine.specs.Free.{IsFree}
 use Rattle.pb_engine.specs.Soundness.{assumptions, IsSoundTrail}
 use Rattle.pb_search.specs.declared.branch.Branch.{Branch}
 use Rattle.pb_search.specs.declared.search_state.SearchState.{SearchState}
@@ -40,12 +41,6 @@ pub record IsAtPath (root : List Literal) (s : EngineState) (path : List Branch)
 pub record IsAtSomePath (s : EngineState) (path : List Branch) : Type 0 where
   pub root : List Literal
   pub at : IsAtPath root s path
-
--- the literal may be assumed
-pub record IsFree (s : EngineState) (l : Literal) : Type 0 where
-  pub variable : l.var ≤ s.vars
-  pub no_value : value_on s.trail l.var ≡ None
-  pub no_conflict : s.conflict ≡ false
 
 -- the constraints, assumptions, decisions and room are the same, and as many steps back to the root are left
 pub record SameBranches {C : Type 0} (old new : SearchState C) : Type 0 where

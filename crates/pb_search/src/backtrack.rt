@@ -6,7 +6,8 @@ ghost use Rattle.pb_engine.specs.EngineState.{EngineState};
 ghost use Rattle.pb_search.specs.Paths.{IsOtherValue};
 ghost use Rattle.pb_search.specs.Solutions.{SameConstraints};
 ghost use Rattle.pb_search.specs.AgreedPrefix.{KnowsHeldPrefix};
-ghost use Rattle.pb_search.specs.SearchState.{IsStateOf, IsAtPath, IsAtSomePath, IsFree, IsLeaving, IsNext, IsSearched, LeavesFewer};
+ghost use Rattle.pb_engine.specs.Free.{IsFree};
+ghost use Rattle.pb_search.specs.SearchState.{IsStateOf, IsAtPath, IsAtSomePath, IsLeaving, IsNext, IsSearched, LeavesFewer};
 
 use crate::agreed_prefix::AgreedPrefix;
 use crate::branch::Branch;

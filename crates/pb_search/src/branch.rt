@@ -3,7 +3,8 @@
 ghost use Rattle.std.specs.Prelude.{◌≡◌, ◌≢◌, ◌++◌, ◌∷◌, [], ◌≤◌, List, length, vec_capacity, Some};
 ghost use Rattle.pb_inst.specs.Literal.{Literal};
 ghost use Rattle.pb_search.specs.Solutions.{SameConstraints};
-ghost use Rattle.pb_search.specs.SearchState.{IsAtPath, IsAtSomePath, IsFree};
+ghost use Rattle.pb_engine.specs.Free.{IsFree};
+ghost use Rattle.pb_search.specs.SearchState.{IsAtPath, IsAtSomePath};
 ghost use Rattle.pb_search.specs.Budget.{one_more};
 
 use pb_engine::{Count, EngineAt};

@@ -1,13 +1,13 @@
 //! What to decide next: by the order of activities, and where a tie is to be settled by the order of assignments.
 
-ghost use Rattle.std.specs.Prelude.{◌≡◌, ◌≢◌, ◌≤◌, ◌<◌, ◌+◌, ℕ, false, IsTrue, IfSome, IfNone, None};
+ghost use Rattle.std.specs.Prelude.{◌≡◌, ◌≤◌, false, IfSome, IfNone, None};
 ghost use Rattle.pb_inst.specs.declared.TheConstants.{MAX_VARS};
 ghost use Rattle.pb_engine.specs.Trail.{value_on};
 ghost use Rattle.pb_engine.specs.Soundness.{IsFull};
 
 use crate::branch::{Branch, Hints};
 use crate::pruning::Pruning;
-use pb_engine::{Count, EngineAt};
+use pb_engine::{Count, EngineAt, is_free, lowest_free, settled_from};
 use pb_inst::{Lit, Number};
 use pb_order::Order;
 
@@ -91,45 +91,4 @@ fn ordered_decision<C: Count>(
         order.pass();
     }
     None
-}
-
-/// Whether the literal's variable is one of the engine's and has no value.
-pub fn is_free<C: Count>(engine: &EngineAt<'_, C>, vars: u32, lit: Lit) -> bool
-    requires variables { vars ≡ engine.now.vars }
-    ensures { IsTrue result → (lit.var ≤ vars) × (value_on engine.now.trail lit.var ≡ None) }
-{
-    if lit.var() > vars {
-        return false;
-    }
-    engine.value(lit.var()).is_none()
-}
-
-/// The negated lowest variable without a value among the first `count`, or none where each of them has one.
-fn lowest_free<C: Count>(engine: &EngineAt<'_, C>, count: u32) -> Option<Lit>
-    requires variables { count ≤ engine.now.vars }
-    requires few { count ≤ MAX_VARS }
-    ensures free { IfSome result (λ l. (l.var ≤ count) × (value_on engine.now.trail l.var ≡ None)) }
-    ensures full { IfNone result (count ≡ engine.now.vars → IsFull engine.now) }
-{
-    let settled = settled_from(engine, 0, count);
-    if settled == count {
-        return None;
-    }
-    Lit::new(settled + 1, false).ok()
-}
-
-/// How many variables come before the first one, after the first `from`, that has no value; where none of the first `end`
-/// is without one, `end` or `from`.
-pub fn settled_from<C: Count>(engine: &EngineAt<'_, C>, from: u32, end: u32) -> u32
-    requires variables { end ≤ engine.now.vars }
-    ensures free { result < end → value_on engine.now.trail (result + 1) ≡ None }
-    ensures settled { (k : ℕ) → from ≤ k → k < result → value_on engine.now.trail (k + 1) ≢ None }
-    ensures within { (from ≤ end → result ≤ end) × (from ≤ result) }
-{
-    for place in from..end {
-        if engine.value(place + 1).is_none() {
-            return place;
-        }
-    }
-    from.max(end)
 }

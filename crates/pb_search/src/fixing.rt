@@ -12,8 +12,8 @@ use pb_engine::{Count, EngineAt, Fixed};
 use pb_inst::{Best, Lit, Number};
 
 /// What the bound says of the subtree below the trail, the bound itself, and a literal without a value whose negation has
-/// nothing to give: none where none is known. At a tie the lowest variables come first. Once something is held a bound is compared in each call; where decisions are
-/// counted that of disjoint rows is among them.
+/// nothing to give: none where none is known. At a tie the lowest variables come first. Once something is held a bound is
+/// compared in each call; where decisions are counted that of disjoint rows is among them.
 pub fn judge_node<C: Count>(
     engine: &mut EngineAt<'_, C>,
     best: &Best<'_>,

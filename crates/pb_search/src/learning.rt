@@ -1,5 +1,5 @@
-//! What the order of decisions learns at a node: the row of a conflict, and how far the last decision brought the bound. No
-//! answer depends on it, so nothing is promised.
+//! What the order of decisions learns at a node: what led to a conflict, how far the last decision brought the bound, and the
+//! values of a new best assignment. No answer depends on it, so nothing is promised.
 
 use crate::pruning::Pruning;
 use crate::search_state::SearchState;
@@ -7,10 +7,15 @@ use pb_engine::{Count, EngineAt};
 use pb_inst::{Best, Lit};
 use pb_order::{Gain, Order};
 
-/// Learns from the row at which the engine found a conflict.
+/// Learns from the conflict that the engine found.
 pub fn learn_conflict<C: Count>(order: &mut Order, engine: &EngineAt<'_, C>) {
-    if let Some(row) = engine.conflict_row() {
-        order.bump_conflict(engine.row_terms(row));
+    order.bump_conflict(engine.propagator());
+}
+
+/// Learns from the values of the best assignment, where it is a new one.
+pub fn learn_values(order: &mut Order, best: &Best<'_>, has_improved: bool) {
+    if has_improved && let Some(held) = best.assignment() {
+        order.prefer(held);
     }
 }
 

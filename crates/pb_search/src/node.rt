@@ -8,16 +8,18 @@ ghost use Rattle.pb_search.specs.Held.{MovesOn};
 ghost use Rattle.pb_search.specs.Solutions.{SameConstraints, Completes};
 ghost use Rattle.pb_search.specs.AgreedPrefix.{KnowsHeldPrefix};
 ghost use Rattle.pb_search.specs.Budget.{IsLeftOf};
-ghost use Rattle.pb_search.specs.SearchState.{IsStateOf, IsAtSomePath, IsFree, IsClosed, IsFreshOrOneSided, SameBranches, IsUnderWay, IsNext, LeavesFewer, IsSearched, IsOwn};
+ghost use Rattle.pb_engine.specs.Free.{IsFree};
+ghost use Rattle.pb_search.specs.SearchState.{IsStateOf, IsAtSomePath, IsClosed, IsFreshOrOneSided, SameBranches, IsUnderWay, IsNext, LeavesFewer, IsSearched, IsOwn};
 
 use crate::Share;
 use crate::agreed_prefix::AgreedPrefix;
 use crate::backtrack::backtrack;
 use crate::branch::{Branch, decide};
 use crate::decisions::next_decision;
+use crate::diving::{dive_from_root, renew_at_root};
 use crate::fixing::{judge_node, one_sided};
 use crate::incumbent::{borrow_on_the_way, take_leaf};
-use crate::learning::{gap_left, last_decided, learn, learn_conflict};
+use crate::learning::{gap_left, last_decided, learn, learn_conflict, learn_values};
 use crate::outcome::Outcome;
 use crate::pruning::Pruning;
 use crate::replay::next_replayed;
@@ -107,6 +109,7 @@ fn expand_node<C: Count, S: Share>(
     let Some(branch) = next else {
         let has_improved = take_leaf(&state.engine, &mut state.candidate, best, share);
         state.root_work.ties.has_improved = has_improved;
+        learn_values(&mut state.order, best, has_improved);
         agreed.begin_again(best);
         return None;
     };
@@ -115,6 +118,38 @@ fn expand_node<C: Count, S: Share>(
         .ties
         .note(pruning, branch.lit, state.branches.len());
     Some(branch)
+}
+
+/// Expands the node where the trail stands, and where that is the root, dives from there before a decision is made that has
+/// both values to try. Gives the decision to make next, or none where no completion of the trail is before what is held.
+fn expand<C: Count, S: Share>(
+    state: &mut SearchState<'_, C>,
+    best: &mut Best<'_>,
+    share: &mut S,
+    agreed: &mut AgreedPrefix,
+    left: &mut Option<u64>,
+) -> Option<Branch>
+    requires state { IsStateOf best.old.problem state.old }
+    requires sound { IsSoundTrail state.old.engine }
+    requires known { KnowsHeldPrefix state.old.engine.trail best.old.held agreed.old }
+    ensures open { IfSome result (λ b. IsFree state.new.engine b.lit) }
+    ensures sides { IfSome result (λ b. IsFreshOrOneSided best.old.problem state.new.engine best.new.held b) }
+    ensures closed { IfNone result (IsClosed best.old.problem state.new.engine best.new.held) }
+    ensures same_branches { SameBranches state.old state.new }
+    ensures sound { IsSoundTrail state.new.engine }
+    ensures moves_on { MovesOn best.old best.new }
+    ensures own { (best.new ≡ best.old) ⊎ IsSomeAnd best.new.held (λ s. Completes state.new.engine s.assignment) }
+    ensures kept { S.keeps share.old share.new }
+    ensures same_lending { S.lends share.new ≡ S.lends share.old }
+    ensures known { KnowsHeldPrefix state.new.engine.trail best.new.held agreed.new }
+    ensures budget { IsLeftOf left.old left.new }
+{
+    renew_at_root(state, best);
+    let branch = expand_node(state, best, share, agreed, left)?;
+    if branch.flipped || !dive_from_root(state, best, share, agreed, left) {
+        return Some(branch);
+    }
+    expand_node(state, best, share, agreed, left)
 }
 
 /// Expands the node where the search stands. Where nothing is left below it the search backtracks, or steps back further and
@@ -141,7 +176,7 @@ fn next_branch<C: Count, S: Share>(
     ensures known { KnowsHeldPrefix state.new.engine.trail best.new.held agreed.new }
     ensures budget { IsLeftOf left.old left.new }
 {
-    if let Some(branch) = expand_node(state, best, share, agreed, left) {
+    if let Some(branch) = expand(state, best, share, agreed, left) {
         return Some(branch);
     }
     state.root_work.replay.clear();
@@ -181,7 +216,7 @@ fn expand_above<C: Count, S: Share>(
     ensures budget { IsLeftOf left.old left.new }
 {
     step_back(state, count, best, agreed);
-    if let Some(branch) = expand_node(state, best, share, agreed, left) {
+    if let Some(branch) = expand(state, best, share, agreed, left) {
         return Some(branch);
     }
     backtrack(state, best, agreed)

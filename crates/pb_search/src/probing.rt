@@ -8,11 +8,11 @@ ghost use Rattle.pb_engine.specs.Soundness.{assumptions, IsSoundTrail};
 ghost use Rattle.pb_search.specs.Held.{IsImprovement};
 ghost use Rattle.pb_search.specs.Solutions.{Completes};
 ghost use Rattle.pb_search.specs.Budget.{IsLeftOf};
-ghost use Rattle.pb_search.specs.SearchState.{IsClosed, IsEngineOf, IsFree, IsOpenOnOneSide};
+ghost use Rattle.pb_engine.specs.Free.{IsFree};
+ghost use Rattle.pb_search.specs.SearchState.{IsClosed, IsEngineOf, IsOpenOnOneSide};
 
 use crate::branch::count_down;
-use crate::decisions::is_free;
-use pb_engine::{Count, EngineAt, Step};
+use pb_engine::{Count, EngineAt, Step, is_free};
 use pb_inst::{Best, Lit};
 
 /// How many literals trials may put on the trail for each literal that failed.
@@ -29,6 +29,9 @@ const LEAST_CREDIT_OF_A_DECISION: u64 = 2_048;
 
 /// How many times what was searched until then counts at the first conflict of a search in which nothing is minimised.
 const FIRST_CREDIT: u64 = 16;
+
+/// How many they may put there at least for each variable once a better assignment is known.
+const CREDIT_OF_A_DIVE: u64 = 64;
 
 /// Which literal is tried next, and how many more may be.
 #[derive(Clone, Copy)]
@@ -77,6 +80,13 @@ impl Probing {
             .saturating_add(literals as u64)
             .saturating_add(1);
         self.credit = credit.min(MOST_CREDIT);
+    }
+
+    /// A better assignment over so many variables is known: a round is due, and may be paid for.
+    pub fn grant(&mut self, vars: u32) {
+        let credit = CREDIT_OF_A_DIVE.saturating_mul(vars as u64);
+        self.credit = self.credit.max(credit).min(MOST_CREDIT);
+        self.passed = 0;
     }
 
     /// What was searched so far counts more.

@@ -8,8 +8,7 @@ ghost use Rattle.pb_search.specs.AgreedPrefix.{KnowsPrefix, KnowsHeldPrefix};
 
 use crate::agreed_prefix::AgreedPrefix;
 use crate::branch::Branch;
-use crate::decisions::settled_from;
-use pb_engine::{Count, EngineAt};
+use pb_engine::{Count, EngineAt, settled_from};
 use pb_inst::{Assignment, Best, Lit, Number};
 
 /// What the bound says of a subtree.

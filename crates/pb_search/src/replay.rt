@@ -5,9 +5,9 @@ ghost use Rattle.std.specs.Prelude.{◌≡◌, ◌≤◌, false, IfSome, None};
 ghost use Rattle.pb_engine.specs.Trail.{value_on};
 
 use crate::branch::{Branch, Hints};
-use crate::decisions::{decision, is_free};
+use crate::decisions::decision;
 use crate::pruning::Pruning;
-use pb_engine::{Count, EngineAt};
+use pb_engine::{Count, EngineAt, is_free};
 use pb_inst::{Lit, Number};
 
 /// A decision to make again.

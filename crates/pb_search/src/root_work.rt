@@ -11,6 +11,7 @@ use crate::pruning::Pruning;
 use crate::replay::Replayed;
 use crate::search_state::SearchState;
 use crate::ties::Ties;
+use pb_dive::DivePath;
 use pb_engine::{Count, EngineAt};
 use pb_inst::{Best, Lit, Memory, Number};
 use pb_normal::Form;
@@ -25,6 +26,31 @@ const LEAST_DECISIONS: usize = 20;
 /// One in so many of the decisions of a budget may be a trial at the root.
 const TRIALS_OF_A_BUDGET: u64 = 4;
 
+/// How often a search that minimises may be about to turn to another value before it is too late to step back for work at the
+/// root: what was closed by then is closed again soon.
+const MOST_LEAVES: u32 = 64;
+
+/// What the search of a piece may pay for dives from its root.
+const CREDIT_OF_DIVES: u32 = 6;
+
+/// What a dive costs.
+const COST_OF_A_DIVE: u32 = 3;
+
+/// What it gives back where it leads to a better assignment.
+const GAIN_OF_A_DIVE: u32 = 2;
+
+/// How often multipliers are improved anew at the root at most.
+const MOST_RENEWALS: u32 = 8;
+
+/// Of how many variables without a value one is to have one at the root where multipliers are improved anew.
+const RENEWED_PART: usize = 8;
+
+/// How many are to have one in any case.
+const LEAST_RENEWED: usize = 8;
+
+/// One in so many of the decisions of a budget may be one of a dive.
+const DIVE_OF_A_BUDGET: u64 = 8;
+
 /// What the work at the root goes on from.
 #[derive(Drop)]
 pub struct RootWork {
@@ -36,14 +62,24 @@ pub struct RootWork {
     is_large: bool,
     /// Whether nothing is minimised.
     is_decision: bool,
-    /// Whether the search of the piece was about to turn to another value: what has none is searched without any work.
-    was_left: bool,
+    /// How often the search of the piece may still be about to turn to another value before it is too late to step back for work
+    /// at the root: what has none is searched without any work.
+    leaves: u32,
     /// Whether the root is worked on since.
     is_open: bool,
     pub ties: Ties,
     /// The trail's length and the best cost where no literal failed in the last round.
     done: Option<(usize, Option<Number>)>,
     pub probing: Probing,
+    /// What may still be paid for dives.
+    dives: u32,
+    /// The trail's length and the best cost where the last dive began.
+    dived: Option<(usize, Option<Number>)>,
+    pub dive: DivePath,
+    /// How often multipliers may still be improved anew at the root.
+    renewals: u32,
+    /// The length of the root's trail when that was done last.
+    renewed: usize,
     /// The decisions below the root that are made again, the next one last.
     pub replay: Vec<Replayed>,
 }
@@ -61,11 +97,16 @@ impl RootWork {
             prefix: 0,
             is_large,
             is_decision,
-            was_left: false,
+            leaves: 0,
             is_open: false,
             ties: Ties::new(),
             done: None,
             probing: Probing::new(is_decision),
+            dives: 0,
+            dived: None,
+            renewals: 0,
+            renewed: 0,
+            dive: DivePath::new(alloc, if is_decision { 0 } else { vars })?,
             replay,
         })
     }
@@ -74,7 +115,7 @@ impl RootWork {
     pub fn begin(&mut self, left: Option<u64>) {
         self.returns = u32::MAX;
         self.prefix = 0;
-        self.was_left = false;
+        self.leaves = if self.is_decision { 1 } else { MOST_LEAVES };
         self.is_open = false;
         self.ties = Ties::new();
         self.done = None;
@@ -83,6 +124,10 @@ impl RootWork {
             None => u64::MAX,
         };
         self.probing.begin(trials);
+        self.dives = if self.is_decision { 0 } else { CREDIT_OF_DIVES };
+        self.dived = None;
+        self.renewals = if self.is_decision { 0 } else { MOST_RENEWALS };
+        self.renewed = 0;
         self.replay.clear();
     }
 
@@ -105,7 +150,7 @@ impl RootWork {
         Some(count)
     }
 
-    /// How many decisions are to be left, if there is a reason to take any back: work at the root, the first time that the
+    /// How many decisions are to be left, if there is a reason to take any back: work at the root, one of the first times that the
     /// search is about to turn to another value, or else a tie.
     fn return_to(
         &mut self,
@@ -117,12 +162,13 @@ impl RootWork {
     {
         let prefix = self.prefix_of(path);
         let count = self.ties.leave(path, prefix, cost);
-        if self.was_left {
+        if self.leaves == 0 {
             return count;
         }
-        self.was_left = true;
+        self.leaves -= 1;
         self.is_open = self.is_large || !self.is_decision;
         if self.pays(path, is_conflict) {
+            self.leaves = 0;
             return Some(prefix);
         }
         count
@@ -138,6 +184,78 @@ impl RootWork {
             return self.is_large && is_conflict && self.probing.pays();
         }
         path.len() >= LEAST_DECISIONS && self.probing.pays()
+    }
+
+    /// Whether the search stands at its root, and works there for a better assignment than that of the best cost. Once the root's
+    /// bound is that cost, ties alone are left.
+    fn is_worked_on(&mut self, path: &[Branch], cost: Option<Number>) -> bool
+        ensures { self.new.returns ≡ self.old.returns }
+    {
+        if !self.is_open || (cost.is_some() && self.ties.root_bound >= cost) {
+            return false;
+        }
+        self.prefix_of(path) == path.len()
+    }
+
+    /// By how many decisions the search may dive at most, where it stands at its root and a dive is due: the root is worked on,
+    /// and its trail, which has so many literals, or the best cost is another one than at the last dive.
+    pub fn take_dive(
+        &mut self,
+        path: &[Branch],
+        length: usize,
+        cost: Option<Number>,
+        left: Option<u64>,
+    ) -> Option<u64>
+        ensures { self.new.returns ≡ self.old.returns }
+    {
+        let most = match left {
+            Some(count) => count / DIVE_OF_A_BUDGET,
+            None => u64::MAX,
+        };
+        let begin = Some((length, cost));
+        if self.dives < COST_OF_A_DIVE
+            || most == 0
+            || self.dived == begin
+            || !self.is_worked_on(path, cost)
+        {
+            return None;
+        }
+        self.dives = self.dives.saturating_sub(COST_OF_A_DIVE);
+        self.dived = begin;
+        Some(most)
+    }
+
+    /// Whether multipliers are to be improved anew: the search stands at its root, which is worked on, and the trail of so many
+    /// literals has grown by a good part of those variables that had no value when that was done last.
+    pub fn take_renewal(
+        &mut self,
+        path: &[Branch],
+        length: usize,
+        vars: u32,
+        cost: Option<Number>,
+    ) -> bool
+        ensures { self.new.returns ≡ self.old.returns }
+    {
+        if self.renewals == 0 || !self.is_worked_on(path, cost) {
+            return false;
+        }
+        let free = (vars as usize).saturating_sub(self.renewed);
+        let least = free / RENEWED_PART + LEAST_RENEWED;
+        if length.saturating_sub(self.renewed) < least {
+            return false;
+        }
+        self.renewals = self.renewals.saturating_sub(1);
+        self.renewed = length;
+        true
+    }
+
+    /// A better assignment over so many variables was found by a dive: more literals may fail now.
+    pub fn reopen(&mut self, vars: u32)
+        ensures { self.new.returns ≡ self.old.returns }
+    {
+        self.done = None;
+        self.dives = self.dives.saturating_add(GAIN_OF_A_DIVE);
+        self.probing.grant(vars);
     }
 
     /// How many decisions of the path, from the first on, have no other value to try.

@@ -4,6 +4,7 @@
 mod looks;
 mod propagation;
 mod propagator;
+mod reasons;
 mod slacks;
 mod trail;
 

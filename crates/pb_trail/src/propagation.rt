@@ -240,7 +240,7 @@ fn add_over<C: Count>(
     for term in terms {
         let lit = term.lit();
         if slack.is_below(term.coef()) && trail.value(lit.var()).is_none() {
-            trail.push(tables, lit);
+            trail.push(tables, lit, row);
         }
     }
 }
@@ -258,7 +258,7 @@ fn add_last<C: Count>(tables: &Tables<'_, '_, C>, trail: &mut Trail<C>, row: usi
 {
     for lit in tables.clause(row) {
         if trail.value(lit.var()).is_none() {
-            trail.push(tables, *lit);
+            trail.push(tables, *lit, row);
         }
     }
 }

@@ -11,6 +11,7 @@ ghost use Rattle.pb_trail.specs.EngineState.{trail_before, is_conflict, HasNegat
 ghost use Rattle.pb_trail.specs.Soundness.{IsFull, IsSolved, IsSoundTrail};
 
 use crate::propagation::{Step, propagate_all};
+use crate::reasons::NO_ROW;
 use crate::slacks::Slacks;
 use crate::trail::Trail;
 use pb_count::Count;
@@ -151,6 +152,19 @@ impl<'a, C: Count> Propagator<'a, C> {
         }
     }
 
+    /// The row that forced the variable's value, where it has one that a row forced. No more than a hint: where the variable
+    /// has no value it is the row that forced the last one.
+    pub fn reason(&self, var: u32) -> Option<usize>
+        ensures within { IfSome result (λ row. row < length self.now.rows) }
+    {
+        let row = self.trail.reason(var);
+        if row < self.source.tables().len() {
+            Some(row)
+        } else {
+            None
+        }
+    }
+
     /// The terms of a row.
     pub fn row_terms(&self, row: usize) -> RowTerms<'_, C>
         requires { row < length self.now.rows }
@@ -171,7 +185,7 @@ impl<'a, C: Count> Propagator<'a, C> {
     {
         let start = self.trail.len();
         let settled = is_at(self.settled_until, start);
-        self.trail.push(&self.source.tables(), lit);
+        self.trail.push(&self.source.tables(), lit, NO_ROW);
         self.levels.push_reserved(Level { start, settled });
         Step::Fixed
     }

@@ -10,6 +10,7 @@ ghost use Rattle.pb_trail.specs.Tracked.{IsUpToDate};
 ghost use Rattle.pb_trail.specs.Trail.{value_on, reachable};
 
 use crate::looks::Looks;
+use crate::reasons::Reasons;
 use pb_count::{Count, Tally};
 use pb_inst::{Lit, Memory};
 use pb_rows::{Occurs, Tables};
@@ -26,6 +27,8 @@ pub struct Trail<C: Count> {
     looks: Looks<C>,
     /// The row at which a conflict was found last. No more than a hint: the view leaves it out.
     blamed: usize,
+    /// Which rows forced the literals. No more than a hint, as before.
+    reasons: Reasons,
 }
 
 impl<C: Count> Model for Trail<C> {
@@ -51,12 +54,14 @@ impl<C: Count> Trail<C> {
         let values = vec![in alloc; None; vars]?;
         let lits = Vec::with_capacity(alloc, vars)?;
         let looks = Looks::new(alloc, tables.form())?;
+        let reasons = Reasons::new(alloc, vars)?;
         Ok(Trail {
             sums,
             values,
             lits,
             looks,
             blamed: 0,
+            reasons,
         })
     }
 
@@ -113,6 +118,11 @@ impl<C: Count> Trail<C> {
         self.blamed
     }
 
+    /// The row that was handed over with the last literal of the variable.
+    pub fn reason(&self, var: u32) -> usize {
+        self.reasons.row_of(var)
+    }
+
     /// Whether the row was looked through at this slack or a lesser one, with nothing taken off since. Of short rows that is
     /// not known.
     pub fn knows(&self, row: usize, slack: Tally<C>) -> bool
@@ -129,8 +139,8 @@ impl<C: Count> Trail<C> {
         self.looks.note(row, slack);
     }
 
-    /// Puts a literal without a value on the trail.
-    pub fn push(&mut self, tables: &Tables<'_, '_, C>, lit: Lit)
+    /// Puts a literal without a value on the trail, for the reason that the row forces it; or for none, `NO_ROW`.
+    pub fn push(&mut self, tables: &Tables<'_, '_, C>, lit: Lit, reason: usize)
         requires up_to_date { IsUpToDate tables.now self.old }
         requires variable { lit.var ≤ self.old.vars }
         requires no_value { value_on self.old.lits lit.var ≡ None }
@@ -141,6 +151,7 @@ impl<C: Count> Trail<C> {
     {
         self.values[lit.var() as usize - 1] = Some(lit.positive());
         self.lits.push_reserved(lit);
+        self.reasons.note(lit, reason);
         lower_rows(&mut self.sums, tables, lit.negate());
     }
 

@@ -18,6 +18,9 @@ const FREE_PAIR: &[u8] = b"min: 1 x1 1 x2 ;\n1 x1 1 x2 >= 0 ;\n";
 /// Clauses of which one variable stands in both.
 const TWO_CLAUSES: &[u8] = b"p cnf 3 2\n1 2 0\n2 3 0\n";
 
+/// Clauses of which one variable stands in each, more often than its negation.
+const FIVE_CLAUSES: &[u8] = b"p cnf 3 5\n1 2 0\n2 3 0\n1 2 3 0\n-2 1 0\n-2 3 0\n";
+
 const CASES: [BudgetCase; 15] = [
     // Each of two pieces has the budget for itself: a decision in either ends it, and nothing remains.
     BudgetCase {
@@ -144,8 +147,9 @@ const CASES: [BudgetCase; 15] = [
         nodes: 0,
         cut: true,
     },
-    // The piece in which something is found is cut itself. The first decision is that of x2, which stands in both
-    // constraints: it becomes false, and that forces the two others. What makes x2 true, and precedes, needs another one.
+    // The piece in which something is found is cut itself. The first decision is that of x2, which stands in all constraints:
+    // it becomes false where it costs something, true where more clauses ask for that, and that forces the two others. What
+    // gives it the other value needs another decision.
     BudgetCase {
         case: Case {
             format: Format::Opb,
@@ -160,8 +164,8 @@ const CASES: [BudgetCase; 15] = [
     BudgetCase {
         case: Case {
             format: Format::Cnf,
-            text: TWO_CLAUSES,
-            report: b"s SATISFIABLE\nv 1 -2 3 0\n",
+            text: FIVE_CLAUSES,
+            report: b"s SATISFIABLE\nv 1 2 3 0\n",
             status: Status::Satisfiable,
         },
         cubes: None,

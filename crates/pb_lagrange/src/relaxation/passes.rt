@@ -6,7 +6,7 @@ use super::steps::Steps;
 use crate::account::Account;
 use pb_count::Count;
 use pb_dual::Multipliers;
-use pb_inst::{Memory, Number};
+use pb_inst::{Lit, Memory, Number};
 use pb_normal::Form;
 use pb_saddle::Saddle;
 use std::alloc::Global;
@@ -26,6 +26,9 @@ const LONG_PATIENCE: u32 = 20;
 /// How many steps of the first-order method there are then at most.
 const STEPS: u32 = 500;
 
+/// How many there are where that is done again: from better multipliers on fewer serve.
+const STEPS_AGAIN: u32 = 150;
+
 /// What was done to all rows, and what the next passes wait for.
 #[derive(Drop)]
 pub struct Passes {
@@ -36,6 +39,8 @@ pub struct Passes {
     nodes: u32,
     /// How often all rows were gone through.
     passes: u32,
+    /// Whether all rows are to be shifted at once again.
+    is_renewed: bool,
 }
 
 impl Passes {
@@ -46,6 +51,7 @@ impl Passes {
             terms: form.terms_len() as u64,
             nodes: 0,
             passes: 0,
+            is_renewed: false,
         })
     }
 
@@ -92,13 +98,18 @@ impl Passes {
         self.passes = end;
     }
 
-    /// Whether all rows are to be shifted at once: once, when the search has gone on for long enough.
+    /// All rows are to be shifted at once again: the root's trail has grown, or the best cost has fallen.
+    pub fn renew(&mut self) {
+        self.is_renewed = true;
+    }
+
+    /// Whether all rows are to be shifted at once: when the search has gone on for long enough, and whenever that is asked for.
     pub fn is_climb_due(&self) -> bool {
-        self.nodes == LONG_PATIENCE
+        self.is_renewed || self.nodes == LONG_PATIENCE
     }
 
     /// Shifts all rows at once, to what the first-order method finds, and steps them twice after that. The multipliers are kept
-    /// for good. That is done once, so the account leaves it out.
+    /// for good. That is done seldom, so the account leaves it out.
     pub fn climb<C: Count>(
         &mut self,
         multipliers: &mut Multipliers<'_, C>,
@@ -107,9 +118,21 @@ impl Passes {
     )
         ensures { IsSameButShifted multipliers.old multipliers.new }
     {
-        self.saddle.improve(multipliers, STEPS, limit);
+        let count = if self.is_renewed { STEPS_AGAIN } else { STEPS };
+        self.is_renewed = false;
+        self.saddle.improve(multipliers, count, limit);
         pass(multipliers, steps, false);
         pass(multipliers, steps, true);
+    }
+
+    /// Plans in which order the variables without a value may be decided, by so many steps of the first-order method.
+    pub fn plan<C: Count>(&mut self, multipliers: &Multipliers<'_, C>, steps: u32) {
+        self.saddle.approach(multipliers, steps);
+    }
+
+    /// What is at the place, from 0 on, of the order that was planned last.
+    pub fn planned(&self, place: usize) -> Option<Lit> {
+        self.saddle.planned(place)
     }
 
     /// Looks for multipliers by which nothing completes the trail, where nothing costs anything, by so many steps at most.

@@ -119,15 +119,15 @@ impl<'a, C: Count> Player<'a, C> {
 
     /// The row of the conflict.
     pub fn conflict_row(&self, rt: &impl Abort) -> Option<usize> {
-        let row = self.engine.conflict_row();
+        let row = self.engine.propagator().conflict_row();
         assert!(rt; self.propagator.conflict_row() == row);
         row
     }
 
     /// Whether the row of the conflict has just these literals, in this order.
     pub fn conflict_has_lits(&self, expected: &[i32]) -> bool {
-        match self.engine.conflict_row() {
-            Some(row) => has_lits(self.engine.row_terms(row), expected),
+        match self.engine.propagator().conflict_row() {
+            Some(row) => has_lits(self.engine.propagator().row_terms(row), expected),
             None => false,
         }
     }

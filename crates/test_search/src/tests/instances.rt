@@ -116,6 +116,13 @@ pub fn ring_cover(rt: &impl Abort, alloc: Global, size: i32) -> Instance {
     cover(rt, alloc, size.unsigned_abs(), &costs, &pairs)
 }
 
+/// The same on a ring with more chords, which makes the relaxation weaker.
+pub fn dense_cover(rt: &impl Abort, alloc: Global, size: i32) -> Instance {
+    let costs = ring_costs(rt, alloc, size);
+    let pairs = ring(rt, alloc, size, &[1, 2, 5, 11]);
+    cover(rt, alloc, size.unsigned_abs(), &costs, &pairs)
+}
+
 /// The variable, of those after `after`, that says that the pigeon sits in the hole.
 fn seat(after: i32, holes: i32, pigeon: i32, hole: i32) -> (Number, i32) {
     let place = pigeon.wrapping_mul(holes).wrapping_add(hole);

@@ -4,7 +4,6 @@ use super::instances::{instance, lit};
 use pb_inst::{Instance, Number, Relation};
 use pb_normal::form_of;
 use pb_order::{Gain, Order};
-use pb_rows::RowTerms;
 use std::alloc::Global;
 use std::process::Abort;
 
@@ -49,9 +48,9 @@ fn drained(rt: &impl Abort, alloc: Global, order: &mut Order, left: u32) -> Vec<
     vars
 }
 
-/// A conflict at a clause of this literal alone.
+/// A bump of this literal alone.
 fn bump(rt: &impl Abort, order: &mut Order, number: i32) {
-    order.bump_conflict(RowTerms::<u64>::Units(&[lit(rt, number)]));
+    order.bump(lit(rt, number));
 }
 
 /// Decisions for these literals raised the bound so much, in turn, so many times.
@@ -81,9 +80,9 @@ fn what_is_put_back_comes_by_its_new_activity(rt: HostRuntime) {
     let vars = drained(&rt, alloc, &mut order, 2);
     assert!(rt; vars.as_slice() == [5, 2, 3].as_slice());
     bump(&rt, &mut order, 4);
-    assert!(rt; order.first() == Some(lit(&rt, -4)));
+    assert!(rt; order.first() == Some(lit(&rt, 4)));
     bump(&rt, &mut order, -3);
-    assert!(rt; order.first() == Some(lit(&rt, -4)));
+    assert!(rt; order.first() == Some(lit(&rt, 4)));
     order.return_to(4);
     let vars = drained(&rt, alloc, &mut order, 0);
     assert!(rt; vars.as_slice() == [3, 4, 2, 1].as_slice());

@@ -1,7 +1,7 @@
 //! What a search makes of the bits that are handed over, and what it tells its share.
 
 use super::instances::{
-    Row, assignment, cover, crowd_behind_ring, found, instance, nothing, ring, ring_cover,
+    Row, assignment, cover, crowd_behind_ring, dense_cover, found, instance, nothing, ring,
     search_pieces, solution, tied,
 };
 use super::lenders::{InTurn, Lender};
@@ -130,23 +130,23 @@ fn found_on_the_way(
     held
 }
 
-/// All of 390 variables but the first few of even number.
+/// All of 120 variables but the first few of every eighth.
 fn nearly_all(rt: &impl Abort, alloc: Global, free: u32) -> Assignment {
     let mut list = Vec::new(alloc);
-    for place in 0..390u32 {
-        let is_free = place % 2 == 1 && place < free.saturating_mul(2);
+    for place in 0..120u32 {
+        let is_free = place % 8 == 1 && place < free.saturating_mul(8);
         if !is_free {
             list.push(place + 1).expect(rt, "memory");
         }
     }
-    assignment(rt, alloc, 390, &list)
+    assignment(rt, alloc, 120, &list)
 }
 
 /// Whatever is handed over on the way, the answer is the same.
 #[test]
 fn assignments_handed_over_on_the_way(rt: HostRuntime) {
     let alloc = rt.alloc();
-    let cover = ring_cover(&rt, alloc, 390);
+    let cover = dense_cover(&rt, alloc, 120);
     let want = found_on_the_way(&rt, alloc, &cover, Vec::new(alloc), 28);
     let mut lent = Vec::new(alloc);
     for free in 0..12u32 {

@@ -1,4 +1,4 @@
-use Rattle.std.proofs.Common.{◌≡◌, ◌+◌, ◌-◌, ◌<◌, ◌≤◌, ◌∙◌, arith, rules, refl, sym, subst, false, length}
+use Rattle.std.proofs.Common.{◌≡◌, ◌+◌, ◌-◌, ◌<◌, ◌≤◌, ◌∙◌, arith, rules, refl, sym, subst, false}
 use Rattle.pb_inst.specs.Literal.{Literal}
 use Rattle.pb_search.specs.SearchState.{IsOpenOnOneSide}
 use Rattle.pb_search.proofs.LeafLemmas.{at, tied_open}

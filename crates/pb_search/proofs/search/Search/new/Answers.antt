@@ -1,4 +1,4 @@
-use Rattle.std.proofs.Common.{◌≡◌, sym, subst}
+use Rattle.std.proofs.Common.{sym, subst}
 use Rattle.pb_normal.specs.NormalForm.{NormalForm, KeepsFeasible}
 use Rattle.pb_search.proofs.search.Search.new.Goals as goal
 

@@ -1,6 +1,6 @@
 use Rattle.std.proofs.Common.{◌≡◌, ◌≢◌, ◌+◌, ◌-◌, arith, subst, ℕ, None}
-use Rattle.pb_engine.specs.Trail.{value_on}
-use Rattle.pb_search.proofs.decisions.lowest_free.Goals as goal
+use Rattle.pb_trail.specs.Trail.{value_on}
+use Rattle.pb_engine.proofs.free.lowest_free.Goals as goal
 
 pub returns-then-settled-count-clause-full : goal.returns-then-settled-count-clause-full
 returns-then-settled-count-clause-full g c whole var low high =

@@ -1,0 +1,145 @@
+//! The steps of a dive: down by a decision, and back to one that can be turned.
+
+ghost use Rattle.std.specs.Prelude.{◌≡◌, ◌≤◌, false, true, length, IfSome, IfNone};
+ghost use Rattle.pb_inst.specs.declared.TheConstants.{MAX_VARS};
+ghost use Rattle.pb_engine.specs.EngineState.{EngineState};
+ghost use Rattle.pb_engine.specs.Free.{IsFree};
+ghost use Rattle.pb_engine.specs.Soundness.{IsFull, IsSolved, IsSoundTrail};
+ghost use Rattle.pb_dive.specs.Dives.{LeadsBack};
+
+use crate::path::{DiveBranch, DivePath};
+use pb_engine::{Count, EngineAt, Step, is_free, lowest_free};
+use pb_inst::Lit;
+
+/// How many steps the method makes for each plan after the first one.
+const STEPS: u32 = 50;
+
+/// Assumes the literal, and adds what follows.
+pub fn plunge<C: Count>(engine: &mut EngineAt<'_, C>, lit: Lit) -> Step
+    requires sound { IsSoundTrail engine.old }
+    requires free { IsFree engine.old lit }
+    ensures back { (start : EngineState) → LeadsBack start engine.old → LeadsBack start engine.new }
+    ensures sound { IsSoundTrail engine.new }
+    ensures same_variables { engine.new.vars ≡ engine.old.vars }
+    ensures no_conflict { result ≡ Step.Fixed → engine.new.conflict ≡ false }
+    ensures solved { result ≡ Step.Fixed → IsFull engine.new → IsSolved engine.new }
+{
+    engine.assume(lit);
+    engine.propagate()
+}
+
+/// Takes decisions back to the last one that was not turned yet, and gives its other value as the next decision; none where
+/// there is no such decision, or the dive took too long.
+pub fn turn<C: Count>(
+    engine: &mut EngineAt<'_, C>,
+    path: &mut DivePath,
+    floor: u32,
+) -> Option<DiveBranch>
+    requires sound { IsSoundTrail engine.old }
+    ensures back { (start : EngineState) → length start.levels ≡ floor → LeadsBack start engine.old → LeadsBack start engine.new }
+    ensures sound { IsSoundTrail engine.new }
+    ensures free { IfSome result (λ b. IsFree engine.new b.lit) }
+{
+    if !path.outlasts_conflict() {
+        return None;
+    }
+    let vars = engine.vars();
+    while let Some(last) = path.pop() {
+        if !take_back_last(engine, floor) {
+            return None;
+        }
+        if !last.flipped && is_free(engine, vars, last.lit) {
+            return Some(turned(last));
+        }
+    }
+    None
+}
+
+/// The decision for the other value.
+fn turned(branch: DiveBranch) -> DiveBranch
+    ensures { result.lit.var ≡ branch.lit.var }
+{
+    DiveBranch {
+        lit: branch.lit.negate(),
+        flipped: true,
+        ..branch
+    }
+}
+
+/// Takes back the last assumption, where it is above the level. Answers whether it was.
+fn take_back_last<C: Count>(engine: &mut EngineAt<'_, C>, floor: u32) -> bool
+    requires sound { IsSoundTrail engine.old }
+    ensures back { (start : EngineState) → length start.levels ≡ floor → LeadsBack start engine.old → LeadsBack start engine.new }
+    ensures sound { IsSoundTrail engine.new }
+    ensures same_variables { engine.new.vars ≡ engine.old.vars }
+    ensures no_conflict { result ≡ true → engine.new.conflict ≡ false }
+{
+    let level = engine.level();
+    if level <= floor {
+        return false;
+    }
+    engine.undo_to(level - 1);
+    true
+}
+
+/// Plans anew where that is due.
+pub fn plan_again<C: Count>(engine: &mut EngineAt<'_, C>, path: &mut DivePath)
+    ensures { engine.new ≡ engine.old }
+{
+    if path.take_plan(free_variables(engine)) {
+        engine.plan(STEPS);
+    }
+}
+
+/// How many variables have no value.
+pub fn free_variables<C: Count>(engine: &EngineAt<'_, C>) -> usize {
+    (engine.vars() as usize).saturating_sub(engine.trail_len())
+}
+
+/// The first literal of the plan, from the place on, whose variable has no value, as the next decision; else the lowest
+/// variable without one, as 0; or none where each has one.
+pub fn next_planned<C: Count>(
+    engine: &EngineAt<'_, C>,
+    path: &DivePath,
+    from: usize,
+) -> Option<DiveBranch>
+    requires few { engine.now.vars ≤ MAX_VARS }
+    requires no_conflict { engine.now.conflict ≡ false }
+    ensures free { IfSome result (λ b. IsFree engine.now b.lit) }
+    ensures full { IfNone result (IsFull engine.now) }
+{
+    if let Some(branch) = first_planned(engine, path, from) {
+        return Some(branch);
+    }
+    let lit = lowest_free(engine, engine.vars())?;
+    Some(DiveBranch {
+        lit,
+        plan: path.plan(),
+        next: usize::MAX,
+        flipped: false,
+    })
+}
+
+/// The first literal of the plan alone.
+fn first_planned<C: Count>(
+    engine: &EngineAt<'_, C>,
+    path: &DivePath,
+    from: usize,
+) -> Option<DiveBranch>
+    requires no_conflict { engine.now.conflict ≡ false }
+    ensures free { IfSome result (λ b. IsFree engine.now b.lit) }
+{
+    let vars = engine.vars();
+    for place in from..vars as usize {
+        let lit = engine.planned(place)?;
+        if is_free(engine, vars, lit) {
+            return Some(DiveBranch {
+                lit,
+                plan: path.plan(),
+                next: place + 1,
+                flipped: false,
+            });
+        }
+    }
+    None
+}

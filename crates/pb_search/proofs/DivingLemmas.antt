@@ -1,0 +1,65 @@
+-- What a dive leaves of the search, and what it found.
+use Rattle.std.proofs.Common.{◌≡◌, ◌∙◌, refl, List, length, get_or, subst, sym, Bool, inl, inr, ◌⊎◌, Option, None, Some}
+use Rattle.std.specs.Prelude.{IsSomeAnd}
+use Rattle.pb_inst.specs.Literal.{Literal}
+use Rattle.pb_inst.specs.Cubes.{MakesTrue}
+use Rattle.pb_inst.specs.Incumbent.{Incumbent, Solution}
+use Rattle.pb_engine.specs.EngineState.{EngineState}
+use Rattle.pb_engine.specs.Soundness.{IsSoundTrail}
+use Rattle.pb_dive.specs.Dives.{LeadsBack}
+use Rattle.pb_search.specs.declared.search_state.SearchState.{SearchState}
+use Rattle.pb_search.specs.Solutions.{SameConstraints, Completes}
+use Rattle.pb_search.specs.SearchState.{SameBranches}
+use Rattle.pb_search.proofs.Engines.{same_constraints_itself, same_constraints_onward}
+use Rattle.pb_search.proofs.RootLemmas.{front_true}
+use Rattle.pb_search.proofs.SearchLemmas.{same_solution, back_solution, assumptions_true}
+
+pub dive_constraints : (s e : EngineState) → LeadsBack s e → SameConstraints s e
+dive_constraints s e h = record { form = h.form; vars = h.vars; rows = h.rows }
+
+-- what completes the trail of a dive completes the one that it began on
+completes_start : (s e : EngineState) (a : List Bool) → LeadsBack s e → Completes e a → Completes s a
+completes_start s e a h k = record {
+  solution = back_solution s e a (dive_constraints s e h) k.solution;
+  makes_true = subst (λ (x : List Literal). MakesTrue a x) h.trail (front_true a (get_or e.levels (length s.levels) (length e.trail)) e.trail k.makes_true);
+}
+
+pub own_at_start : (s e : EngineState) (old new : Incumbent) → LeadsBack s e → (new ≡ old) ⊎ IsSomeAnd new.held (λ t. Completes e t.assignment) → (new ≡ old) ⊎ IsSomeAnd new.held (λ t. Completes s t.assignment)
+own_at_start s e old new h (inl same) = inl same
+own_at_start s e old new h (inr found) = inr (within new.held found)
+  where
+    within : (o : Option Solution) → IsSomeAnd o (λ t. Completes e t.assignment) → IsSomeAnd o (λ t. Completes s t.assignment)
+    within None k = k
+    within (Some t) k = completes_start s e t.assignment h k
+
+-- the place is the same as itself, and after more of such steps
+pub same_branches_itself : {C : Type 0} (t : SearchState C) → SameBranches t t
+same_branches_itself t = record { constraints = same_constraints_itself t.engine; assumptions = refl; branches = refl; room = refl; returns = refl }
+
+pub same_branches_onward : {C : Type 0} (t u v : SearchState C) → SameBranches t u → SameBranches u v → SameBranches t v
+same_branches_onward t u v h k = record {
+  constraints = same_constraints_onward t.engine u.engine v.engine h.constraints k.constraints;
+  assumptions = k.assumptions ∙ h.assumptions;
+  branches = k.branches ∙ h.branches;
+  room = k.room ∙ h.room;
+  returns = k.returns ∙ h.returns;
+}
+
+-- a completion of the trail makes true what follows from the same assumptions
+completes_later : {C : Type 0} (t u : SearchState C) (a : List Bool) → SameBranches t u → IsSoundTrail t.engine → IsSoundTrail u.engine → Completes t.engine a → Completes u.engine a
+completes_later t u a same before after h =
+    let there = same_solution t.engine u.engine a same.constraints h.solution in
+    record {
+      solution = there;
+      makes_true = after.forced a there.meets_rows (subst (λ (x : List Literal). MakesTrue a x) (sym same.assumptions) (assumptions_true a t.engine before h.makes_true));
+    }
+
+-- what was found at an earlier trail and at a later one
+pub own_later : {C : Type 0} (t u : SearchState C) (x y z : Incumbent) → SameBranches t u → IsSoundTrail t.engine → IsSoundTrail u.engine → (y ≡ x) ⊎ IsSomeAnd y.held (λ s. Completes t.engine s.assignment) → (z ≡ y) ⊎ IsSomeAnd z.held (λ s. Completes u.engine s.assignment) → (z ≡ x) ⊎ IsSomeAnd z.held (λ s. Completes u.engine s.assignment)
+own_later t u x y z same before after (inl h) (inl k) = inl (k ∙ h)
+own_later t u x y z same before after (inr h) (inl k) = inr (subst (λ (i : Incumbent). IsSomeAnd i.held (λ s. Completes u.engine s.assignment)) (sym k) (within y.held h))
+  where
+    within : (o : Option Solution) → IsSomeAnd o (λ s. Completes t.engine s.assignment) → IsSomeAnd o (λ s. Completes u.engine s.assignment)
+    within None m = m
+    within (Some s) m = completes_later t u s.assignment same before after m
+own_later t u x y z same before after h (inr k) = inr k
