@@ -1,5 +1,5 @@
-//! What led to a conflict: the variables of the row that could not be met, and those of the rows that forced their values.
-//! No answer depends on it, so nothing is promised.
+//! What led to a conflict: the variables of the row that could not be met, and those of the rows that forced their values,
+//! each found before the trail is walked past it. No answer depends on it, so nothing is promised.
 
 use pb_count::Count;
 use pb_inst::{Lit, Memory};
@@ -7,20 +7,48 @@ use pb_rows::RowTerms;
 use pb_trail::Propagator;
 use std::alloc::Global;
 
-/// The variables that are known to have led to a conflict, while the trail is walked back from its end.
+/// What one conflict takes of the stamps: one for what is known to have led to it, and one for what was walked past.
+const STAMPS_OF_A_CONFLICT: u32 = 2;
+
+/// The variables that are known to have led to a conflict, while the trail is walked back from its end. What is known of a
+/// variable stands in a stamp, so that each conflict begins with none known, whatever the one before left.
 #[derive(Drop)]
 pub struct Causes {
-    /// Of each variable, by its index from 0 on, whether its value led to the conflict and was not met yet.
-    marks: Vec<bool>,
-    /// How many are marked.
+    /// Of each variable, by its index from 0 on, what it was stamped with last.
+    stamps: Vec<u32>,
+    /// The stamp of those that led to this conflict and were not met yet, an even number. The next number is the stamp of those
+    /// that were walked past, and lesser ones are of conflicts before.
+    known: u32,
+    /// How many are known that were not met yet.
     waiting: usize,
 }
 
 impl Causes {
     /// None is known, of so many variables.
     pub fn new(alloc: Global, vars: u32) -> Result<Causes, Memory> {
-        let marks = vec![in alloc; false; vars as usize]?;
-        Ok(Causes { marks, waiting: 0 })
+        let stamps = vec![in alloc; 0; vars as usize]?;
+        Ok(Causes {
+            stamps,
+            known: 0,
+            waiting: 0,
+        })
+    }
+
+    /// The walk back from another conflict begins: nothing is known of it.
+    pub fn begin(&mut self) {
+        self.waiting = 0;
+        match self.known.checked_add(STAMPS_OF_A_CONFLICT) {
+            Some(known) => self.known = known,
+            None => self.begin_again(),
+        }
+    }
+
+    /// All stamps were used: they are taken off, and the first ones are given again.
+    fn begin_again(&mut self) {
+        for stamp in self.stamps.iter_mut() {
+            *stamp = 0;
+        }
+        self.known = STAMPS_OF_A_CONFLICT;
     }
 
     /// Whether some are known that were not met yet.
@@ -44,25 +72,27 @@ impl Causes {
         }
     }
 
-    /// Answers whether the variable is known to have led to the conflict, and met for the first time.
+    /// The walk comes to the variable. Answers whether it is known to have led to the conflict.
     pub fn meet(&mut self, var: u32) -> bool {
-        if let Some(mark) = self.marks.get_mut((var as usize).wrapping_sub(1))
-            && *mark
-        {
-            *mark = false;
+        let Some(stamp) = self.stamps.get_mut((var as usize).wrapping_sub(1)) else {
+            return false;
+        };
+        let is_known = *stamp == self.known;
+        *stamp = self.known.saturating_add(1);
+        if is_known {
             self.waiting = self.waiting.saturating_sub(1);
-            return true;
         }
-        false
+        is_known
     }
 
-    /// The literal's variable led to the conflict, if the literal is false.
+    /// The literal's variable led to the conflict, if the literal is false and was not walked past. A row with coefficients may
+    /// have literals that became false after it forced one: they have no part in that.
     fn add<C: Count>(&mut self, propagator: &Propagator<'_, C>, lit: Lit) {
         if propagator.value(lit.var()) == Some(!lit.positive())
-            && let Some(mark) = self.marks.get_mut(lit.var() as usize - 1)
-            && !*mark
+            && let Some(stamp) = self.stamps.get_mut(lit.var() as usize - 1)
+            && *stamp < self.known
         {
-            *mark = true;
+            *stamp = self.known;
             self.waiting = self.waiting.saturating_add(1);
         }
     }

@@ -129,6 +129,7 @@ impl Order {
     fn bump_causes<C: Count>(&mut self, propagator: &Propagator<'_, C>, row: usize)
         requires { row < length propagator.now.rows }
     {
+        self.causes.begin();
         self.causes.add_row(propagator, propagator.row_terms(row));
         for place in (0..propagator.trail_len()).rev() {
             if !self.causes.are_waiting() {
