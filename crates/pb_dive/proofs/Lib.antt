@@ -1,1 +1,2 @@
+pub mod BudgetLemmas
 pub mod DiveLemmas

@@ -1,10 +1,11 @@
 //! The way down.
 
-ghost use Rattle.std.specs.Prelude.{◌≡◌, ◌≤◌, false, true, length};
+ghost use Rattle.std.specs.Prelude.{◌≡◌, ◌≢◌, ◌≤◌, ◌+◌, false, true, length, Some};
 ghost use Rattle.pb_inst.specs.declared.TheConstants.{MAX_VARS};
 ghost use Rattle.pb_engine.specs.EngineState.{EngineState};
 ghost use Rattle.pb_engine.specs.Free.{IsFree};
 ghost use Rattle.pb_engine.specs.Soundness.{IsFull, IsSolved, IsSoundTrail};
+ghost use Rattle.pb_dive.specs.Budget.{one_more, with_more};
 ghost use Rattle.pb_dive.specs.Dives.{LeadsBack, IsGoingOn};
 
 use crate::path::{DiveBranch, DivePath};
@@ -38,8 +39,14 @@ pub struct Descent {
 }
 
 /// Goes down to a full trail by so many decisions at most: the planned literals are assumed in their order, a variable that is
-/// not planned as 0, and where that ends in a conflict the last decision is turned. What was assumed is left on the trail.
-pub fn descend<C: Count>(engine: &mut EngineAt<'_, C>, path: &mut DivePath, most: u64) -> Descent
+/// not planned as 0, and where that ends in a conflict the last decision is turned. What was assumed is left on the trail. Each
+/// decision is taken off what is left of a budget; where none is left the dive is over.
+pub fn descend<C: Count>(
+    engine: &mut EngineAt<'_, C>,
+    path: &mut DivePath,
+    most: u64,
+    left: &mut Option<u64>,
+) -> Descent
     requires few { engine.old.vars ≤ MAX_VARS }
     requires sound { IsSoundTrail engine.old }
     requires no_conflict { engine.old.conflict ≡ false }
@@ -48,6 +55,8 @@ pub fn descend<C: Count>(engine: &mut EngineAt<'_, C>, path: &mut DivePath, most
     ensures full { result.is_full ≡ true → IsFull engine.new }
     ensures solved { result.is_full ≡ true → IsSolved engine.new }
     ensures within { result.decisions ≤ most }
+    ensures counted { left.old ≡ with_more result.decisions left.new }
+    ensures assumed { length engine.new.levels ≤ length engine.old.levels + result.decisions }
 {
     let floor = engine.level();
     path.begin(engine.vars(), free_variables(engine));
@@ -57,7 +66,10 @@ pub fn descend<C: Count>(engine: &mut EngineAt<'_, C>, path: &mut DivePath, most
     };
     let allowance = most.min(MAX_DECISIONS);
     for made in 0..allowance {
-        match advance(engine, path, branch, floor) {
+        if *left == Some(0) {
+            return ended(false, made);
+        }
+        match advance(engine, path, branch, floor, left) {
             Progress::Next(next) => branch = next,
             Progress::Full => return ended(true, made + 1),
             Progress::Stuck => return ended(false, made + 1),
@@ -74,24 +86,29 @@ fn ended(is_full: bool, decisions: u64) -> Descent
     Descent { is_full, decisions }
 }
 
-/// Makes the decision. Answers how the dive goes on: by the next one, or after a conflict by turning the last that can be.
+/// Makes the decision, and takes it off what is left. Answers how the dive goes on: by the next one, or after a conflict by
+/// turning the last that can be.
 fn advance<C: Count>(
     engine: &mut EngineAt<'_, C>,
     path: &mut DivePath,
     branch: DiveBranch,
     floor: u32,
+    left: &mut Option<u64>,
 ) -> Progress
     requires few { engine.old.vars ≤ MAX_VARS }
     requires sound { IsSoundTrail engine.old }
     requires free { IsFree engine.old branch.lit }
+    requires some_left { left.old ≢ Some 0 }
     ensures back { (start : EngineState) → length start.levels ≡ floor → LeadsBack start engine.old → LeadsBack start engine.new }
     ensures sound { IsSoundTrail engine.new }
     ensures next { IsGoingOn engine.new result }
+    ensures counted { left.old ≡ one_more left.new }
+    ensures assumed { length engine.new.levels ≤ length engine.old.levels + 1 }
 {
     let (lit, plan, next) = (branch.lit, branch.plan, branch.next);
     let before = engine.trail_len();
     path.push(branch);
-    let step = plunge(engine, lit);
+    let step = plunge(engine, lit, left);
     path.charge(engine.trail_len().saturating_sub(before));
     if step == Step::Conflict {
         return turned_back(engine, path, floor);
@@ -109,6 +126,7 @@ fn turned_back<C: Count>(engine: &mut EngineAt<'_, C>, path: &mut DivePath, floo
     ensures back { (start : EngineState) → length start.levels ≡ floor → LeadsBack start engine.old → LeadsBack start engine.new }
     ensures sound { IsSoundTrail engine.new }
     ensures next { IsGoingOn engine.new result }
+    ensures no_deeper { length engine.new.levels ≤ length engine.old.levels }
 {
     match turn(engine, path, floor) {
         Some(next) => Progress::Next(next),

@@ -1,12 +1,14 @@
 //! The steps of a dive: down by a decision, and back to one that can be turned.
 
-ghost use Rattle.std.specs.Prelude.{◌≡◌, ◌≤◌, false, true, length, IfSome, IfNone};
+ghost use Rattle.std.specs.Prelude.{◌≡◌, ◌≢◌, ◌≤◌, ◌+◌, false, true, length, Some, IfSome, IfNone};
 ghost use Rattle.pb_inst.specs.declared.TheConstants.{MAX_VARS};
 ghost use Rattle.pb_engine.specs.EngineState.{EngineState};
 ghost use Rattle.pb_engine.specs.Free.{IsFree};
 ghost use Rattle.pb_engine.specs.Soundness.{IsFull, IsSolved, IsSoundTrail};
+ghost use Rattle.pb_dive.specs.Budget.{one_more};
 ghost use Rattle.pb_dive.specs.Dives.{LeadsBack};
 
+use crate::budget::count_down;
 use crate::path::{DiveBranch, DivePath};
 use pb_engine::{Count, EngineAt, Step, is_free, lowest_free};
 use pb_inst::Lit;
@@ -14,17 +16,21 @@ use pb_inst::Lit;
 /// How many steps the method makes for each plan after the first one.
 const STEPS: u32 = 50;
 
-/// Assumes the literal, and adds what follows.
-pub fn plunge<C: Count>(engine: &mut EngineAt<'_, C>, lit: Lit) -> Step
+/// Assumes the literal, which takes one decision off what is left, and adds what follows.
+pub fn plunge<C: Count>(engine: &mut EngineAt<'_, C>, lit: Lit, left: &mut Option<u64>) -> Step
     requires sound { IsSoundTrail engine.old }
     requires free { IsFree engine.old lit }
+    requires some_left { left.old ≢ Some 0 }
     ensures back { (start : EngineState) → LeadsBack start engine.old → LeadsBack start engine.new }
     ensures sound { IsSoundTrail engine.new }
     ensures same_variables { engine.new.vars ≡ engine.old.vars }
     ensures no_conflict { result ≡ Step.Fixed → engine.new.conflict ≡ false }
     ensures solved { result ≡ Step.Fixed → IsFull engine.new → IsSolved engine.new }
+    ensures one_level { length engine.new.levels ≡ length engine.old.levels + 1 }
+    ensures counted { left.old ≡ one_more left.new }
 {
     engine.assume(lit);
+    count_down(left);
     engine.propagate()
 }
 
@@ -39,6 +45,7 @@ pub fn turn<C: Count>(
     ensures back { (start : EngineState) → length start.levels ≡ floor → LeadsBack start engine.old → LeadsBack start engine.new }
     ensures sound { IsSoundTrail engine.new }
     ensures free { IfSome result (λ b. IsFree engine.new b.lit) }
+    ensures no_deeper { length engine.new.levels ≤ length engine.old.levels }
 {
     if !path.outlasts_conflict() {
         return None;
@@ -73,6 +80,7 @@ fn take_back_last<C: Count>(engine: &mut EngineAt<'_, C>, floor: u32) -> bool
     ensures sound { IsSoundTrail engine.new }
     ensures same_variables { engine.new.vars ≡ engine.old.vars }
     ensures no_conflict { result ≡ true → engine.new.conflict ≡ false }
+    ensures no_deeper { length engine.new.levels ≤ length engine.old.levels }
 {
     let level = engine.level();
     if level <= floor {

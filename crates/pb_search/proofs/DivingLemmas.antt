@@ -1,15 +1,23 @@
 -- What a dive leaves of the search, and what it found.
-use Rattle.std.proofs.Common.{◌≡◌, ◌∙◌, refl, List, length, get_or, subst, sym, Bool, inl, inr, ◌⊎◌, Option, None, Some}
+use Rattle.std.proofs.Common.{◌≡◌, ◌≢◌, ◌∙◌, ◌+◌, ◌≤◌, ℕ, refl, List, length, get_or, take, ap, subst, sym, arith, Bool, inl, inr, ◌⊎◌, Option, None, Some}
 use Rattle.std.specs.Prelude.{IsSomeAnd}
+use Rattle.std.proofs.lemmas.Bool.{cases_lt}
+use Rattle.std.proofs.Math.ListN.{get_or-eq_default}
+use Rattle.std.proofs.lemmas.List.{take_all}
 use Rattle.pb_inst.specs.Literal.{Literal}
 use Rattle.pb_inst.specs.Cubes.{MakesTrue}
 use Rattle.pb_inst.specs.Incumbent.{Incumbent, Solution}
 use Rattle.pb_engine.specs.EngineState.{EngineState}
-use Rattle.pb_engine.specs.Soundness.{IsSoundTrail}
+use Rattle.pb_engine.specs.Trail.{value_on}
+use Rattle.pb_engine.specs.Soundness.{IsFull, IsSoundTrail}
+use Rattle.pb_dive.specs.Budget.{with_more}
 use Rattle.pb_dive.specs.Dives.{LeadsBack}
+use Rattle.pb_search.specs.Budget.{IsPaidFrom}
 use Rattle.pb_search.specs.declared.search_state.SearchState.{SearchState}
 use Rattle.pb_search.specs.Solutions.{SameConstraints, Completes}
 use Rattle.pb_search.specs.SearchState.{SameBranches}
+use Rattle.pb_search.specs.Nodes.{IsFoundAt}
+use Rattle.pb_search.proofs.BudgetLemmas.{paid_of_more}
 use Rattle.pb_search.proofs.Engines.{same_constraints_itself, same_constraints_onward}
 use Rattle.pb_search.proofs.RootLemmas.{front_true}
 use Rattle.pb_search.proofs.SearchLemmas.{same_solution, back_solution, assumptions_true}
@@ -24,13 +32,27 @@ completes_start s e a h k = record {
   makes_true = subst (λ (x : List Literal). MakesTrue a x) h.trail (front_true a (get_or e.levels (length s.levels) (length e.trail)) e.trail k.makes_true);
 }
 
-pub own_at_start : (s e : EngineState) (old new : Incumbent) → LeadsBack s e → (new ≡ old) ⊎ IsSomeAnd new.held (λ t. Completes e t.assignment) → (new ≡ old) ⊎ IsSomeAnd new.held (λ t. Completes s t.assignment)
+pub own_at_start : (s e : EngineState) (old new : Incumbent) → LeadsBack s e → IsFoundAt e old new → IsFoundAt s old new
 own_at_start s e old new h (inl same) = inl same
 own_at_start s e old new h (inr found) = inr (within new.held found)
   where
     within : (o : Option Solution) → IsSomeAnd o (λ t. Completes e t.assignment) → IsSomeAnd o (λ t. Completes s t.assignment)
     within None k = k
     within (Some t) k = completes_start s e t.assignment h k
+
+-- where no assumption was added, a full trail was full before
+full_at_start : (s e : EngineState) → LeadsBack s e → length e.levels ≤ length s.levels → IsFull e → IsFull s
+full_at_start s e h none full var one most =
+    let whole : take (get_or e.levels (length s.levels) (length e.trail)) e.trail ≡ e.trail =
+    ap (λ (n : ℕ). take n e.trail) (get_or-eq_default e.levels (length e.trail) none) ∙ take_all (length e.trail) e.trail (omega arith) in
+    subst (λ (x : List Literal). value_on x var ≢ None) (sym whole ∙ h.trail) (full var one (subst (λ (n : ℕ). var ≤ n) (sym h.vars) most))
+
+-- a dive to a full trail made decisions, unless the trail was full before
+pub dive_is_paid : (s e : EngineState) (count : ℕ) (budget left : Option ℕ) → LeadsBack s e → length e.levels ≤ length s.levels + count → budget ≡ with_more count left → IsFull e → IsFull s ⊎ IsPaidFrom budget left
+dive_is_paid s e count budget left h assumed counted full = elim (cases_lt 0 count) [
+  | inl some ↦ inr (paid_of_more count budget left some counted)
+  | inr none ↦ inl (full_at_start s e h (omega arith) full)
+]
 
 -- the place is the same as itself, and after more of such steps
 pub same_branches_itself : {C : Type 0} (t : SearchState C) → SameBranches t t
@@ -55,7 +77,7 @@ completes_later t u a same before after h =
     }
 
 -- what was found at an earlier trail and at a later one
-pub own_later : {C : Type 0} (t u : SearchState C) (x y z : Incumbent) → SameBranches t u → IsSoundTrail t.engine → IsSoundTrail u.engine → (y ≡ x) ⊎ IsSomeAnd y.held (λ s. Completes t.engine s.assignment) → (z ≡ y) ⊎ IsSomeAnd z.held (λ s. Completes u.engine s.assignment) → (z ≡ x) ⊎ IsSomeAnd z.held (λ s. Completes u.engine s.assignment)
+pub own_later : {C : Type 0} (t u : SearchState C) (x y z : Incumbent) → SameBranches t u → IsSoundTrail t.engine → IsSoundTrail u.engine → IsFoundAt t.engine x y → IsFoundAt u.engine y z → IsFoundAt u.engine x z
 own_later t u x y z same before after (inl h) (inl k) = inl (k ∙ h)
 own_later t u x y z same before after (inr h) (inl k) = inr (subst (λ (i : Incumbent). IsSomeAnd i.held (λ s. Completes u.engine s.assignment)) (sym k) (within y.held h))
   where

@@ -1,5 +1,5 @@
 -- Full trails, and subtrees that may be left.
-use Rattle.std.proofs.Common.{◌≡◌, ◌≢◌, ℕ, ◌+◌, ◌-◌, ◌<◌, ◌≤◌, List, length, refl, sym, ◌∙◌, ap, subst, arith, Bool, true, false, cond, inl, inr, ◌⊎◌, Option, None, Some}
+use Rattle.std.proofs.Common.{◌≡◌, ◌≢◌, ℕ, ◌+◌, ◌-◌, ◌<◌, ◌≤◌, List, length, refl, sym, ◌∙◌, ap, subst, arith, Bool, true, false, cond, inl, inr, Option, None, Some}
 use Rattle.std.specs.Prelude.{slice_index_or, unwrap_or, ℤ, ◌≤ℤ◌, ◌<ℤ◌, IsSomeAnd, IfSome}
 use Rattle.std.specs.Option.{option_map}
 use Rattle.std.proofs.lemmas.List.{ext_get_or}
@@ -22,6 +22,7 @@ use Rattle.pb_engine.specs.Soundness.{IsFull, IsSolved, IsSoundTrail}
 use Rattle.pb_search.specs.Held.{IsImprovement}
 use Rattle.pb_search.specs.Solutions.{Completes}
 use Rattle.pb_search.specs.SearchState.{IsEngineOf, IsFilledFrom, IsClosed, IsOpenOnOneSide, IsNotBefore, IsTied, IsTiedWith, DifferAt, HasOnesWithin, bit_on}
+use Rattle.pb_search.specs.Nodes.{IsFoundAt}
 use Rattle.pb_search.proofs.HeldLemmas.{IsTaken}
 use Rattle.pb_search.proofs.Engines.{value_on-true, value_on-entry}
 
@@ -92,7 +93,7 @@ leaf_closes s old new z false engine full filled len h =
     let r = h.refused refl in
     subst (λ (i : Incumbent). IsClosed old.problem s i.held) (sym r.0) (closed_when_refused old.problem s z old.held engine (λ a k. full_completion_is s z a full filled len k) r.1)
 
-pub leaf_own : (s : EngineState) (old new : Incumbent) (z : List Bool) (answer : Bool) → IsFilledFrom s.trail z → length z ≡ s.vars → IsSoundTrail s → IsSolved s → IsTaken old new z answer → (new ≡ old) ⊎ IsSomeAnd new.held (λ t. Completes s t.assignment)
+pub leaf_own : (s : EngineState) (old new : Incumbent) (z : List Bool) (answer : Bool) → IsFilledFrom s.trail z → length z ≡ s.vars → IsSoundTrail s → IsSolved s → IsTaken old new z answer → IsFoundAt s old new
 leaf_own s old new z true filled len sound solved h = inr (subst (λ (o : Option Solution). IsSomeAnd o (λ t. Completes s t.assignment)) (sym (h.accepted refl).0) (filled_completes s z filled len sound solved))
 leaf_own s old new z false filled len sound solved h = inl (h.refused refl).0
 

@@ -11,6 +11,7 @@ use Rattle.pb_inst.specs.Incumbent.{Incumbent, Solution}
 use Rattle.pb_normal.specs.NormalForm.{PositiveRow, NormalForm, MeetsRows, KeepsCost}
 use Rattle.pb_engine.specs.EngineState.{EngineState}
 use Rattle.pb_engine.specs.Completion.{HasNoCompletion}
+use Rattle.pb_engine.specs.Propagation.{AddsForced}
 use Rattle.pb_engine.specs.Soundness.{assumptions, literal_at, IsSoundTrail}
 use Rattle.pb_search.specs.declared.branch.Branch.{Branch}
 use Rattle.pb_search.specs.declared.search_state.SearchState.{SearchState}
@@ -22,9 +23,10 @@ use Rattle.pb_search.specs.Paths.{decided, search_steps, LiesOpen, LeavesOpen, I
 use Rattle.pb_search.specs.Solutions.{SameConstraints, Satisfies, SatisfiesUnder, Completes}
 use Rattle.pb_engine.specs.Free.{IsFree}
 use Rattle.pb_search.specs.SearchState.{IsEngineOf, IsStateOf, IsAtPath, IsClosed, IsFreshOrOneSided, IsOpenOnOneSide, SameBranches, IsUnderWay, IsLeaving, IsNext, LeavesFewer, IsOwn}
+use Rattle.pb_search.specs.Nodes.{IsFoundAt}
 use Rattle.pb_search.proofs.HeldLemmas.{improvement_on_earlier}
 use Rattle.pb_search.proofs.PathLemmas.{decide_keeps, decide_keeps_one_sided, back_keeps, leaves_open, leaves_last, turn_keeps}
-use Rattle.pb_search.proofs.Engines.{same_constraints_onward, same_constraints_itself}
+use Rattle.pb_search.proofs.Engines.{same_constraints, same_constraints_onward, same_constraints_itself, propagated}
 use Rattle.pb_search.proofs.Moves.{All_front, free_other}
 
 -- the same constraints have the same solutions
@@ -95,13 +97,13 @@ state_moves p u w same room candidate h = record {
   room = subst (λ (n : ℕ). p.vars ≤ n) (sym room) h.room;
 }
 
--- what leaves the engine and the decisions as they are keeps the place
-pub same_place : {C : Type 0} (t u : SearchState C) → u.engine ≡ t.engine → u.branches ≡ t.branches → u.candidate ≡ t.candidate → u.root_work.returns ≡ t.root_work.returns → SameBranches t u
-same_place t u engine branches candidate returns = record {
-  constraints = subst (λ (e : EngineState). SameConstraints t.engine e) (sym engine) (same_constraints_itself t.engine);
-  assumptions = ap (λ (e : EngineState). assumptions e) engine;
+-- propagation keeps the place
+pub place_propagated : {C : Type 0} (t u : SearchState C) (trail : List Literal) (conflict : Bool) → IsSoundTrail t.engine → u.engine ≡ record t.engine { trail = trail; conflict = conflict } → AddsForced t.engine.rows t.engine.trail trail → u.branches ≡ t.branches → length u.candidate ≡ length t.candidate → u.root_work.returns ≡ t.root_work.returns → SameBranches t u
+place_propagated t u trail conflict sound added forced branches room returns = record {
+  constraints = same_constraints t.engine u.engine trail t.engine.levels conflict added;
+  assumptions = propagated t.engine u.engine trail conflict sound added forced;
   branches = branches;
-  room = ap (λ (a : List Bool). length a) candidate;
+  room = room;
   returns = returns;
 }
 
@@ -228,7 +230,7 @@ turn_next p start t u b next held step other h = record {
 }
 
 -- what an expansion found lies below the start
-pub expanded_own : {C : Type 0} (p : Problem) (start : EngineState) (t u : SearchState C) (old new : Incumbent) → SameBranches t u → IsSoundTrail u.engine → (new ≡ old) ⊎ IsSomeAnd new.held (λ s. Completes u.engine s.assignment) → IsUnderWay p start t old.held → IsOwn start old new
+pub expanded_own : {C : Type 0} (p : Problem) (start : EngineState) (t u : SearchState C) (old new : Incumbent) → SameBranches t u → IsSoundTrail u.engine → IsFoundAt u.engine old new → IsUnderWay p start t old.held → IsOwn start old new
 expanded_own p start t u old new same sound (inl is) h = inl is
 expanded_own p start t u old new same sound (inr found) h =
     inr (within new.held found)

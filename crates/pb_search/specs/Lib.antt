@@ -4,5 +4,6 @@ pub mod Done
 pub mod Budget
 pub mod Paths
 pub mod SearchState
+pub mod Nodes
 pub mod Layout
 pub mod AgreedPrefix

@@ -5,8 +5,9 @@ ghost use Rattle.pb_inst.specs.Literal.{Literal};
 ghost use Rattle.pb_search.specs.Solutions.{SameConstraints};
 ghost use Rattle.pb_engine.specs.Free.{IsFree};
 ghost use Rattle.pb_search.specs.SearchState.{IsAtPath, IsAtSomePath};
-ghost use Rattle.pb_search.specs.Budget.{one_more};
+ghost use Rattle.pb_dive.specs.Budget.{one_more};
 
+use pb_dive::count_down;
 use pb_engine::{Count, EngineAt};
 use pb_inst::{Lit, Number};
 
@@ -73,15 +74,5 @@ fn settle<C: Count>(engine: &mut EngineAt<'_, C>, is_settled: bool)
 {
     if is_settled {
         engine.settle_last();
-    }
-}
-
-/// Takes one decision off what is left, where there is a budget.
-pub fn count_down(left: &mut Option<u64>)
-    requires { left.old ≢ Some 0 }
-    ensures { left.old ≡ one_more left.new }
-{
-    if let Some(count) = *left {
-        *left = Some(count - 1);
     }
 }

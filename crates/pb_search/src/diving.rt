@@ -1,14 +1,14 @@
 //! What is done anew at the root as long as its trail grows or the best cost falls: multipliers are improved, and the search dives
 //! from there. What a dive reaches is handed to the incumbent, and all of it is taken back.
 
-ghost use Rattle.std.specs.Prelude.{◌≡◌, ◌⊎◌, List, false, true, length, IsSomeAnd};
+ghost use Rattle.std.specs.Prelude.{◌≡◌, ◌⊎◌, List, false, true, length};
 ghost use Rattle.pb_inst.specs.Literal.{Literal};
 ghost use Rattle.pb_engine.specs.Soundness.{IsFull, IsSolved, IsSoundTrail};
 ghost use Rattle.pb_search.specs.Held.{MovesOn};
-ghost use Rattle.pb_search.specs.Solutions.{Completes};
 ghost use Rattle.pb_search.specs.AgreedPrefix.{KnowsHeldPrefix};
-ghost use Rattle.pb_search.specs.Budget.{IsLeftOf};
+ghost use Rattle.pb_search.specs.Budget.{IsLeftOf, IsPaidFrom};
 ghost use Rattle.pb_search.specs.SearchState.{IsStateOf, IsEngineOf, SameBranches};
+ghost use Rattle.pb_search.specs.Nodes.{IsFoundAt, IsBackFromDive};
 
 use crate::Share;
 use crate::agreed_prefix::AgreedPrefix;
@@ -19,7 +19,7 @@ use pb_engine::{Count, EngineAt};
 use pb_inst::{Assignment, Best};
 
 /// Dives from where the search stands, if that is its root and a dive is due. Answers whether it led to a better assignment;
-/// then more may be fixed at the root. The decisions of a dive count.
+/// then more may be fixed at the root. The decisions of a dive count like those of the search.
 pub fn dive_from_root<C: Count, S: Share>(
     state: &mut SearchState<'_, C>,
     best: &mut Best<'_>,
@@ -31,14 +31,12 @@ pub fn dive_from_root<C: Count, S: Share>(
     requires sound { IsSoundTrail state.old.engine }
     requires no_conflict { state.old.engine.conflict ≡ false }
     requires known { KnowsHeldPrefix state.old.engine.trail best.old.held agreed.old }
-    ensures taken_back { state.new.engine ≡ state.old.engine }
-    ensures same_branches { SameBranches state.old state.new }
-    ensures moves_on { MovesOn best.old best.new }
-    ensures own { (best.new ≡ best.old) ⊎ IsSomeAnd best.new.held (λ s. Completes state.old.engine s.assignment) }
+    ensures back { IsBackFromDive state.old state.new best.old best.new }
     ensures kept { S.keeps share.old share.new }
     ensures same_lending { S.lends share.new ≡ S.lends share.old }
     ensures known { KnowsHeldPrefix state.new.engine.trail best.new.held agreed.new }
     ensures budget { IsLeftOf left.old left.new }
+    ensures paid { result ≡ true → IsFull state.old.engine ⊎ IsPaidFrom left.old left.new }
 {
     let length = state.engine.trail_len();
     let work = &mut state.root_work;
@@ -68,7 +66,7 @@ pub fn renew_at_root<C: Count>(state: &mut SearchState<'_, C>, best: &Best<'_>)
     }
 }
 
-/// Dives once, by so many decisions at most.
+/// Dives once, by so many decisions at most, each of which is taken off what is left.
 fn dive<C: Count, S: Share>(
     state: &mut SearchState<'_, C>,
     best: &mut Best<'_>,
@@ -81,18 +79,16 @@ fn dive<C: Count, S: Share>(
     requires sound { IsSoundTrail state.old.engine }
     requires no_conflict { state.old.engine.conflict ≡ false }
     requires known { KnowsHeldPrefix state.old.engine.trail best.old.held agreed.old }
-    ensures taken_back { state.new.engine ≡ state.old.engine }
-    ensures same_branches { SameBranches state.old state.new }
-    ensures moves_on { MovesOn best.old best.new }
-    ensures own { (best.new ≡ best.old) ⊎ IsSomeAnd best.new.held (λ s. Completes state.old.engine s.assignment) }
+    ensures back { IsBackFromDive state.old state.new best.old best.new }
     ensures kept { S.keeps share.old share.new }
     ensures same_lending { S.lends share.new ≡ S.lends share.old }
     ensures known { KnowsHeldPrefix state.new.engine.trail best.new.held agreed.new }
     ensures budget { IsLeftOf left.old left.new }
+    ensures paid { result ≡ true → IsFull state.old.engine ⊎ IsPaidFrom left.old left.new }
 {
     let level = state.engine.level();
-    let descent = descend(&mut state.engine, &mut state.root_work.dive, most);
-    spend(left, descent.decisions);
+    let path = &mut state.root_work.dive;
+    let descent = descend(&mut state.engine, path, most, left);
     let is_better = take_where_full(
         &state.engine,
         &mut state.candidate,
@@ -103,15 +99,6 @@ fn dive<C: Count, S: Share>(
     );
     state.engine.undo_to(level);
     is_better
-}
-
-/// Takes so many decisions off what is left, where there is a budget.
-fn spend(left: &mut Option<u64>, decisions: u64)
-    ensures { IsLeftOf left.old left.new }
-{
-    if let Some(count) = *left {
-        *left = Some(count.saturating_sub(decisions));
-    }
 }
 
 /// Hands the trail to the incumbent where it is full. Answers whether that was an improvement.
@@ -128,9 +115,10 @@ fn take_where_full<C: Count, S: Share>(
     requires full { is_full ≡ true → IsFull engine.now }
     requires solved { is_full ≡ true → IsSolved engine.now }
     requires sound { IsSoundTrail engine.now }
+    ensures only_full { result ≡ true → is_full ≡ true }
     ensures same_length { length candidate.new ≡ length candidate.old }
     ensures moves_on { MovesOn best.old best.new }
-    ensures own { (best.new ≡ best.old) ⊎ IsSomeAnd best.new.held (λ s. Completes engine.now s.assignment) }
+    ensures own { IsFoundAt engine.now best.old best.new }
     ensures kept { S.keeps share.old share.new }
     ensures same_lending { S.lends share.new ≡ S.lends share.old }
     ensures known { (trail : List Literal) → KnowsHeldPrefix trail best.old.held agreed.old → KnowsHeldPrefix trail best.new.held agreed.new }

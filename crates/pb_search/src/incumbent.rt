@@ -1,13 +1,13 @@
 //! What the incumbent is handed: the assignments of full trails, and those that are borrowed.
 
-ghost use Rattle.std.specs.Prelude.{◌≡◌, ◌⊎◌, false, List, length, IsSomeAnd};
+ghost use Rattle.std.specs.Prelude.{◌≡◌, false, List, length};
 ghost use Rattle.pb_inst.specs.Literal.{Literal};
 ghost use Rattle.pb_inst.specs.Incumbent.{IsSound};
 ghost use Rattle.pb_engine.specs.Soundness.{IsFull, IsSolved, IsSoundTrail};
 ghost use Rattle.pb_search.specs.Held.{MovesOn};
 ghost use Rattle.pb_search.specs.AgreedPrefix.{KnowsHeldPrefix};
-ghost use Rattle.pb_search.specs.Solutions.{Completes};
 ghost use Rattle.pb_search.specs.SearchState.{IsFilledFrom, IsClosed, IsEngineOf};
+ghost use Rattle.pb_search.specs.Nodes.{IsFoundAt};
 
 use crate::Share;
 use crate::agreed_prefix::AgreedPrefix;
@@ -42,7 +42,7 @@ pub fn take_leaf<C: Count, S: Share>(
     ensures same_length { length candidate.new ≡ length candidate.old }
     ensures closed { IsClosed best.old.problem engine.now best.new.held }
     ensures moves_on { MovesOn best.old best.new }
-    ensures own { (best.new ≡ best.old) ⊎ IsSomeAnd best.new.held (λ s. Completes engine.now s.assignment) }
+    ensures own { IsFoundAt engine.now best.old best.new }
     ensures kept { S.keeps share.old share.new }
     ensures same_lending { S.lends share.new ≡ S.lends share.old }
 {

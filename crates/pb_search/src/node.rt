@@ -1,15 +1,14 @@
 //! The search of a subtree, node by node.
 
-ghost use Rattle.std.specs.Prelude.{◌≡◌, ◌⊎◌, ◌+◌, ◌<◌, false, [], Some, IfSome, IfNone, IsSomeAnd};
+ghost use Rattle.std.specs.Prelude.{◌≡◌, ◌+◌, ◌<◌, false, [], Some, IfSome};
 ghost use Rattle.pb_inst.specs.Incumbent.{IsSound};
-ghost use Rattle.pb_engine.specs.EngineState.{EngineState};
 ghost use Rattle.pb_engine.specs.Soundness.{IsSoundTrail};
 ghost use Rattle.pb_search.specs.Held.{MovesOn};
-ghost use Rattle.pb_search.specs.Solutions.{SameConstraints, Completes};
+ghost use Rattle.pb_search.specs.Solutions.{SameConstraints};
 ghost use Rattle.pb_search.specs.AgreedPrefix.{KnowsHeldPrefix};
 ghost use Rattle.pb_search.specs.Budget.{IsLeftOf};
-ghost use Rattle.pb_engine.specs.Free.{IsFree};
-ghost use Rattle.pb_search.specs.SearchState.{IsStateOf, IsAtSomePath, IsClosed, IsFreshOrOneSided, SameBranches, IsUnderWay, IsNext, LeavesFewer, IsSearched, IsOwn};
+ghost use Rattle.pb_search.specs.SearchState.{IsStateOf, IsAtSomePath, LeavesFewer, IsSearched, IsOwn};
+ghost use Rattle.pb_search.specs.Nodes.{IsExpanded, IsFurther};
 
 use crate::Share;
 use crate::agreed_prefix::AgreedPrefix;
@@ -44,13 +43,7 @@ fn expand_node<C: Count, S: Share>(
     requires state { IsStateOf best.old.problem state.old }
     requires sound { IsSoundTrail state.old.engine }
     requires known { KnowsHeldPrefix state.old.engine.trail best.old.held agreed.old }
-    ensures open { IfSome result (λ b. IsFree state.new.engine b.lit) }
-    ensures sides { IfSome result (λ b. IsFreshOrOneSided best.old.problem state.new.engine best.new.held b) }
-    ensures closed { IfNone result (IsClosed best.old.problem state.new.engine best.new.held) }
-    ensures same_branches { SameBranches state.old state.new }
-    ensures sound { IsSoundTrail state.new.engine }
-    ensures moves_on { MovesOn best.old best.new }
-    ensures own { (best.new ≡ best.old) ⊎ IsSomeAnd best.new.held (λ s. Completes state.new.engine s.assignment) }
+    ensures expanded { IsExpanded state.old state.new best.old best.new result }
     ensures kept { S.keeps share.old share.new }
     ensures same_lending { S.lends share.new ≡ S.lends share.old }
     ensures known { KnowsHeldPrefix state.new.engine.trail best.new.held agreed.new }
@@ -132,13 +125,7 @@ fn expand<C: Count, S: Share>(
     requires state { IsStateOf best.old.problem state.old }
     requires sound { IsSoundTrail state.old.engine }
     requires known { KnowsHeldPrefix state.old.engine.trail best.old.held agreed.old }
-    ensures open { IfSome result (λ b. IsFree state.new.engine b.lit) }
-    ensures sides { IfSome result (λ b. IsFreshOrOneSided best.old.problem state.new.engine best.new.held b) }
-    ensures closed { IfNone result (IsClosed best.old.problem state.new.engine best.new.held) }
-    ensures same_branches { SameBranches state.old state.new }
-    ensures sound { IsSoundTrail state.new.engine }
-    ensures moves_on { MovesOn best.old best.new }
-    ensures own { (best.new ≡ best.old) ⊎ IsSomeAnd best.new.held (λ s. Completes state.new.engine s.assignment) }
+    ensures expanded { IsExpanded state.old state.new best.old best.new result }
     ensures kept { S.keeps share.old share.new }
     ensures same_lending { S.lends share.new ≡ S.lends share.old }
     ensures known { KnowsHeldPrefix state.new.engine.trail best.new.held agreed.new }
@@ -146,7 +133,10 @@ fn expand<C: Count, S: Share>(
 {
     renew_at_root(state, best);
     let branch = expand_node(state, best, share, agreed, left)?;
-    if branch.flipped || !dive_from_root(state, best, share, agreed, left) {
+    if branch.flipped {
+        return Some(branch);
+    }
+    if !dive_from_root(state, best, share, agreed, left) {
         return Some(branch);
     }
     expand_node(state, best, share, agreed, left)
@@ -164,15 +154,10 @@ fn next_branch<C: Count, S: Share>(
     requires state { IsStateOf best.old.problem state.old }
     requires at_path { IsAtSomePath state.old.engine state.old.branches.items }
     requires known { KnowsHeldPrefix state.old.engine.trail best.old.held agreed.old }
-    ensures next { IfSome result (λ b. (start : EngineState) → IsUnderWay best.old.problem start state.old best.old.held → IsNext best.old.problem start state.new b best.new.held) }
+    ensures further { IsFurther state.old state.new best.old best.new result }
     ensures fewer { IfSome result (λ b. LeavesFewer best.old.problem state.old state.new b) }
-    ensures finished { IfNone result ((start : EngineState) → IsUnderWay best.old.problem start state.old best.old.held → IsSearched best.old.problem start best.new.held) }
-    ensures moves_on { MovesOn best.old best.new }
-    ensures own { (start : EngineState) → IsUnderWay best.old.problem start state.old best.old.held → IsOwn start best.old best.new }
     ensures kept { S.keeps share.old share.new }
     ensures same_lending { S.lends share.new ≡ S.lends share.old }
-    ensures made_for { IsStateOf best.old.problem state.new }
-    ensures constraints { SameConstraints state.old.engine state.new.engine }
     ensures known { KnowsHeldPrefix state.new.engine.trail best.new.held agreed.new }
     ensures budget { IsLeftOf left.old left.new }
 {
@@ -203,15 +188,10 @@ fn expand_above<C: Count, S: Share>(
     requires state { IsStateOf best.old.problem state.old }
     requires at_path { IsAtSomePath state.old.engine state.old.branches.items }
     requires known { KnowsHeldPrefix state.old.engine.trail best.old.held agreed.old }
-    ensures next { IfSome result (λ b. (start : EngineState) → IsUnderWay best.old.problem start state.old best.old.held → IsNext best.old.problem start state.new b best.new.held) }
+    ensures further { IsFurther state.old state.new best.old best.new result }
     ensures returns { state.new.root_work.returns ≡ state.old.root_work.returns }
-    ensures finished { IfNone result ((start : EngineState) → IsUnderWay best.old.problem start state.old best.old.held → IsSearched best.old.problem start best.new.held) }
-    ensures moves_on { MovesOn best.old best.new }
-    ensures own { (start : EngineState) → IsUnderWay best.old.problem start state.old best.old.held → IsOwn start best.old best.new }
     ensures kept { S.keeps share.old share.new }
     ensures same_lending { S.lends share.new ≡ S.lends share.old }
-    ensures made_for { IsStateOf best.old.problem state.new }
-    ensures constraints { SameConstraints state.old.engine state.new.engine }
     ensures known { KnowsHeldPrefix state.new.engine.trail best.new.held agreed.new }
     ensures budget { IsLeftOf left.old left.new }
 {

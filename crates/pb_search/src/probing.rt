@@ -11,7 +11,7 @@ ghost use Rattle.pb_search.specs.Budget.{IsLeftOf};
 ghost use Rattle.pb_engine.specs.Free.{IsFree};
 ghost use Rattle.pb_search.specs.SearchState.{IsClosed, IsEngineOf, IsOpenOnOneSide};
 
-use crate::branch::count_down;
+use pb_dive::count_down;
 use pb_engine::{Count, EngineAt, Step, is_free};
 use pb_inst::{Best, Lit};
 

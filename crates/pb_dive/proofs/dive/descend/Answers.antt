@@ -1,5 +1,6 @@
-use Rattle.std.proofs.Common.{◌≤◌, sym, subst, ℕ}
+use Rattle.std.proofs.Common.{◌≤◌, sym, subst, ℕ, arith}
 use Rattle.pb_inst.specs.declared.TheConstants.{MAX_VARS}
+use Rattle.pb_dive.proofs.BudgetLemmas.{none_counted, counted_onward}
 use Rattle.pb_dive.proofs.DiveLemmas.{leads_itself}
 use Rattle.pb_dive.proofs.dive.descend.Goals as goal
 
@@ -8,6 +9,8 @@ loop-made-init g c = record {
   back = rw c.plan.ensures (leads_itself c.args.engine.now c.requires.no_conflict);
   sound = rw c.plan.ensures c.requires.sound;
   free = c.in-Some.ensures.free;
+  counted = none_counted c.args.left.now;
+  assumed = rw c.plan.ensures (omega arith);
 }
 
 pub loop-made-preserved : goal.loop-made-preserved
@@ -15,6 +18,8 @@ loop-made-preserved g c = record {
   back = c.advance.ensures.back c.args.engine.now (sym c.level-floor.ensures.count) c.loop-made.invariant.back;
   sound = c.advance.ensures.sound;
   free = c.in-Next.ensures.next;
+  counted = counted_onward c.loop-made.made c.args.left.now c.loop-made.left c.advance.new.left c.loop-made.invariant.counted c.advance.ensures.counted;
+  assumed = omega (arith, c.loop-made.invariant.assumed, c.advance.ensures.assumed);
 }
 
 pub advance-requires-clause-few : goal.advance-requires-clause-few

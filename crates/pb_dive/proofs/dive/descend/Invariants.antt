@@ -1,5 +1,7 @@
+use Rattle.std.proofs.Common.{◌≡◌, ◌≤◌, ◌+◌, length}
 use Rattle.pb_engine.specs.Soundness.{IsSoundTrail}
 use Rattle.pb_engine.specs.Free.{IsFree}
+use Rattle.pb_dive.specs.Budget.{with_more}
 use Rattle.pb_dive.specs.Dives.{LeadsBack}
 use Rattle.pb_dive.proofs.dive.descend.Given as goal
 
@@ -8,4 +10,6 @@ invariant-loop-made g l = record {
   back : LeadsBack l.fn.engine l.engine;
   sound : IsSoundTrail l.engine;
   free : IsFree l.engine l.branch.lit;
+  counted : l.fn.left ≡ with_more l.made l.left;
+  assumed : length l.engine.levels ≤ length l.fn.engine.levels + l.made;
 }

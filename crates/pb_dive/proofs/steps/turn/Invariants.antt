@@ -1,4 +1,4 @@
-use Rattle.std.proofs.Common.{◌≡◌, length, vec_len}
+use Rattle.std.proofs.Common.{◌≡◌, ◌≤◌, length, vec_len}
 use Rattle.pb_engine.specs.EngineState.{EngineState}
 use Rattle.pb_engine.specs.Soundness.{IsSoundTrail}
 use Rattle.pb_dive.specs.Dives.{LeadsBack}
@@ -9,6 +9,7 @@ invariant-loop-last g l = record {
   back : (start : EngineState) → length start.levels ≡ l.floor → LeadsBack start l.initial.engine → LeadsBack start l.engine;
   sound : IsSoundTrail l.engine;
   same_variables : l.engine.vars ≡ l.initial.engine.vars;
+  no_deeper : length l.engine.levels ≤ length l.initial.engine.levels;
 }
 
 abbrev pub decreases-loop-last : goal.decreases-loop-last

@@ -1,10 +1,11 @@
-use Rattle.std.proofs.Common.{◌≡◌, ◌≤◌, ℕ, sym, subst}
+use Rattle.std.proofs.Common.{rules, ◌≡◌, ◌≤◌, ℕ, sym, subst}
 use Rattle.pb_inst.specs.declared.TheConstants.{MAX_VARS}
 use Rattle.pb_engine.specs.EngineState.{EngineState}
 use Rattle.pb_dive.proofs.DiveLemmas.{levels_within, back_at_start}
 use Rattle.pb_search.specs.AgreedPrefix.{KnowsHeldPrefix}
+use Rattle.pb_search.proofs.BudgetLemmas.{left_of_more}
 use Rattle.pb_search.proofs.SearchLemmas.{same_engine}
-use Rattle.pb_search.proofs.DivingLemmas.{dive_constraints, own_at_start}
+use Rattle.pb_search.proofs.DivingLemmas.{dive_constraints, own_at_start, dive_is_paid}
 use Rattle.pb_search.proofs.diving.dive.Goals as goal
 
 pub descend-descent-requires-clause-few : goal.descend-descent-requires-clause-few
@@ -19,13 +20,21 @@ take_where_full-is_better-requires-clause-room g c = c.requires.state.candidate
 pub undo_to-requires : goal.undo_to-requires
 undo_to-requires g c = rw c.level-level.ensures.count (levels_within c.args.state.now.engine c.descend-descent.new.engine c.descend-descent.ensures.back)
 
-pub returns-clause-taken_back : goal.returns-clause-taken_back
-returns-clause-taken_back g c = back_at_start c.args.state.now.engine c.descend-descent.new.engine c.undo_to.new.self c.descend-descent.ensures.back (rw c.level-level.ensures.count at c.undo_to.ensures.undone)
-
-pub returns-clause-own : goal.returns-clause-own
-returns-clause-own g c = own_at_start c.args.state.now.engine c.descend-descent.new.engine c.args.best.now c.take_where_full-is_better.new.best c.descend-descent.ensures.back c.take_where_full-is_better.ensures.own
+pub returns-clause-back : goal.returns-clause-back
+returns-clause-back g c = record {
+  taken_back = back_at_start c.args.state.now.engine c.descend-descent.new.engine c.undo_to.new.self c.descend-descent.ensures.back (rw c.level-level.ensures.count at c.undo_to.ensures.undone);
+  same_branches = search rules;
+  moves_on = c.take_where_full-is_better.ensures.moves_on;
+  own = own_at_start c.args.state.now.engine c.descend-descent.new.engine c.args.best.now c.take_where_full-is_better.new.best c.descend-descent.ensures.back c.take_where_full-is_better.ensures.own;
+}
 
 pub returns-clause-known : goal.returns-clause-known
 returns-clause-known g c =
     let same : c.undo_to.new.self ≡ c.args.state.now.engine = back_at_start c.args.state.now.engine c.descend-descent.new.engine c.undo_to.new.self c.descend-descent.ensures.back (rw c.level-level.ensures.count at c.undo_to.ensures.undone) in
     subst (λ (e : EngineState). KnowsHeldPrefix e.trail c.take_where_full-is_better.new.best.held c.take_where_full-is_better.new.agreed) (sym same) (c.take_where_full-is_better.ensures.known c.args.state.now.engine.trail c.requires.known)
+
+pub returns-clause-budget : goal.returns-clause-budget
+returns-clause-budget g c = left_of_more c.descend-descent.result.decisions c.args.left.now c.descend-descent.new.left c.descend-descent.ensures.counted
+
+pub returns-clause-paid : goal.returns-clause-paid
+returns-clause-paid g c better = dive_is_paid c.args.state.now.engine c.descend-descent.new.engine c.descend-descent.result.decisions c.args.left.now c.descend-descent.new.left c.descend-descent.ensures.back c.descend-descent.ensures.assumed c.descend-descent.ensures.counted (c.descend-descent.ensures.full (c.take_where_full-is_better.ensures.only_full better))
