@@ -1,6 +1,8 @@
 pub mod ChangeLemmas
 pub mod SoundLemmas
 pub mod StartLemmas
+pub mod SaturationLemmas
+pub mod RecountLemmas
 pub mod SetLemmas
 pub mod UndoLemmas
 pub mod TrailLemmas

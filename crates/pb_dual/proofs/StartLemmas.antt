@@ -129,7 +129,7 @@ starting-parts origin scale form costs values n normal are vars unset = rw unset
     one v low high = ap (part costs v) (get_or-replicate n (v - 1) None None (omega arith)) ∙ lesser v low high
 
 -- multipliers of 0, an empty trail and no changes, with what is kept beside them
-pub kept-first : (form : NormalForm) (ys : List ℕ) (lits : List Literal) (changes : List Change) (origin scale total share : ℕ) (costs : List ℕ) (values : List (Option Bool)) (degrees sum capacity : ℕ) → IsNormal form → 1 ≤ scale → total ≡ total_coefficient form.objective → scale * total < 2 * origin → share * length form.rows ≤ origin → degrees ≡ 0 → ys ≡ replicate (length form.rows) 0 → lits ≡ [] → changes ≡ [] → AreReducedCosts origin scale form (replicate (length form.rows) 0) costs → values ≡ replicate form.vars None → form.vars ≤ capacity → form.vars ≤ MAX_VARS → sum ≡ form.vars * origin → AreKept form ys lits changes origin scale total share costs values degrees sum capacity
+pub kept-first : (form : NormalForm) (ys : List ℕ) (lits : List Literal) (changes : List Change) (origin scale total share : ℕ) (costs : List ℕ) (values : List (Option Bool)) (degrees sum capacity : ℕ) → IsNormal form → 1 ≤ scale → total ≡ total_coefficient form.objective → scale * total < 2 * origin → share * length form.rows ≤ origin → degrees ≡ 0 → ys ≡ replicate (length form.rows) 0 → lits ≡ [] → changes ≡ [] → AreReducedCosts origin scale form (replicate (length form.rows) 0) costs → values ≡ replicate form.vars None → form.vars ≤ capacity → form.vars ≤ MAX_VARS → sum ≡ form.vars * origin → AreKept form form ys lits changes origin scale total share costs values degrees sum capacity
 kept-first form ys lits changes origin scale total share costs values degrees sum capacity normal from_one total_is fits shared none_promised zeros empty unchanged are unset room few sum_is = rw (zeros, unchanged) (record {
   scale_from_one = from_one;
   total_is = total_is;
@@ -137,6 +137,8 @@ kept-first form ys lits changes origin scale total share costs values degrees su
   shared = shared;
   few = few;
   count = length-replicate (length form.rows) 0;
+  one_each = length-replicate (length form.rows) 0;
+  no_greater = λ r h. omega arith;
   each_within = λ r h. (let none = get_or-replicate {A = ℕ} (length form.rows) r 0 0 h in let product : get_or (replicate (length form.rows) 0) r 0 * (row_at form.rows r).degree ≡ 0 * (row_at form.rows r).degree = ap (λ (y : ℕ). y * (row_at form.rows r).degree) none in omega arith);
   degrees_are = none_promised ∙ sym (weighted-none (λ row. row.degree) form.rows);
   costs_are = are;

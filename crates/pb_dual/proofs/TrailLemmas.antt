@@ -5,16 +5,17 @@ use Rattle.std.specs.Int.{div_ceil}
 use Rattle.std.proofs.lemmas.Bool.{cases_lt}
 use Rattle.std.proofs.lemmas.Grind.{div_ceil_times}
 use Rattle.std.proofs.lemmas.Int.{ints, to_z-of_z, to_z_pos, fits_signed_from_abs}
-use Rattle.std.proofs.lemmas.List.Elements.{All-push}
+use Rattle.std.proofs.lemmas.List.Elements.{All-push, All-take}
 use Rattle.std.proofs.lemmas.Nat.{mul-le}
 use mir.Val.{to_z, of_z}
 use Rattle.pb_inst.specs.declared.TheConstants.{SUM_BOUND}
 use Rattle.pb_inst.proofs.NumberWidth.{number_width}
 use Rattle.pb_inst.specs.Literal.{Literal}
 use Rattle.pb_inst.specs.Meaning.{literal_value}
-use Rattle.pb_normal.specs.NormalForm.{NormalForm, IsNormal, normal_cost, positive_value, total_coefficient}
+use Rattle.pb_normal.specs.NormalForm.{PositiveRow, NormalForm, MeetsRows, IsNormal, normal_cost, positive_value, total_coefficient}
 use Rattle.pb_normal.specs.Literals.{weight_of}
 use Rattle.pb_normal.proofs.RowLemmas.{positive_value-opposite}
+use Rattle.pb_rows.specs.Constraints.{row_at}
 use Rattle.pb_rows.specs.Index.{literal_place}
 use Rattle.pb_trail.specs.Completion.{HasNoCompletion, IsCompletion}
 use Rattle.pb_trail.specs.Tracked.{AreValues}
@@ -22,7 +23,9 @@ use Rattle.pb_trail.specs.Trail.{value_on}
 use Rattle.pb_trail.proofs.TrailLemmas.{value_on-same, value_on-other}
 use Rattle.pb_dual.specs.Changes.{Change}
 use Rattle.pb_dual.specs.ReducedCosts.{promised, taken_off, reduced_cost, IsReducedCost, AreReducedCosts, cost_at, over_variables, least_cost, part, part_on, parts, parts_on}
-use Rattle.pb_dual.specs.Multipliers.{MultipliersState, bound_from, dual_bound, penalty, promised_above, IsBelowCosts, IsBelowCostsWith, AreKept}
+use Rattle.pb_dual.specs.Multipliers.{MultipliersState, bound_from, dual_bound, penalty, promised_above, IsBelowCosts, IsBelowCostsWith, IsWithinShare, AreKept}
+use Rattle.pb_dual.specs.Saturation.{Saturation, counted_rows, counted_form, AreSaturations}
+use Rattle.pb_dual.proofs.SaturationLemmas.{counted-normal}
 use Rattle.pb_dual.proofs.SoundLemmas.{over-same, sound, weight-most}
 use Rattle.pb_dual.proofs.ChangeLemmas.{over-changed, over-most, promised-most, sum-fits}
 
@@ -133,58 +136,64 @@ parts_on-push origin scale form ys trail l low high free =
     add_up : (g f p q r m : ℕ) → g + p ≡ f + q → p ≡ m → q ≡ r → m ≤ r → g ≡ f + (r - p)
     add_up g f p q r m changed before after least = omega arith
 
+-- a multiplier within the share of the whole row is within that of the row as it is counted
+pub share_counted : (form whole : NormalForm) (share r y : ℕ) → (row_at form.rows r).degree ≤ (row_at whole.rows r).degree → IsWithinShare whole share r y → IsWithinShare form share r y
+share_counted form whole share r y less within = omega (arith, mul-le y (row_at form.rows r).degree y (row_at whole.rows r).degree (omega arith) less)
+
+pub within_counted : {form whole : NormalForm} {ys : List ℕ} {lits : List Literal} {changes : List Change} {origin scale total share : ℕ} {costs : List ℕ} {values : List (Option Bool)} {degrees sum capacity : ℕ} → AreKept form whole ys lits changes origin scale total share costs values degrees sum capacity → (r : ℕ) → r < length form.rows → IsWithinShare form share r (get_or ys r 0)
+within_counted {form = form} {whole = whole} {ys = ys} {share = share} kept r h = share_counted form whole share r (get_or ys r 0) (kept.no_greater r h) (kept.each_within r h)
+
 -- the promise of the degrees is no more than the origin
-pub promised_fits : {form : NormalForm} {ys : List ℕ} {lits : List Literal} {changes : List Change} {origin scale total share : ℕ} {costs : List ℕ} {values : List (Option Bool)} {degrees sum capacity : ℕ} → AreKept form ys lits changes origin scale total share costs values degrees sum capacity → promised ys form.rows ≤ origin
-promised_fits {form = form} {ys = ys} {share = share} kept =
-    (let most = promised-most ys form.rows share kept.count kept.each_within in omega (arith, kept.shared))
+pub promised_fits : {form whole : NormalForm} {ys : List ℕ} {lits : List Literal} {changes : List Change} {origin scale total share : ℕ} {costs : List ℕ} {values : List (Option Bool)} {degrees sum capacity : ℕ} → AreKept form whole ys lits changes origin scale total share costs values degrees sum capacity → promised ys form.rows ≤ origin
+promised_fits {form = form} {whole = whole} {ys = ys} {share = share} kept = omega (arith, promised-most ys form.rows share kept.count (within_counted kept), kept.shared)
 
 -- the sum that is kept is what the variables add under the trail
-pub sum_on : {form : NormalForm} {ys : List ℕ} {lits : List Literal} {changes : List Change} {origin scale total share : ℕ} {costs : List ℕ} {values : List (Option Bool)} {degrees sum capacity : ℕ} → AreKept form ys lits changes origin scale total share costs values degrees sum capacity → sum ≡ parts_on origin scale form ys lits
+pub sum_on : {form whole : NormalForm} {ys : List ℕ} {lits : List Literal} {changes : List Change} {origin scale total share : ℕ} {costs : List ℕ} {values : List (Option Bool)} {degrees sum capacity : ℕ} → AreKept form whole ys lits changes origin scale total share costs values degrees sum capacity → sum ≡ parts_on origin scale form ys lits
 sum_on {form = form} {ys = ys} {lits = lits} {origin = origin} {scale = scale} {costs = costs} {values = values} {capacity = capacity} kept = kept.sum_is ∙ parts-is origin scale form ys costs lits values capacity kept.costs_are kept.values_are kept.vars
 
 -- all costs together, scaled, stay below twice the origin
-scaled_total : {form : NormalForm} {ys : List ℕ} {lits : List Literal} {changes : List Change} {origin scale total share : ℕ} {costs : List ℕ} {values : List (Option Bool)} {degrees sum capacity : ℕ} → AreKept form ys lits changes origin scale total share costs values degrees sum capacity → scale * total_coefficient form.objective < 2 * origin
+scaled_total : {form whole : NormalForm} {ys : List ℕ} {lits : List Literal} {changes : List Change} {origin scale total share : ℕ} {costs : List ℕ} {values : List (Option Bool)} {degrees sum capacity : ℕ} → AreKept form whole ys lits changes origin scale total share costs values degrees sum capacity → scale * total_coefficient form.objective < 2 * origin
 scaled_total {origin = origin} {scale = scale} kept = subst (λ (n : ℕ). scale * n < 2 * origin) kept.total_is kept.scaled
 
 -- the sum stays below 2^127, also with one more reduced cost
-pub sum-most : {form : NormalForm} {ys : List ℕ} {lits : List Literal} {changes : List Change} {origin scale total share : ℕ} {costs : List ℕ} {values : List (Option Bool)} {degrees sum capacity : ℕ} → AreKept form ys lits changes origin scale total share costs values degrees sum capacity → origin ≤ 2 ^ 105 → (more : ℕ) → more ≤ 3 * origin → sum + more < 2 ^ 127
+pub sum-most : {form whole : NormalForm} {ys : List ℕ} {lits : List Literal} {changes : List Change} {origin scale total share : ℕ} {costs : List ℕ} {values : List (Option Bool)} {degrees sum capacity : ℕ} → AreKept form whole ys lits changes origin scale total share costs values degrees sum capacity → origin ≤ 2 ^ 105 → (more : ℕ) → more ≤ 3 * origin → sum + more < 2 ^ 127
 sum-most {form = form} {ys = ys} {lits = lits} {origin = origin} {scale = scale} {sum = sum} kept small more one =
     let most = parts_on-most origin scale form ys lits (scaled_total kept) in
     let is = sum_on kept in
     (sum-fits form.vars origin sum more kept.few small (omega arith) one).1
 
 -- the penalty of a literal is no more than a reduced cost
-pub penalty-most : {form : NormalForm} {ys : List ℕ} {lits : List Literal} {changes : List Change} {origin scale total share : ℕ} {costs : List ℕ} {values : List (Option Bool)} {degrees sum capacity : ℕ} → AreKept form ys lits changes origin scale total share costs values degrees sum capacity → (l : Literal) → reduced_cost origin scale form ys l - part_on origin scale form ys lits l.var ≤ 3 * origin
+pub penalty-most : {form whole : NormalForm} {ys : List ℕ} {lits : List Literal} {changes : List Change} {origin scale total share : ℕ} {costs : List ℕ} {values : List (Option Bool)} {degrees sum capacity : ℕ} → AreKept form whole ys lits changes origin scale total share costs values degrees sum capacity → (l : Literal) → reduced_cost origin scale form ys l - part_on origin scale form ys lits l.var ≤ 3 * origin
 penalty-most {form = form} {ys = ys} {lits = lits} {origin = origin} {scale = scale} kept l = less (reduced_cost origin scale form ys l) (part_on origin scale form ys lits l.var) (reduced-most origin scale form ys l (scaled_total kept))
   where
     less : (a b : ℕ) → a ≤ 3 * origin → a - b ≤ 3 * origin
     less a b h = omega arith
 
 -- what stands at a literal's place is no more than a reduced cost, so beside it the sum is a number of 128 bits
-pub cost-most : {form : NormalForm} {ys : List ℕ} {lits : List Literal} {changes : List Change} {origin scale total share : ℕ} {costs : List ℕ} {values : List (Option Bool)} {degrees sum capacity : ℕ} → AreKept form ys lits changes origin scale total share costs values degrees sum capacity → (l : Literal) → 1 ≤ l.var → l.var ≤ form.vars → get_or costs (literal_place l) 0 ≤ 3 * origin
+pub cost-most : {form whole : NormalForm} {ys : List ℕ} {lits : List Literal} {changes : List Change} {origin scale total share : ℕ} {costs : List ℕ} {values : List (Option Bool)} {degrees sum capacity : ℕ} → AreKept form whole ys lits changes origin scale total share costs values degrees sum capacity → (l : Literal) → 1 ≤ l.var → l.var ≤ form.vars → get_or costs (literal_place l) 0 ≤ 3 * origin
 cost-most {form = form} {ys = ys} {origin = origin} {scale = scale} {costs = costs} kept l low high =
     let is : IsReducedCost origin scale form ys l (get_or costs (literal_place l) 0) = kept.costs_are.each l low high in
     let weight = mul-le scale (weight_of l form.objective) scale (total_coefficient form.objective) (omega arith) (weight-most l form.objective) in
     omega (arith, scaled_total kept)
 
-pub revalue-room : {form : NormalForm} {ys : List ℕ} {lits : List Literal} {changes : List Change} {origin scale total share : ℕ} {costs : List ℕ} {values : List (Option Bool)} {degrees sum capacity : ℕ} → AreKept form ys lits changes origin scale total share costs values degrees sum capacity → origin ≤ 2 ^ 105 → (v : ℕ) → 1 ≤ v → v ≤ form.vars → (b : Bool) → parts costs values + cost_at costs v b < 2 ^ 128
+pub revalue-room : {form whole : NormalForm} {ys : List ℕ} {lits : List Literal} {changes : List Change} {origin scale total share : ℕ} {costs : List ℕ} {values : List (Option Bool)} {degrees sum capacity : ℕ} → AreKept form whole ys lits changes origin scale total share costs values degrees sum capacity → origin ≤ 2 ^ 105 → (v : ℕ) → 1 ≤ v → v ≤ form.vars → (b : Bool) → parts costs values + cost_at costs v b < 2 ^ 128
 revalue-room {costs = costs} kept small v low high b =
     let cost : cost_at costs v b ≤ 3 * _ = cost-most kept (record { var = v; positive = b }) low high in
     omega (arith, sum-most kept small (cost_at costs v b) cost, kept.sum_is)
 
 -- what the code divides is what the bound says
-above-is : {form : NormalForm} {ys : List ℕ} {lits : List Literal} {changes : List Change} {origin scale total share : ℕ} {costs : List ℕ} {values : List (Option Bool)} {degrees sum capacity : ℕ} → AreKept form ys lits changes origin scale total share costs values degrees sum capacity → (n : ℕ) → div_ceil (min ((n + degrees) - form.vars * origin) (scale * total)) scale ≡ min (total_coefficient form.objective) (div_ceil ((promised ys form.rows + n) - form.vars * origin) scale)
+above-is : {form whole : NormalForm} {ys : List ℕ} {lits : List Literal} {changes : List Change} {origin scale total share : ℕ} {costs : List ℕ} {values : List (Option Bool)} {degrees sum capacity : ℕ} → AreKept form whole ys lits changes origin scale total share costs values degrees sum capacity → (n : ℕ) → div_ceil (min ((n + degrees) - form.vars * origin) (scale * total)) scale ≡ min (total_coefficient form.objective) (div_ceil ((promised ys form.rows + n) - form.vars * origin) scale)
 above-is {form = form} {ys = ys} {origin = origin} {scale = scale} {total = total} {degrees = degrees} kept n =
     let above : (n + degrees) - form.vars * origin ≡ (promised ys form.rows + n) - form.vars * origin = omega (arith, kept.degrees_are) in
     ceil_min ((n + degrees) - form.vars * origin) scale total kept.scale_from_one
     ∙ (ap (λ (t : ℕ). min t (div_ceil ((n + degrees) - form.vars * origin) scale)) kept.total_is ∙ ap (λ (m : ℕ). min (total_coefficient form.objective) (div_ceil m scale)) above)
 
 -- what is promised at most scales down to a bound
-below_cost : (s : MultipliersState) (n : ℕ) (a : List Bool) → 1 ≤ s.scale → promised s.multipliers s.form.rows + n ≤ s.form.vars * s.origin + s.scale * positive_value a s.form.objective → bound_from s n ≤ℤ normal_cost s.form a
+below_cost : (s : MultipliersState) (n : ℕ) (a : List Bool) → 1 ≤ s.scale → promised s.multipliers s.counted.rows + n ≤ s.form.vars * s.origin + s.scale * positive_value a s.form.objective → bound_from s n ≤ℤ normal_cost s.form a
 below_cost s n a low most =
     let value = positive_value a s.form.objective in
-    order s.form.base (total_coefficient s.form.objective) (div_ceil ((promised s.multipliers s.form.rows + n) - s.form.vars * s.origin) s.scale) value
-    (ceil_le ((promised s.multipliers s.form.rows + n) - s.form.vars * s.origin) s.scale value low (less (promised s.multipliers s.form.rows + n) (s.form.vars * s.origin) (s.scale * value) most))
+    order s.form.base (total_coefficient s.form.objective) (div_ceil ((promised s.multipliers s.counted.rows + n) - s.form.vars * s.origin) s.scale) value
+    (ceil_le ((promised s.multipliers s.counted.rows + n) - s.form.vars * s.origin) s.scale value low (less (promised s.multipliers s.counted.rows + n) (s.form.vars * s.origin) (s.scale * value) most))
   where
     less : (m z v : ℕ) → m ≤ z + v → m - z ≤ v
     less m z v h = omega arith
@@ -192,29 +201,51 @@ below_cost s n a low most =
     order : (base : ℤ) (total up value : ℕ) → up ≤ value → (base +ℤ pos (min total up)) ≤ℤ (base +ℤ pos value)
     order base total up value h = omega (arith, ints)
 
+-- the form is counted with these rows, which whatever completes the trail meets
+pub record IsCountedWith (s : MultipliersState) (rows : List PositiveRow) : Type 0 where
+  pub counted_is : s.counted ≡ record s.form { rows = rows }
+  pub normal : IsNormal (record s.form { rows = rows })
+  pub count : length s.multipliers ≡ length rows
+  pub fits : promised s.multipliers rows ≤ s.origin
+  pub met : (a : List Bool) → IsCompletion s.form.rows s.trail a → MeetsRows a rows
+
+pub counted_with : {form : NormalForm} {ss : List Saturation} {root : ℕ} {ys : List ℕ} {lits : List Literal} {changes : List Change} {origin scale total share : ℕ} {costs : List ℕ} {values : List (Option Bool)} {degrees sum capacity : ℕ} → AreKept (counted_form ss form) form ys lits changes origin scale total share costs values degrees sum capacity → AreSaturations form ss root lits → IsNormal form → (room : ℕ) → IsCountedWith (record { form = form; counted = counted_form ss form; origin = origin; scale = scale; share = share; multipliers = ys; trail = lits; root = root; changes = changes; room = room }) (counted_rows ss form.rows)
+counted_with {form = form} {ss = ss} {root = root} {lits = lits} kept are normal room = record {
+  counted_is = refl;
+  normal = counted-normal form ss root lits normal are;
+  count = kept.count;
+  fits = promised_fits kept;
+  met = λ a whole. are.met a (record { makes_true = All-take (λ (l : Literal). literal_value a l ≡ 1) root lits whole.makes_true; meets_rows = whole.meets_rows });
+}
+
+-- what is promised is at most the cost of what completes the trail
+promised_counted : (s : MultipliersState) (rows : List PositiveRow) (trail : List Literal) (a : List Bool) → IsCountedWith s rows → IsCompletion rows trail a → promised s.multipliers s.counted.rows + parts_on s.origin s.scale s.counted s.multipliers trail ≤ s.form.vars * s.origin + s.scale * positive_value a s.form.objective
+promised_counted s rows trail a are whole = subst (λ (f : NormalForm). promised s.multipliers f.rows + parts_on s.origin s.scale f s.multipliers trail ≤ s.form.vars * s.origin + s.scale * positive_value a s.form.objective) (sym are.counted_is) (sound s.origin s.scale (record s.form { rows = rows }) s.multipliers trail a are.normal are.count are.fits whole)
+
 -- the bound holds for every completion
-pub bound_below : (s : MultipliersState) → IsNormal s.form → 1 ≤ s.scale → length s.multipliers ≡ length s.form.rows → promised s.multipliers s.form.rows ≤ s.origin → IsBelowCosts s.form s.trail (dual_bound s)
-bound_below s normal low count fits a whole = below_cost s (parts_on s.origin s.scale s.form s.multipliers s.trail) a low (sound s.origin s.scale s.form s.multipliers s.trail a normal count fits whole)
+pub bound_below : (s : MultipliersState) (rows : List PositiveRow) → IsCountedWith s rows → 1 ≤ s.scale → IsBelowCosts s.form s.trail (dual_bound s)
+bound_below s rows are low a whole = below_cost s (parts_on s.origin s.scale s.counted s.multipliers s.trail) a low (promised_counted s rows s.trail a are (record { makes_true = whole.makes_true; meets_rows = are.met a whole }))
 
 -- where more than all costs together is promised there is no completion
-pub none_below : (s : MultipliersState) → IsNormal s.form → length s.multipliers ≡ length s.form.rows → promised s.multipliers s.form.rows ≤ s.origin → s.scale * total_coefficient s.form.objective < promised_above s → HasNoCompletion s.form.rows s.trail
-none_below s normal count fits over a whole =
+pub none_below : (s : MultipliersState) (rows : List PositiveRow) → IsCountedWith s rows → s.scale * total_coefficient s.form.objective < promised_above s → HasNoCompletion s.form.rows s.trail
+none_below s rows are over a whole =
     let value = positive_value a s.form.objective in
     let total = total_coefficient s.form.objective in
     let most : value ≤ total = omega (arith, positive_value-opposite a s.form.objective) in
-    beyond (promised s.multipliers s.form.rows + parts_on s.origin s.scale s.form s.multipliers s.trail) (s.form.vars * s.origin) (s.scale * value) (s.scale * total)
-    (sound s.origin s.scale s.form s.multipliers s.trail a normal count fits whole) (mul-le s.scale value s.scale total (omega arith) most) over
+    beyond (promised s.multipliers s.counted.rows + parts_on s.origin s.scale s.counted s.multipliers s.trail) (s.form.vars * s.origin) (s.scale * value) (s.scale * total)
+    (promised_counted s rows s.trail a are (record { makes_true = whole.makes_true; meets_rows = are.met a whole })) (mul-le s.scale value s.scale total (omega arith) most) over
   where
     beyond : (sum floor value total : ℕ) → sum ≤ floor + value → value ≤ total → total < sum - floor → ⊥
     beyond sum floor value total h low over = omega arith
 
 -- with a literal more, for those that make it true
-pub bound_with_below : (s : MultipliersState) (l : Literal) → IsNormal s.form → 1 ≤ s.scale → length s.multipliers ≡ length s.form.rows → promised s.multipliers s.form.rows ≤ s.origin → 1 ≤ l.var → l.var ≤ s.form.vars → value_on s.trail l.var ≡ None → IsBelowCostsWith s.form s.trail l (bound_from s (parts_on s.origin s.scale s.form s.multipliers s.trail + penalty s l))
-bound_with_below s l normal low count fits from upto free a whole is =
-    let more : IsCompletion s.form.rows (s.trail ++ l ∷ []) a = record { makes_true = All-push (λ (m : Literal). literal_value a m ≡ 1) s.trail l whole.makes_true is; meets_rows = whole.meets_rows } in
-    let holds = sound s.origin s.scale s.form s.multipliers (s.trail ++ l ∷ []) a normal count fits more in
-    let pushed = parts_on-push s.origin s.scale s.form s.multipliers s.trail l from upto free in
-    below_cost s (parts_on s.origin s.scale s.form s.multipliers s.trail + penalty s l) a low (subst (λ (n : ℕ). promised s.multipliers s.form.rows + n ≤ s.form.vars * s.origin + s.scale * positive_value a s.form.objective) pushed holds)
+pub bound_with_below : (s : MultipliersState) (l : Literal) (rows : List PositiveRow) → IsCountedWith s rows → 1 ≤ s.scale → 1 ≤ l.var → l.var ≤ s.form.vars → value_on s.trail l.var ≡ None → IsBelowCostsWith s.form s.trail l (bound_from s (parts_on s.origin s.scale s.counted s.multipliers s.trail + penalty s l))
+bound_with_below s l rows are low from upto free a whole is =
+    let more : IsCompletion rows (s.trail ++ l ∷ []) a = record { makes_true = All-push (λ (m : Literal). literal_value a m ≡ 1) s.trail l whole.makes_true is; meets_rows = are.met a whole } in
+    let holds = promised_counted s rows (s.trail ++ l ∷ []) a are more in
+    let high : l.var ≤ s.counted.vars = omega (arith, upto, ap (λ (f : NormalForm). f.vars) are.counted_is) in
+    let pushed = parts_on-push s.origin s.scale s.counted s.multipliers s.trail l from high free in
+    below_cost s (parts_on s.origin s.scale s.counted s.multipliers s.trail + penalty s l) a low (subst (λ (n : ℕ). promised s.multipliers s.counted.rows + n ≤ s.form.vars * s.origin + s.scale * positive_value a s.form.objective) pushed holds)
 
 -- the sum of the base and what is promised above it, as the code makes it
 base_and : (base : ℤ) (above total : ℕ) → unsigned_abs base ≤ SUM_BOUND → (base +ℤ pos total) ≤ℤ pos SUM_BOUND → above ≤ total → total ≤ SUM_BOUND → FitsSigned number_width (to_z number_width (of_z number_width base) +ℤ to_z number_width above) × (to_z number_width (of_z number_width (to_z number_width (of_z number_width base) +ℤ to_z number_width above)) ≡ base +ℤ pos above)
@@ -228,7 +259,7 @@ base_and base above total low high most small =
     in_range base above total low high most = omega (arith, ints)
 
 -- the bound, as the code makes it
-pub bound_is : {form : NormalForm} {ys : List ℕ} {lits : List Literal} {changes : List Change} {origin scale total share : ℕ} {costs : List ℕ} {values : List (Option Bool)} {degrees sum capacity : ℕ} → AreKept form ys lits changes origin scale total share costs values degrees sum capacity → IsNormal form → (base : ℤ) → base ≡ form.base → (n up : ℕ) → up ≡ div_ceil (min ((n + degrees) - form.vars * origin) (scale * total)) scale → FitsSigned number_width (to_z number_width (of_z number_width base) +ℤ to_z number_width up) × (to_z number_width (of_z number_width (to_z number_width (of_z number_width base) +ℤ to_z number_width up)) ≡ form.base +ℤ pos (min (total_coefficient form.objective) (div_ceil ((promised ys form.rows + n) - form.vars * origin) scale)))
+pub bound_is : {form whole : NormalForm} {ys : List ℕ} {lits : List Literal} {changes : List Change} {origin scale total share : ℕ} {costs : List ℕ} {values : List (Option Bool)} {degrees sum capacity : ℕ} → AreKept form whole ys lits changes origin scale total share costs values degrees sum capacity → IsNormal form → (base : ℤ) → base ≡ form.base → (n up : ℕ) → up ≡ div_ceil (min ((n + degrees) - form.vars * origin) (scale * total)) scale → FitsSigned number_width (to_z number_width (of_z number_width base) +ℤ to_z number_width up) × (to_z number_width (of_z number_width (to_z number_width (of_z number_width base) +ℤ to_z number_width up)) ≡ form.base +ℤ pos (min (total_coefficient form.objective) (div_ceil ((promised ys form.rows + n) - form.vars * origin) scale)))
 bound_is {form = form} {ys = ys} {origin = origin} {scale = scale} kept normal base same n up is =
     let limits = normal.limits in
     let whole = total_coefficient form.objective in
@@ -243,7 +274,7 @@ bound_is {form = form} {ys = ys} {origin = origin} {scale = scale} kept normal b
     no_more up whole above is = omega arith
 
 -- another trail with its values and its sum
-pub kept_on : {form : NormalForm} {ys : List ℕ} {lits : List Literal} {changes : List Change} {origin scale total share : ℕ} {costs : List ℕ} {values : List (Option Bool)} {degrees sum capacity : ℕ} → AreKept form ys lits changes origin scale total share costs values degrees sum capacity → (new_lits : List Literal) (new_values : List (Option Bool)) (new_sum new_capacity : ℕ) → length new_values ≡ length values → AreValues new_values new_lits new_capacity → new_sum ≡ parts costs new_values → AreKept form ys new_lits changes origin scale total share costs new_values degrees new_sum new_capacity
+pub kept_on : {form whole : NormalForm} {ys : List ℕ} {lits : List Literal} {changes : List Change} {origin scale total share : ℕ} {costs : List ℕ} {values : List (Option Bool)} {degrees sum capacity : ℕ} → AreKept form whole ys lits changes origin scale total share costs values degrees sum capacity → (new_lits : List Literal) (new_values : List (Option Bool)) (new_sum new_capacity : ℕ) → length new_values ≡ length values → AreValues new_values new_lits new_capacity → new_sum ≡ parts costs new_values → AreKept form whole ys new_lits changes origin scale total share costs new_values degrees new_sum new_capacity
 kept_on kept new_lits new_values new_sum new_capacity same are is = record {
   scale_from_one = kept.scale_from_one;
   total_is = kept.total_is;
@@ -251,6 +282,8 @@ kept_on kept new_lits new_values new_sum new_capacity same are is = record {
   shared = kept.shared;
   few = kept.few;
   count = kept.count;
+  one_each = kept.one_each;
+  no_greater = kept.no_greater;
   each_within = kept.each_within;
   degrees_are = kept.degrees_are;
   costs_are = kept.costs_are;

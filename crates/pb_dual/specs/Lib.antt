@@ -1,3 +1,4 @@
 pub mod ReducedCosts
 pub mod Changes
+pub mod Saturation
 pub mod Multipliers

@@ -12,6 +12,7 @@
 mod changes;
 mod multipliers;
 mod reduced_costs;
+mod saturation;
 mod signed;
 
 pub use multipliers::{FIXING_WINDOW, Multipliers};

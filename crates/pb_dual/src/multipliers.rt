@@ -1,16 +1,18 @@
 //! Multipliers for rows, with what they say of the completions of a trail.
 
-ghost use Rattle.std.specs.Prelude.{◌≡◌, ◌⊎◌, ℕ, ◌+◌, ◌-◌, ◌*◌, ◌^◌, ◌<◌, ◌≤◌, [], ◌∷◌, ◌++◌, false, true, Ok, None, IfOk, IfSome, IsTrue, length, take, drop, replicate, min, slice_index, slice_set, slice_index_or, pos, ◌≤ℤ◌, ltb};
+ghost use Rattle.std.specs.Prelude.{◌≡◌, ◌⊎◌, ℕ, ◌+◌, ◌-◌, ◌*◌, ◌^◌, ◌<◌, ◌≤◌, [], ◌∷◌, ◌++◌, false, true, Ok, None, IfOk, IfSome, IsTrue, Bool, List, length, take, drop, replicate, min, slice_index, slice_set, slice_index_or, pos, ◌≤ℤ◌, ltb};
 ghost use Rattle.pb_inst.specs.declared.TheConstants.{MAX_VARS};
-ghost use Rattle.pb_trail.specs.Completion.{HasNoCompletion};
-ghost use Rattle.pb_trail.specs.Trail.{value_on};
+ghost use Rattle.pb_trail.specs.Completion.{HasNoCompletion, IsCompletion};
+ghost use Rattle.pb_trail.specs.Trail.{value_on, is_true, reached};
 ghost use Rattle.pb_rows.specs.Constraints.{row_at};
-ghost use Rattle.pb_normal.specs.NormalForm.{total_coefficient};
+ghost use Rattle.pb_normal.specs.NormalForm.{total_coefficient, MeetsRow};
 ghost use Rattle.pb_dual.specs.ReducedCosts.{parts_on};
-ghost use Rattle.pb_dual.specs.Multipliers.{undone, changed, shifted, bound_from, dual_bound, penalty, promised_above, is_over_all_costs, IsFixed, IsBelowCosts, IsBelowCostsWith, IsWithinShare};
+ghost use Rattle.pb_dual.specs.Multipliers.{undone, changed, shifted, bound_from, dual_bound, penalty, promised_above, is_over_all_costs, IsFixed, IsBelowCosts, IsBelowCostsWith, IsWithinShare, released, cut_to, IsSameButCounted};
+ghost use Rattle.pb_dual.specs.Saturation.{saturation_at, saturation_of, left_of, capped, counted_row, IsWithinRow};
 
 use crate::changes::Change;
 use crate::reduced_costs::{initial_costs, part, reprice, revalue};
+use crate::saturation::{Saturation, whole_rows};
 use crate::signed::Signed;
 use pb_count::{Count, Tally};
 use pb_inst::{Lit, MAX_VARS, Memory, Number};
@@ -37,6 +39,10 @@ pub struct Multipliers<'a, C: Count = u64> {
     values: Vec<Option<bool>>,
     lits: Vec<Lit>,
     changes: Vec<Change<C>>,
+    /// How each row is counted.
+    saturations: Vec<Saturation<C>>,
+    /// On how many literals of the trail the counting stands.
+    root: usize,
 }
 
 // By hand, so that whoever lets go of multipliers sees one call, and not each of their parts.
@@ -54,6 +60,8 @@ impl<C: Count> Drop for Multipliers<'_, C> {
             values: _,
             lits: _,
             changes: _,
+            saturations: _,
+            root: _,
         } = self;
     }
 }
@@ -61,12 +69,13 @@ impl<C: Count> Drop for Multipliers<'_, C> {
 impl<'a, C: Count> Model for Multipliers<'a, C> {
     ghost use Rattle.std.specs.Vec.{vec_capacity};
     ghost use Rattle.pb_dual.specs.Multipliers.{MultipliersState, AreKept};
+    ghost use Rattle.pb_dual.specs.Saturation.{counted_form, AreSaturations};
 
     ghost Value = { MultipliersState };
 
-    ghost view = { λ m. record { form = m.form.now; origin = C.origin; scale = m.scale; share = m.share; multipliers = m.multipliers.items; trail = m.lits.items; changes = m.changes.items; room = vec_capacity m.changes } };
+    ghost view = { λ m. record { form = m.form.now; counted = counted_form m.saturations.items m.form.now; origin = C.origin; scale = m.scale; share = m.share; multipliers = m.multipliers.items; trail = m.lits.items; root = m.root; changes = m.changes.items; room = vec_capacity m.changes } };
 
-    ghost invariant = { λ m. AreKept m.form.now m.multipliers.items m.lits.items m.changes.items C.origin m.scale m.total m.share m.costs.items m.values.items m.degrees m.sum (vec_capacity m.lits) };
+    ghost invariant = { λ m. AreKept (counted_form m.saturations.items m.form.now) m.form.now m.multipliers.items m.lits.items m.changes.items C.origin m.scale m.total m.share m.costs.items m.values.items m.degrees m.sum (vec_capacity m.lits) × AreSaturations m.form.now m.saturations.items m.root m.lits.items };
 }
 
 impl<'a, C: Count> Multipliers<'a, C> {
@@ -80,7 +89,7 @@ impl<'a, C: Count> Multipliers<'a, C> {
     ) -> Result<Option<Multipliers<'a, C>>, Memory>
         ensures form { IfOk result (λ made. IfSome made (λ m. m.form ≡ form.now)) }
         ensures multipliers { IfOk result (λ made. IfSome made (λ m. m.multipliers ≡ replicate (length form.now.rows) 0)) }
-        ensures empty { IfOk result (λ made. IfSome made (λ m. (m.trail ≡ []) × (m.changes ≡ []))) }
+        ensures empty { IfOk result (λ made. IfSome made (λ m. (m.trail ≡ []) × (m.changes ≡ []) × (m.root ≡ 0) × (m.counted ≡ m.form))) }
         ensures room { IfOk result (λ made. IfSome made (λ m. room ≤ m.room)) }
         ensures scale { IfOk result (λ made. IfSome made (λ m. 1 ≤ m.scale)) }
         ensures none { result ≡ Ok None → (MAX_VARS < form.now.vars) ⊎ (2 * C.origin ≤ total_coefficient form.now.objective) }
@@ -106,7 +115,7 @@ impl<'a, C: Count> Multipliers<'a, C> {
         requires few { form.now.vars ≤ MAX_VARS }
         ensures form { IfOk result (λ m. m.form ≡ form.now) }
         ensures multipliers { IfOk result (λ m. m.multipliers ≡ replicate (length form.now.rows) 0) }
-        ensures empty { IfOk result (λ m. (m.trail ≡ []) × (m.changes ≡ [])) }
+        ensures empty { IfOk result (λ m. (m.trail ≡ []) × (m.changes ≡ []) × (m.root ≡ 0) × (m.counted ≡ m.form)) }
         ensures room { IfOk result (λ m. room ≤ m.room) }
         ensures scale { IfOk result (λ m. 1 ≤ m.scale) }
     {
@@ -117,6 +126,7 @@ impl<'a, C: Count> Multipliers<'a, C> {
         let lits = Vec::with_capacity(alloc, vars)?;
         let multipliers = vec![in alloc; Tally::of(0); form.len()]?;
         let changes = Vec::with_capacity(alloc, room)?;
+        let saturations = whole_rows(alloc, form)?;
         Ok(Multipliers {
             form,
             scale,
@@ -129,6 +139,8 @@ impl<'a, C: Count> Multipliers<'a, C> {
             values,
             lits,
             changes,
+            saturations,
+            root: 0,
         })
     }
 
@@ -151,6 +163,17 @@ impl<'a, C: Count> Multipliers<'a, C> {
     {
         let value = self.values[lit.var() as usize - 1]?;
         Some(value == lit.positive())
+    }
+
+    /// Whether the trail makes the literal true.
+    fn is_true(&self, lit: Lit) -> bool
+        requires { (1 ≤ lit.var) × (lit.var ≤ self.now.form.vars) }
+        ensures { result ≡ is_true self.now.trail lit }
+    {
+        match self.values[lit.var() as usize - 1] {
+            Some(value) => value == lit.positive(),
+            None => false,
+        }
     }
 
     /// Whether the literal is of a variable of the form that has no value.
@@ -209,7 +232,7 @@ impl<'a, C: Count> Multipliers<'a, C> {
     pub fn bound_with(&self, lit: Lit) -> Number
         requires variable { lit.var ≤ self.now.form.vars }
         requires no_value { value_on self.now.trail lit.var ≡ None }
-        ensures value { result ≡ bound_from self.now (parts_on self.now.origin self.now.scale self.now.form self.now.multipliers self.now.trail + penalty self.now lit) }
+        ensures value { result ≡ bound_from self.now (parts_on self.now.origin self.now.scale self.now.counted self.now.multipliers self.now.trail + penalty self.now lit) }
         ensures bound { IsBelowCostsWith self.now.form self.now.trail lit result }
     {
         let _vars = self.form.vars();
@@ -323,8 +346,22 @@ impl<'a, C: Count> Multipliers<'a, C> {
         self.lits.push_reserved(lit);
     }
 
-    /// Takes literals off the trail until so many are left.
+    /// Takes literals off the trail until so many are left. Once fewer are left than those by which rows were saturated, the
+    /// rows count as they are again.
     pub fn unassign_to(&mut self, length: usize)
+        ensures value { self.new ≡ cut_to length self.old }
+        ensures form { self.new.form ≡ self.old.form }
+        ensures trail { self.new.trail ≡ take length self.old.trail }
+    {
+        if length < self.root {
+            self.release();
+        }
+        self.unassign_down_to(length);
+    }
+
+    /// The same where rows count no literal that is taken off.
+    fn unassign_down_to(&mut self, length: usize)
+        requires { self.old.root ≤ length }
         ensures { self.new ≡ record self.old { trail = take length self.old.trail } }
     {
         while self.len() > length {
@@ -334,6 +371,7 @@ impl<'a, C: Count> Multipliers<'a, C> {
 
     /// Takes the last literal off the trail.
     fn unassign_last(&mut self)
+        requires { self.old.root < length self.old.trail }
         ensures { self.new ≡ record self.old { trail = take (length self.old.trail - 1) self.old.trail } }
     {
         if let Some(lit) = self.lits.pop() {
@@ -372,16 +410,133 @@ impl<'a, C: Count> Multipliers<'a, C> {
         if amount.is_negative() {
             return before.above(by);
         }
-        before.saturating_add(by).min(self.share / self.degree(row))
+        before
+            .saturating_add(by)
+            .min(self.share / self.whole_degree(row))
     }
 
-    /// The degree of the row.
-    fn degree(&self, row: usize) -> Tally<C>
+    /// The degree of the row as it is.
+    fn whole_degree(&self, row: usize) -> Tally<C>
         requires { row < length self.now.form.rows }
         ensures { result ≡ (row_at self.now.form.rows row).degree }
     {
         let _vars = self.form.vars();
         self.form.degree(row)
+    }
+
+    /// The degree of the row as it is counted.
+    pub fn degree(&self, row: usize) -> Tally<C>
+        requires { row < length self.now.form.rows }
+        ensures { result ≡ (row_at self.now.counted.rows row).degree }
+    {
+        self.saturations[row].degree
+    }
+
+    /// The most that a coefficient of the row counts.
+    pub fn most(&self, row: usize) -> Tally<C>
+        requires { row < length self.now.form.rows }
+        ensures { (row_at self.now.counted.rows row).terms ≡ capped result (row_at self.now.form.rows row).terms }
+    {
+        self.saturations[row].most
+    }
+
+    /// Counts no coefficient of any row more than what is left of the row's degree under the trail as it is, as long as no
+    /// literal of it is taken off.
+    pub fn saturate(&mut self)
+        ensures same { IsSameButCounted self.old self.new }
+        ensures root { self.new.root ≡ length self.old.trail }
+    {
+        self.root = self.lits.len();
+        for row in 0..self.form.len() {
+            self.saturate_row(row);
+        }
+    }
+
+    /// The same for one row, where the counting stands on the whole trail. A row that the trail meets stays as it is.
+    fn saturate_row(&mut self, row: usize)
+        requires row { row < length self.old.form.rows }
+        requires root { self.old.root ≡ length self.old.trail }
+        ensures same { IsSameButCounted self.old self.new }
+        ensures root { self.new.root ≡ self.old.root }
+    {
+        let most = self.left_of(row);
+        if most.is_zero() || !most.is_below(self.saturations[row].most) {
+            return;
+        }
+        let degree = self.degree_beside(row, most);
+        self.count(row, Saturation { most, degree });
+    }
+
+    /// What is left of the row's degree under the trail.
+    fn left_of(&self, row: usize) -> Tally<C>
+        requires { row < length self.now.form.rows }
+        ensures { result ≡ left_of self.now.trail (row_at self.now.form.rows row) }
+    {
+        let _vars = self.form.vars();
+        let mut left = self.form.degree(row);
+        for term in self.form.terms(row) {
+            if self.is_true(term.lit()) {
+                left = left.above(term.coef());
+            }
+        }
+        left
+    }
+
+    /// So much, and what the row's literals on the trail count where no coefficient counts more.
+    fn degree_beside(&self, row: usize, most: Tally<C>) -> Tally<C>
+        requires row { row < length self.now.form.rows }
+        requires fits { most + reached self.now.trail (row_at self.now.form.rows row).terms ≤ (row_at self.now.form.rows row).degree }
+        ensures { result ≡ most + reached self.now.trail (capped most (row_at self.now.form.rows row).terms) }
+    {
+        let _vars = self.form.vars();
+        let mut degree = most;
+        for term in self.form.terms(row) {
+            if self.is_true(term.lit()) {
+                degree = degree + term.coef().min(most);
+            }
+        }
+        degree
+    }
+
+    /// Counts all rows as they are.
+    fn release(&mut self)
+        ensures { self.new ≡ released self.old }
+    {
+        for row in 0..self.form.len() {
+            self.release_row(row);
+        }
+        self.root = 0;
+    }
+
+    /// Counts the row as it is.
+    fn release_row(&mut self, row: usize)
+        requires { row < length self.old.form.rows }
+        ensures { self.new ≡ record self.old { counted = record self.old.counted { rows = slice_set self.old.counted.rows row (row_at self.old.form.rows row) } } }
+    {
+        let _vars = self.form.vars();
+        let degree = self.whole_degree(row);
+        if self.saturations[row].most.is_below(degree) {
+            self.count(
+                row,
+                Saturation {
+                    most: degree,
+                    degree,
+                },
+            );
+        }
+    }
+
+    /// Counts the row in this way. Its multiplier stays.
+    fn count(&mut self, row: usize, saturation: Saturation<C>)
+        requires row { row < length self.old.form.rows }
+        requires within { IsWithinRow (row_at self.old.form.rows row) saturation }
+        requires met { (a : List Bool) → IsCompletion self.old.form.rows (take self.old.root self.old.trail) a → MeetsRow a (counted_row saturation (row_at self.old.form.rows row)) }
+        ensures { self.new ≡ record self.old { counted = record self.old.counted { rows = slice_set self.old.counted.rows row (counted_row saturation (row_at self.old.form.rows row)) } } }
+    {
+        let multiplier = self.multipliers[row];
+        self.set(row, Tally::of(0));
+        self.saturations[row] = saturation;
+        self.set(row, multiplier);
     }
 
     /// How many changes can be taken back.
@@ -437,12 +592,13 @@ impl<'a, C: Count> Multipliers<'a, C> {
     {
         let _vars = self.form.vars();
         let from = self.multipliers[row];
-        let degree = self.form.degree(row);
+        let (degree, most) = (self.degree(row), self.most(row));
         reprice(
             &mut self.costs,
             &mut self.sum,
             &self.values,
             self.form.terms(row),
+            most,
             from,
             to,
         );

@@ -7,6 +7,7 @@ ghost use Rattle.pb_normal.specs.Literals.{weight_of};
 ghost use Rattle.pb_rows.specs.Index.{literal_place};
 ghost use Rattle.pb_normal.specs.NormalForm.{total_coefficient};
 ghost use Rattle.pb_dual.specs.ReducedCosts.{AreReducedCosts, cost_at, part, parts};
+ghost use Rattle.pb_dual.specs.Saturation.{capped};
 
 use pb_count::{Count, Tally};
 use pb_inst::{Lit, Memory};
@@ -56,50 +57,60 @@ pub fn revalue<C: Count>(
     *sum = *sum - before.number() + after.number();
 }
 
-/// Changes what a row with these terms takes off the costs of their literals: its multiplier is `to`, and was `from`.
+/// Changes what a row with these terms takes off the costs of their literals, where no coefficient counts more than `most`: its
+/// multiplier is `to`, and was `from`.
 pub fn reprice<C: Count>(
     costs: &mut [Tally<C>],
     sum: &mut u128,
     values: &[Option<bool>],
     terms: &[FormTerm<C>],
+    most: Tally<C>,
     from: Tally<C>,
     to: Tally<C>,
 )
     requires variables { All (λ t. (1 ≤ t.lit.var) × (t.lit.var ≤ length values.now)) terms.now }
     requires count { length costs.old ≡ 2 * length values.now }
     requires few { length values.now ≤ MAX_VARS }
-    requires enough { (l : Literal) → 1 ≤ l.var → l.var ≤ length values.now → to * weight_of l terms.now ≤ slice_index costs.old (literal_place l) + from * weight_of l terms.now }
-    requires fits { (l : Literal) → 1 ≤ l.var → l.var ≤ length values.now → slice_index costs.old (literal_place l) + from * weight_of l terms.now ≤ 3 * C.origin }
+    requires enough { (l : Literal) → 1 ≤ l.var → l.var ≤ length values.now → to * weight_of l (capped most terms.now) ≤ slice_index costs.old (literal_place l) + from * weight_of l (capped most terms.now) }
+    requires fits { (l : Literal) → 1 ≤ l.var → l.var ≤ length values.now → slice_index costs.old (literal_place l) + from * weight_of l (capped most terms.now) ≤ 3 * C.origin }
     requires sum { sum.old ≡ parts costs.old values.now }
     ensures count { length costs.new ≡ length costs.old }
-    ensures each { (l : Literal) → 1 ≤ l.var → l.var ≤ length values.now → slice_index costs.new (literal_place l) + to * weight_of l terms.now ≡ slice_index costs.old (literal_place l) + from * weight_of l terms.now }
+    ensures each { (l : Literal) → 1 ≤ l.var → l.var ≤ length values.now → slice_index costs.new (literal_place l) + to * weight_of l (capped most terms.now) ≡ slice_index costs.old (literal_place l) + from * weight_of l (capped most terms.now) }
     ensures sum { sum.new ≡ parts costs.new values.now }
 {
     for term in terms {
-        reprice_term(costs, sum, values, *term, from, to);
+        reprice_literal(
+            costs,
+            sum,
+            values,
+            term.lit(),
+            term.coef().min(most),
+            from,
+            to,
+        );
     }
 }
 
-/// The same for one term of the row.
-fn reprice_term<C: Count>(
+/// The same for one literal, and what it counts in the row.
+fn reprice_literal<C: Count>(
     costs: &mut [Tally<C>],
     sum: &mut u128,
     values: &[Option<bool>],
-    term: FormTerm<C>,
+    lit: Lit,
+    coef: Tally<C>,
     from: Tally<C>,
     to: Tally<C>,
 )
-    requires variable { term.lit.var ≤ length values.now }
+    requires variable { lit.var ≤ length values.now }
     requires count { length costs.old ≡ 2 * length values.now }
     requires few { length values.now ≤ MAX_VARS }
-    requires enough { to * term.coef ≤ slice_index costs.old (literal_place term.lit) + from * term.coef }
-    requires fits { slice_index costs.old (literal_place term.lit) + from * term.coef ≤ 3 * C.origin }
+    requires enough { to * coef ≤ slice_index costs.old (literal_place lit) + from * coef }
+    requires fits { slice_index costs.old (literal_place lit) + from * coef ≤ 3 * C.origin }
     requires small { (l : Literal) → 1 ≤ l.var → l.var ≤ length values.now → slice_index costs.old (literal_place l) ≤ 3 * C.origin }
     requires sum { sum.old ≡ parts costs.old values.now }
-    ensures costs { costs.new ≡ slice_set costs.old (literal_place term.lit) (slice_index costs.old (literal_place term.lit) + from * term.coef - to * term.coef) }
+    ensures costs { costs.new ≡ slice_set costs.old (literal_place lit) (slice_index costs.old (literal_place lit) + from * coef - to * coef) }
     ensures sum { sum.new ≡ parts costs.new values.now }
 {
-    let (coef, lit) = (term.coef(), term.lit());
     let before = part(costs, values, lit);
     let here = place_of(lit);
     costs[here] = costs[here] + from * coef - to * coef;

@@ -192,6 +192,7 @@ impl<'a, C: Count> Relaxation<'a, C> {
         self.counted = slacks.len();
         if let Some(steps) = refuting.steps() {
             self.return_to_root(slacks);
+            self.multipliers.saturate();
             self.passes.refute(&mut self.multipliers, steps);
             refuting.end(self.multipliers.refutes());
         }
@@ -240,8 +241,8 @@ impl<'a, C: Count> Relaxation<'a, C> {
         true
     }
 
-    /// Shifts all rows at once beside the root's trail. Where the search's place is far below it, its multipliers are no
-    /// beginning, and the root's are.
+    /// Shifts all rows at once beside the root's trail, and counts them as it leaves them. Where the search's place is far below
+    /// it, its multipliers are no beginning, and the root's are.
     fn climb(&mut self, slacks: &Slacks<'_, '_, C>, goal: Number)
         requires { IsBeside slacks.now.form slacks.now.trail self.old }
         ensures { IsBeside slacks.now.form slacks.now.trail self.new }
@@ -254,6 +255,7 @@ impl<'a, C: Count> Relaxation<'a, C> {
             };
             self.take_back_to(changes);
         }
+        self.multipliers.saturate();
         self.passes
             .climb(&mut self.multipliers, &mut self.steps, goal);
     }

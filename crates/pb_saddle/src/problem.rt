@@ -67,9 +67,10 @@ impl Problem {
         requires { row < length multipliers.now.form.rows }
     {
         let form = multipliers.form();
-        let (mut need, mut negated) = (form.degree(row).number(), 0.0);
+        let most = multipliers.most(row);
+        let (mut need, mut negated) = (multipliers.degree(row).number(), 0.0);
         for term in form.terms(row) {
-            let (lit, coef) = (term.lit(), term.coef().number());
+            let (lit, coef) = (term.lit(), term.coef().min(most).number());
             match value(multipliers, lit) {
                 Some(true) => need = need.saturating_sub(coef),
                 Some(false) => {}

@@ -303,7 +303,7 @@ impl Saddle {
     fn greatest_promise<C: Count>(&self, multipliers: &Multipliers<'_, C>) -> f64 {
         let mut greatest = 0.0;
         for row in 0..multipliers.form().len() {
-            let promise = float(multipliers.form().degree(row).number()) * at(&self.held, row);
+            let promise = float(multipliers.degree(row).number()) * at(&self.held, row);
             if promise > greatest {
                 greatest = promise;
             }

@@ -39,7 +39,7 @@ impl<C: Count> Steps<C> {
         if !multipliers.has_room() {
             return Signed::zero();
         }
-        let is_clause = !Tally::of(1).is_below(multipliers.form().degree(row));
+        let is_clause = !Tally::of(1).is_below(multipliers.degree(row));
         let amount = if is_clause {
             clause_amount(multipliers, row)
         } else {
@@ -84,10 +84,11 @@ fn row_amount<C: Count>(
     let form = multipliers.form();
     let _vars = form.vars();
     let multiplier = multipliers.multiplier(row);
-    let mut need = Signed::of(form.degree(row));
+    let most = multipliers.most(row);
+    let mut need = Signed::of(multipliers.degree(row));
     breakpoints.clear();
     for term in form.terms(row) {
-        let coef = term.coef();
+        let coef = term.coef().min(most);
         match multipliers.value(term.lit()) {
             Some(true) => need = need.minus(Signed::of(coef)),
             Some(false) => {}

@@ -172,7 +172,8 @@ fn holds<C: Count>(
     holds
 }
 
-/// Makes a drawn change: a shift, a literal that joins or leaves the trail, or changes that are taken back.
+/// Makes a drawn change: a shift, a literal that joins or leaves the trail, changes that are taken back, or rows that are
+/// saturated by the trail as it is.
 fn change<C: Count>(
     draws: &mut Draws,
     multipliers: &mut Multipliers<'_, C>,
@@ -194,6 +195,7 @@ fn change<C: Count>(
             let count = multipliers.changes() / 2;
             multipliers.take_back_to(count);
         }
+        3 => multipliers.saturate(),
         _ => {
             let row = draws.below(16) as usize;
             let amount = draws.about(limit);
@@ -262,6 +264,48 @@ fn blind_multipliers_of_wide_forms(rt: HostRuntime) {
             assert!(rt; bounds_hold::<u128>(&rt, alloc, seed, size));
         }
     }
+}
+
+/// A form over five variables, of which all but the first cost 1. Two rows ask for two of three literals each, the first
+/// variable in both.
+fn shared_form(rt: &impl Abort, alloc: Global) -> Form<u64> {
+    let mut builder = InstanceBuilder::new(alloc);
+    let term = |coef, var| Term {
+        coef,
+        lit: Lit::new(var, true).expect(rt, "a variable"),
+    };
+    let objective = [term(1, 2), term(1, 3), term(1, 4), term(1, 5)];
+    builder.set_objective(&objective).expect(rt, "an objective");
+    for first in [2, 4] {
+        let row = [term(3, 1), term(3, first), term(3, first + 1)];
+        builder
+            .add(&row, Relation::AtLeast, 4)
+            .expect(rt, "a constraint");
+    }
+    let instance = builder.finish(5).ok().expect(rt, "an instance");
+    form_of(alloc, &instance).ok().expect(rt, "a form")
+}
+
+/// Once a literal is on the trail only what is left of a degree counts: multipliers of 1 then give a bound of 2, and of 1
+/// before. Once it is off the trail its rows count as they are, and such multipliers take off more than all costs.
+#[test]
+fn rows_are_saturated_while_the_trail_stands(rt: HostRuntime) {
+    let alloc = rt.alloc();
+    let form = shared_form(&rt, alloc);
+    let made = Multipliers::new(alloc, &form, 8).expect(&rt, "memory");
+    let mut multipliers = made.expect(&rt, "a scale");
+    let lit = Lit::new(1, true).expect(&rt, "a variable");
+    assert!(rt; multipliers.is_free(lit));
+    multipliers.assign(lit);
+    multipliers.saturate();
+    for row in 0..2 {
+        assert!(rt; row < multipliers.form().len() && multipliers.has_room());
+        let one = Signed::of(multipliers.scale());
+        multipliers.shift(row, one);
+    }
+    assert!(rt; multipliers.bound() == 2);
+    multipliers.unassign_to(0);
+    assert!(rt; multipliers.bound() == 0);
 }
 
 /// A form over one variable, which costs so much.

@@ -1,7 +1,10 @@
-use Rattle.std.proofs.Common.{◌≡◌, ℕ, ◌*◌, ◌^◌, length, replicate, None, ap, arith, rules, ◌∙◌}
+use Rattle.std.proofs.Common.{◌≡◌, ℕ, List, refl, sym, subst, ◌*◌, ◌^◌, length, replicate, None, ap, arith, rules, ◌∙◌}
 use Rattle.std.specs.Vec.{vec_capacity}
 use Rattle.std.proofs.lemmas.Nat.{mul-le}
 use Rattle.pb_inst.specs.declared.TheConstants.{MAX_VARS}
+use Rattle.pb_normal.specs.NormalForm.{PositiveRow}
+use Rattle.pb_dual.specs.Multipliers.{AreKept}
+use Rattle.pb_dual.proofs.SaturationLemmas.{counted-wholes, saturations-whole}
 use Rattle.pb_dual.proofs.StartLemmas.{kept-first}
 use Rattle.pb_dual.proofs.multipliers.Multipliers.scaled.Goals as goal
 
@@ -16,7 +19,8 @@ invariant_of-result g c =
     let vars = c.vars-vars.ensures.value in
     let turned : g.C.Count.origin * c.args.form.now.vars ≡ c.args.form.now.vars * g.C.Count.origin = omega arith in
     let floor : c.number.result * c.vars-vars.result ≡ c.args.form.now.vars * g.C.Count.origin = ap (λ (n : ℕ). n * c.vars-vars.result) (c.number.ensures ∙ c.origin.ensures) ∙ (ap (λ (n : ℕ). g.C.Count.origin * n) vars ∙ turned) in
-    kept-first c.args.form.now c.in_ok-multipliers.multipliers.items c.in_ok-lits.lits.items c.in_ok-changes.changes.items g.C.Count.origin c.scale_for-scale.result c.args.total c.share_of.result c.in_ok-costs.costs.items c.in_ok-values.values.items c.of-2.result (c.number.result * c.vars-vars.result) (vec_capacity c.in_ok-lits.lits)
+    let same = counted-wholes c.args.form.now.rows c.in_ok-saturations.saturations.items c.args.form.now.vars c.in_ok-saturations.ensures c.vars-vars.ensures.normal.shape.rows in
+    let kept = kept-first c.args.form.now c.in_ok-multipliers.multipliers.items c.in_ok-lits.lits.items c.in_ok-changes.changes.items g.C.Count.origin c.scale_for-scale.result c.args.total c.share_of.result c.in_ok-costs.costs.items c.in_ok-values.values.items c.of-2.result (c.number.result * c.vars-vars.result) (vec_capacity c.in_ok-lits.lits)
     c.vars-vars.ensures.normal
     c.scale_for-scale.ensures.from_one
     c.requires.total
@@ -30,4 +34,12 @@ invariant_of-result g c =
     (c.in_ok-values.ensures.items_if_clones_equal (search rules) ∙ ap (λ (n : ℕ). replicate n None) vars)
     (omega (arith, c.in_ok-lits.ensures.exact))
     c.requires.few
-    floor
+    floor in (
+      subst (λ (rows : List PositiveRow). AreKept (record c.args.form.now { rows = rows }) c.args.form.now c.in_ok-multipliers.multipliers.items c.in_ok-lits.lits.items c.in_ok-changes.changes.items g.C.Count.origin c.scale_for-scale.result c.args.total c.share_of.result c.in_ok-costs.costs.items c.in_ok-values.values.items c.of-2.result (c.number.result * c.vars-vars.result) (vec_capacity c.in_ok-lits.lits)) (sym same) kept,
+      saturations-whole c.args.form.now c.in_ok-saturations.saturations.items c.in_ok-lits.lits.items c.in_ok-saturations.ensures c.vars-vars.ensures.normal,
+    )
+
+pub returns-clause-empty : goal.returns-clause-empty
+returns-clause-empty g c =
+    let same = counted-wholes c.args.form.now.rows c.in_ok-saturations.saturations.items c.args.form.now.vars c.in_ok-saturations.ensures c.vars-vars.ensures.normal.shape.rows in
+    (c.in_ok-lits.ensures.items, c.in_ok-changes.ensures.items, refl, ap (λ (rows : List PositiveRow). record c.args.form.now { rows = rows }) same)

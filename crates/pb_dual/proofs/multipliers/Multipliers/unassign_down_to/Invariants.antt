@@ -1,6 +1,6 @@
 use Rattle.std.proofs.Common.{length}
 use Rattle.pb_dual.proofs.TrailLemmas.{IsCutTo}
-use Rattle.pb_dual.proofs.multipliers.Multipliers.unassign_to.Given as goal
+use Rattle.pb_dual.proofs.multipliers.Multipliers.unassign_down_to.Given as goal
 
 abbrev pub invariant-loop-self : goal.invariant-loop-self
 invariant-loop-self g l = IsCutTo l.initial.self l.self l.length
