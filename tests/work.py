@@ -61,6 +61,7 @@ TODAY = {
     "long_row": Today(12_100, 106),
     "machines": Today(83_900, 122),
     "met_rows": Today(37_220, 119),
+    "one_of_many": Today(8_886, 110),
     "packages": Today(99_300, 118),
     "short_knapsack": Today(36_300, 104),
     "two_sides": Today(108_900, 119),

@@ -2,7 +2,7 @@
 
 ghost use Rattle.std.specs.Prelude.{◌≡◌, ◌≤◌, length};
 
-use super::instances::{Row, assignment, cubes, instance, nothing, shown};
+use super::instances::{Row, assignment, cubes, instance, nothing, ring_cover, shown};
 use pb_cubes::Pieces;
 use pb_inst::{Best, Instance, Number, Relation};
 use pb_normal::normalise;
@@ -220,6 +220,20 @@ fn promises_over_all_costs_close_subtrees(rt: HostRuntime) {
     let crowded = instance(&rt, alloc, 20, &[(1, 1)], rows);
     let got = runs_of(&rt, alloc, &crowded, &[], 0, &[Some(57)]);
     assert!(rt; got.as_str() == "Whole 38, none", "{got}");
+}
+
+/// The search of a long ring dives from its root, and the decisions of its dives are among those of the budget, of which it
+/// needs more than these.
+#[test]
+fn dives_keep_to_the_budget(rt: HostRuntime) {
+    let alloc = rt.alloc();
+    let ring = ring_cover(&rt, alloc, 390);
+    let budgets = [Some(0), Some(64), Some(300)];
+    let got = runs_of(&rt, alloc, &ring, &[], 0, &budgets);
+    assert!(rt;
+        got.as_str().starts_with("Cut 0, Cut 64, Cut 300, "),
+        "{got}"
+    );
 }
 
 /// Without a decision: nothing to decide, nothing feasible, and a cut.

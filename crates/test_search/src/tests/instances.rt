@@ -116,7 +116,99 @@ pub fn ring_cover(rt: &impl Abort, alloc: Global, size: i32) -> Instance {
     cover(rt, alloc, size.unsigned_abs(), &costs, &pairs)
 }
 
-/// The same on a ring with more chords, which makes the relaxation weaker.
+/// The same where each row is met by an open gate too: so many gates, each of as many rows one after the other. What follows
+/// from an open one contradicts itself, so none is; but the relaxation opens half of each.
+pub fn gated_cover(rt: &impl Abort, alloc: Global, size: i32, gates: i32) -> Instance {
+    let costs = ring_costs(rt, alloc, size);
+    let mut clauses = gated_pairs(rt, alloc, size, gates);
+    add_gates(rt, alloc, &mut clauses, size, gates);
+    let mut rows: Vec<Row<'_>> = Vec::new(alloc);
+    add_clauses(rt, &mut rows, &clauses);
+    let vars = size.wrapping_add(gates.wrapping_mul(2));
+    instance(rt, alloc, vars.unsigned_abs(), &costs, &rows)
+}
+
+/// One of each pair on the ring with chords, or the pair's gate.
+fn gated_pairs(rt: &impl Abort, alloc: Global, size: i32, gates: i32) -> Vec<Vec<(Number, i32)>> {
+    let pairs = ring(rt, alloc, size, &[1, 7]);
+    let mut clauses = Vec::new(alloc);
+    let mut place = 0i32;
+    for pair in &pairs {
+        let gate = place.wrapping_mul(gates).checked_div(size.wrapping_mul(2));
+        let gate = gate.expect(rt, "a ring");
+        let mut clause = Vec::new(alloc);
+        clause.extend_from_slice(pair).expect(rt, "memory");
+        clause
+            .push((1, gate_after(size, gate)))
+            .expect(rt, "memory");
+        clauses.push(clause).expect(rt, "memory");
+        place = place.wrapping_add(1);
+    }
+    clauses
+}
+
+/// The variable of the gate, of those after the first so many. One more belongs to each gate.
+fn gate_after(size: i32, gate: i32) -> i32 {
+    size.wrapping_add(gate.wrapping_mul(2)).wrapping_add(1)
+}
+
+/// Adds two clauses for each gate: a variable is true where it is open, and false.
+fn add_gates(
+    rt: &impl Abort,
+    alloc: Global,
+    clauses: &mut Vec<Vec<(Number, i32)>>,
+    size: i32,
+    gates: i32,
+) {
+    for number in 0..gates.wrapping_mul(2) {
+        let gate = gate_after(size, number / 2);
+        let other = gate.wrapping_add(1);
+        let closed = (1, gate.wrapping_neg());
+        let side = if number % 2 == 0 {
+            other
+        } else {
+            other.wrapping_neg()
+        };
+        let clause = vec![in alloc; closed, (1, side)].expect(rt, "memory");
+        clauses.push(clause).expect(rt, "memory");
+    }
+}
+
+/// One of every two neighbours on a ring with chords is chosen, at least cost, by rows that need 4: a variable that is true in
+/// any case gives 3, and either neighbour 4. By the relaxation an eighth of both is enough.
+pub fn filled_cover(rt: &impl Abort, alloc: Global, size: i32) -> Instance {
+    let costs = ring_costs(rt, alloc, size);
+    let filling = size.wrapping_add(1);
+    let sums = filled_pairs(rt, alloc, size, filling);
+    let filled: [(Number, i32); 1] = [(1, filling)];
+    let mut rows: Vec<Row<'_>> = Vec::new(alloc);
+    for sum in &sums {
+        rows.push((sum.as_slice(), Relation::AtLeast, 4))
+            .expect(rt, "memory");
+    }
+    rows.push((filled.as_slice(), Relation::AtLeast, 1))
+        .expect(rt, "memory");
+    instance(rt, alloc, filling.unsigned_abs(), &costs, &rows)
+}
+
+/// The pairs of the ring with chords, each literal with 4, and the filling with 3.
+fn filled_pairs(
+    rt: &impl Abort,
+    alloc: Global,
+    size: i32,
+    filling: i32,
+) -> Vec<[(Number, i32); 3]> {
+    let pairs = ring(rt, alloc, size, &[1, 7]);
+    let mut sums = Vec::new(alloc);
+    for pair in &pairs {
+        let [one, other] = *pair;
+        sums.push([(4, one.1), (4, other.1), (3, filling)])
+            .expect(rt, "memory");
+    }
+    sums
+}
+
+/// The cover of a ring with more chords, which makes the relaxation weaker.
 pub fn dense_cover(rt: &impl Abort, alloc: Global, size: i32) -> Instance {
     let costs = ring_costs(rt, alloc, size);
     let pairs = ring(rt, alloc, size, &[1, 2, 5, 11]);
@@ -191,7 +283,7 @@ pub fn crowd_behind_ring(
     size: i32,
     holes: i32,
 ) -> Instance {
-    let pairs = ring(rt, alloc, size, &[1, 2]);
+    let pairs = ring(rt, alloc, size, &[1, 2, 3, 4]);
     let clauses = crowd(rt, alloc, size, holes);
     let mut rows = pair_rows(rt, alloc, &pairs);
     add_clauses(rt, &mut rows, &clauses);
@@ -201,11 +293,16 @@ pub fn crowd_behind_ring(
 /// The terms of the places from the first on, each so far behind the one before.
 fn places(rt: &impl Abort, alloc: Global, first: i32, step: i32, count: i32) -> Vec<(Number, i32)> {
     let mut terms = Vec::new(alloc);
+    add_places(rt, &mut terms, first, step, count);
+    terms
+}
+
+/// Adds these terms.
+fn add_places(rt: &impl Abort, terms: &mut Vec<(Number, i32)>, first: i32, step: i32, count: i32) {
     for number in 0..count {
         let place = first.wrapping_add(number.wrapping_mul(step));
         terms.push((1, place)).expect(rt, "memory");
     }
-    terms
 }
 
 /// So many things, each of which lies in one of the bins, and no more than so many in one.
@@ -221,13 +318,98 @@ pub fn packing(rt: &impl Abort, alloc: Global, things: i32, bins: i32, room: Num
         sums.push((sum, Relation::AtMost, room))
             .expect(rt, "memory");
     }
+    let vars = things.wrapping_mul(bins).unsigned_abs();
+    instance_of_sums(rt, alloc, vars, &[], &sums)
+}
+
+/// How many hours a job takes.
+fn length_of(job: i32) -> i32 {
+    job.wrapping_mul(3) % 4 + 1
+}
+
+/// How many hours so many jobs take one after the other.
+fn hours_of(jobs: i32) -> i32 {
+    let mut hours = 0i32;
+    for job in 0..jobs {
+        hours = hours.wrapping_add(length_of(job));
+    }
+    hours
+}
+
+/// The variable that says that the job begins then.
+fn start_of(job: i32, hours: i32, begin: i32) -> i32 {
+    job.wrapping_mul(hours).wrapping_add(begin).wrapping_add(1)
+}
+
+/// How many hours there are at which the job may begin.
+fn starts_of(job: i32, hours: i32) -> i32 {
+    hours.wrapping_sub(length_of(job)).wrapping_add(1)
+}
+
+/// Those jobs that are under way in the hour began then.
+fn busy(rt: &impl Abort, alloc: Global, jobs: i32, hours: i32, hour: i32) -> Vec<(Number, i32)> {
+    let mut terms = Vec::new(alloc);
+    for job in 0..jobs {
+        let first = hour.wrapping_sub(length_of(job)).wrapping_add(1).max(0);
+        let end = hour.wrapping_add(1).min(starts_of(job, hours));
+        let count = end.wrapping_sub(first);
+        add_places(rt, &mut terms, start_of(job, hours, first), 1, count);
+    }
+    terms
+}
+
+/// Adds what the job costs by when it begins: its price for each hour until its end.
+fn add_prices(rt: &impl Abort, costs: &mut Vec<(Number, i32)>, job: i32, hours: i32) {
+    let price = job.wrapping_mul(5) % 9 + 1;
+    for begin in 0..starts_of(job, hours) {
+        let cost = price.wrapping_mul(begin.wrapping_add(length_of(job)));
+        costs
+            .push((Number::from(cost), start_of(job, hours, begin)))
+            .expect(rt, "memory");
+    }
+}
+
+/// A sum of terms, and what it is to be.
+type Sum = (Vec<(Number, i32)>, Relation, Number);
+
+/// So many jobs one after the other on a machine, each with a price for each hour until its end.
+pub fn schedule(rt: &impl Abort, alloc: Global, jobs: i32) -> Instance {
+    let hours = hours_of(jobs);
+    let mut costs = Vec::new(alloc);
+    let mut sums = Vec::new(alloc);
+    for job in 0..jobs {
+        add_prices(rt, &mut costs, job, hours);
+        let first = start_of(job, hours, 0);
+        let sum = places(rt, alloc, first, 1, starts_of(job, hours));
+        sums.push((sum, Relation::Equal, 1)).expect(rt, "memory");
+    }
+    add_hours(rt, alloc, &mut sums, jobs, hours);
+    let vars = jobs.wrapping_mul(hours).unsigned_abs();
+    instance_of_sums(rt, alloc, vars, &costs, &sums)
+}
+
+/// Adds that no two jobs are under way in one hour.
+fn add_hours(rt: &impl Abort, alloc: Global, sums: &mut Vec<Sum>, jobs: i32, hours: i32) {
+    for hour in 0..hours {
+        let sum = busy(rt, alloc, jobs, hours, hour);
+        sums.push((sum, Relation::AtMost, 1)).expect(rt, "memory");
+    }
+}
+
+/// An objective, where it has terms, and sums of terms as constraints.
+fn instance_of_sums(
+    rt: &impl Abort,
+    alloc: Global,
+    vars: u32,
+    objective: &[(Number, i32)],
+    sums: &[Sum],
+) -> Instance {
     let mut rows: Vec<Row<'_>> = Vec::new(alloc);
-    for (sum, relation, bound) in &sums {
+    for (sum, relation, bound) in sums {
         rows.push((sum.as_slice(), *relation, *bound))
             .expect(rt, "memory");
     }
-    let vars = things.wrapping_mul(bins).unsigned_abs();
-    instance(rt, alloc, vars, &[], &rows)
+    instance(rt, alloc, vars, objective, &rows)
 }
 
 /// Cubes, each a list of literals.
