@@ -1,20 +1,21 @@
 -- What one change of a reduced cost, of a value or of a multiplier does to the sums.
-use Rattle.std.proofs.Common.{◌≡◌, ◌≢◌, ℕ, zero, suc, ◌+◌, ◌-◌, ◌*◌, ◌^◌, ◌<◌, ◌≤◌, ◌⊎◌, List, [], ◌∷◌, length, get_or, set, refl, sym, ◌∙◌, ap, arith, Bool, true, false, cond, Option, Some, None, min, inl, inr, length-set, get_or-set_same, get_or-set_other, take, sum_by}
+use Rattle.std.proofs.Common.{◌≡◌, ◌≢◌, ℕ, zero, suc, ◌+◌, ◌-◌, ◌*◌, ◌^◌, ◌<◌, ◌≤◌, ◌⊎◌, List, [], ◌∷◌, length, get_or, set, refl, sym, ◌∙◌, ap, arith, Bool, true, false, not, cond, Option, Some, None, min, inl, inr, length-set, get_or-set_same, get_or-set_other, take, sum_by}
 use Rattle.std.proofs.lemmas.Bool.{cases_Bool, cases_eq, cases_lt, eq-eqb, eqb-true}
 use Rattle.std.proofs.lemmas.List.Sums.{sum_by_more, sum_by-take-le}
 use Rattle.std.proofs.lemmas.Nat.{mul-le}
+use Rattle.std.proofs.lemmas.Grind.{get_or_default_zero}
 use Rattle.pb_inst.specs.declared.TheConstants.{MAX_VARS}
 use Rattle.pb_inst.specs.Literal.{Literal}
 use Rattle.pb_normal.specs.NormalForm.{PositiveRow}
 use Rattle.pb_normal.specs.declared.terms.PositiveTerm.{PositiveTerm}
-use Rattle.pb_normal.specs.Literals.{same_literal, weight_of}
+use Rattle.pb_normal.specs.Literals.{same_literal, same_sign, weight_of}
 use Rattle.pb_normal.proofs.LiteralLemmas.{same_literal-itself, same_literal-is}
 use Rattle.pb_rows.specs.Constraints.{row_at}
 use Rattle.pb_rows.specs.Index.{literal_place}
 use Rattle.pb_rows.proofs.EntryLemmas.{same_place-same_literal}
 use Rattle.pb_rows.proofs.CostLemmas.{weight_of-next, place_below}
 use Rattle.pb_dual.proofs.SoundLemmas.{over-same}
-use Rattle.pb_dual.specs.ReducedCosts.{weighted, promised, cost_at, over_variables, part, parts}
+use Rattle.pb_dual.specs.ReducedCosts.{weighted, promised, cost_at, least_cost, over_variables, part, parts}
 
 -- one number is another
 pub over-changed : (f g : ℕ → ℕ) (n v : ℕ) → 1 ≤ v → v ≤ n → ((u : ℕ) → 1 ≤ u → u ≤ n → u ≢ v → f u ≡ g u) → over_variables g n + f v ≡ over_variables f n + g v
@@ -87,6 +88,30 @@ part-within costs values v low high = over-has (λ u. part costs u (get_or value
 pub parts-most : (costs : List ℕ) (values : List (Option Bool)) (most : ℕ) → ((l : Literal) → 1 ≤ l.var → l.var ≤ length values → get_or costs (literal_place l) 0 ≤ most) → parts costs values ≤ length values * most
 unfolding parts
 parts-most costs values most each = over-most (λ u. part costs u (get_or values (u - 1) None)) (length values) most (λ v low high. part-most costs v most (λ b. each (record { var = v; positive = b }) low high) (get_or values (v - 1) None))
+
+-- what a variable adds at least, by the reduced costs of a literal of it and of the negated one
+pub part-of-literal : (costs : List ℕ) (l m : Literal) (value : Option Bool) (x y : ℕ) → m.var ≡ l.var → m.positive ≡ not l.positive → x ≡ get_or costs (literal_place l) 0 → y ≡ get_or costs (literal_place m) 0 → least_cost (λ positive. cond (same_sign positive l.positive) x y) value ≡ part costs l.var value
+part-of-literal costs l m value x y same other own others = of_sign l.positive value own (others ∙ (ap (λ (v : ℕ). cost_at costs v m.positive) same ∙ ap (λ (b : Bool). cost_at costs l.var b) other))
+  where
+    of_sign : (b : Bool) (value : Option Bool) → x ≡ cost_at costs l.var b → y ≡ cost_at costs l.var (not b) → least_cost (λ positive. cond (same_sign positive b) x y) value ≡ part costs l.var value
+    of_sign true (Some true) own others = own
+    of_sign true (Some false) own others = others
+    of_sign true None own others = rw (own, others) refl
+    of_sign false (Some true) own others = others
+    of_sign false (Some false) own others = own
+    of_sign false None own others = rw (own, others) refl
+
+-- the same once the literal's reduced cost is another
+pub part-of-changed : (costs : List ℕ) (l m : Literal) (value : Option Bool) (n y : ℕ) → m.var ≡ l.var → m.positive ≡ not l.positive → literal_place l < length costs → y ≡ get_or costs (literal_place m) 0 → least_cost (λ positive. cond (same_sign positive l.positive) n y) value ≡ part (set costs (literal_place l) n) l.var value
+part-of-changed costs l m value n y same other short others =
+    let apart : literal_place m ≢ literal_place l = λ e. places_of_signs l.var l.positive (sym (ap (λ (v : ℕ). literal_place (record { var = v; positive = m.positive })) same ∙ ap (λ (b : Bool). literal_place (record { var = l.var; positive = b })) other) ∙ e) in
+    let here : n ≡ get_or (set costs (literal_place l) n) (literal_place l) 0 = rw get_or-set_same refl in
+    let beside : get_or (set costs (literal_place l) n) (literal_place m) 0 ≡ get_or costs (literal_place m) 0 = rw get_or-set_other refl in
+    part-of-literal (set costs (literal_place l) n) l m value n y same other here (others ∙ sym beside)
+  where
+    places_of_signs : (v : ℕ) (b : Bool) → literal_place (record { var = v; positive = not b }) ≢ literal_place (record { var = v; positive = b })
+    places_of_signs v true e = omega arith
+    places_of_signs v false e = omega arith
 
 -- one row's multiplier is another
 pub weighted-set : (worth : PositiveRow → ℕ) (ys : List ℕ) (rows : List PositiveRow) (r y : ℕ) → length ys ≡ length rows → r < length rows → weighted worth (set ys r y) rows + get_or ys r 0 * worth (row_at rows r) ≡ weighted worth ys rows + y * worth (row_at rows r)
@@ -178,6 +203,30 @@ pub sum-fits : (n origin sum more : ℕ) → n ≤ MAX_VARS → origin ≤ 2 ^ 1
 sum-fits n origin sum more few small most one =
     let all = mul-le n (3 * origin) MAX_VARS (3 * 2 ^ 105) few (omega arith) in
     (omega arith, omega arith)
+
+-- what the reduced cost of one literal does, where it was read at its place, that of the negated one at the other place, and the value of the variable
+pub record IsRepriced (old : List ℕ) (values : List (Option Bool)) (l : Literal) (p x n before after : ℕ) : Type 0 where
+  pub read : x ≡ get_or old (literal_place l) 0
+  pub within : before ≤ parts old values
+  pub changed : parts (set old p n) values + before ≡ parts old values + after
+  pub new : after ≡ part (set old (literal_place l) n) l.var (get_or values (l.var - 1) None)
+
+pub repriced-one : (old : List ℕ) (values : List (Option Bool)) (l m : Literal) (v p q x y n : ℕ) → 1 ≤ l.var → l.var ≤ length values → length old ≡ 2 * length values → m.var ≡ l.var → m.positive ≡ not l.positive → v ≡ l.var → p ≡ literal_place l → q ≡ literal_place m → x ≡ get_or old p x → y ≡ get_or old q y → IsRepriced old values l p x n (least_cost (λ positive. cond (same_sign positive l.positive) x y) (get_or values (v - 1) None)) (least_cost (λ positive. cond (same_sign positive l.positive) n y) (get_or values (v - 1) None))
+repriced-one old values l m v p q x y n low high count same other here_var here there own others =
+    let short : literal_place l < length old = omega (arith, count, place_below l (length values) low high) in
+    let beside : literal_place m < length old = omega (arith, count, same, place_below m (length values) (omega (arith, same)) (omega (arith, same))) in
+    let mine : x ≡ get_or old (literal_place l) 0 = own ∙ (get_or_default_zero old p x (omega (arith, here, short)) ∙ ap (λ (k : ℕ). get_or old k 0) here) in
+    let its : y ≡ get_or old (literal_place m) 0 = others ∙ (get_or_default_zero old q y (omega (arith, there, beside)) ∙ ap (λ (k : ℕ). get_or old k 0) there) in
+    let valued = ap (λ (k : ℕ). get_or values (k - 1) None) here_var in
+    let was = part-of-literal old l m (get_or values (v - 1) None) x y same other mine its ∙ ap (part old l.var) valued in
+    let is = part-of-changed old l m (get_or values (v - 1) None) n y same other short its ∙ ap (part (set old (literal_place l) n) l.var) valued in
+    let placed = ap (λ (k : ℕ). parts (set old k n) values) here in
+    record {
+      read = mine;
+      within = omega (arith, was, part-within old values l.var low high);
+      changed = omega (arith, was, is, placed, parts-repriced old values l n low high);
+      new = is;
+    }
 
 -- one term further
 pub repriced-next : (first costs : List ℕ) (terms : List PositiveTerm) (i : ℕ) (t : PositiveTerm) (from to : ℕ) (m : Literal) → i < length terms → t ≡ get_or terms i t → 1 ≤ t.lit.var → 1 ≤ m.var → literal_place t.lit < length costs → to * t.coef ≤ get_or costs (literal_place t.lit) 0 + from * t.coef → get_or costs (literal_place m) 0 + to * weight_of m (take i terms) ≡ get_or first (literal_place m) 0 + from * weight_of m (take i terms) → get_or (set costs (literal_place t.lit) (get_or costs (literal_place t.lit) 0 + from * t.coef - to * t.coef)) (literal_place m) 0 + to * weight_of m (take (i + 1) terms) ≡ get_or first (literal_place m) 0 + from * weight_of m (take (i + 1) terms)

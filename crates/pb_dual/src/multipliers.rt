@@ -8,7 +8,7 @@ ghost use Rattle.pb_rows.specs.Constraints.{row_at};
 ghost use Rattle.pb_normal.specs.NormalForm.{total_coefficient, MeetsRow};
 ghost use Rattle.pb_dual.specs.ReducedCosts.{parts_on};
 ghost use Rattle.pb_dual.specs.Multipliers.{undone, changed, shifted, bound_from, dual_bound, penalty, promised_above, is_over_all_costs, IsFixed, IsBelowCosts, IsBelowCostsWith, IsWithinShare, released, cut_to, IsSameButCounted};
-ghost use Rattle.pb_dual.specs.Saturation.{saturation_at, saturation_of, left_of, capped, counted_row, IsWithinRow};
+ghost use Rattle.pb_dual.specs.Saturation.{left_of, capped, counted_row, IsWithinRow};
 
 use crate::changes::Change;
 use crate::reduced_costs::{initial_costs, part, reprice, revalue};

@@ -1,12 +1,12 @@
 //! The reduced costs of literals, and what the variables add at least.
 
-ghost use Rattle.std.specs.Prelude.{◌≡◌, ℕ, ◌+◌, ◌-◌, ◌*◌, ◌^◌, ◌<◌, ◌≤◌, Bool, None, All, IfOk, length, replicate, slice_index, slice_index_or, slice_set};
+ghost use Rattle.std.specs.Prelude.{◌≡◌, ℕ, ◌+◌, ◌-◌, ◌*◌, ◌^◌, ◌<◌, ◌≤◌, Bool, None, All, IfOk, length, replicate, slice_index, slice_index_or, slice_set, if◌then◌else◌};
 ghost use Rattle.pb_inst.specs.declared.TheConstants.{MAX_VARS};
 ghost use Rattle.pb_inst.specs.Literal.{Literal};
-ghost use Rattle.pb_normal.specs.Literals.{weight_of};
+ghost use Rattle.pb_normal.specs.Literals.{same_sign, weight_of};
 ghost use Rattle.pb_rows.specs.Index.{literal_place};
 ghost use Rattle.pb_normal.specs.NormalForm.{total_coefficient};
-ghost use Rattle.pb_dual.specs.ReducedCosts.{AreReducedCosts, cost_at, part, parts};
+ghost use Rattle.pb_dual.specs.ReducedCosts.{AreReducedCosts, cost_at, least_cost, part, parts};
 ghost use Rattle.pb_dual.specs.Saturation.{capped};
 
 use pb_count::{Count, Tally};
@@ -21,17 +21,18 @@ pub fn part<C: Count>(costs: &[Tally<C>], values: &[Option<bool>], lit: Lit) -> 
     requires count { length costs.now ≡ 2 * length values.now }
     ensures { result ≡ part costs.now lit.var (slice_index_or values.now (lit.var - 1) None) }
 {
-    let place = place_of(lit);
-    let other = place_of(lit.negate());
-    match values[lit.var() as usize - 1] {
-        None => costs[place].min(costs[other]),
-        Some(value) => {
-            if value == lit.positive() {
-                costs[place]
-            } else {
-                costs[other]
-            }
-        }
+    let (cost, other) = (costs[place_of(lit)], costs[place_of(lit.negate())]);
+    least_of(lit, cost, other, values[lit.var() as usize - 1])
+}
+
+/// The same where these are the reduced costs of the literal and of its negation, and this is the variable's value.
+#[inline]
+fn least_of<C: Count>(lit: Lit, cost: Tally<C>, other: Tally<C>, value: Option<bool>) -> Tally<C>
+    ensures { result ≡ least_cost (λ positive. if same_sign positive lit.positive then cost else other) value }
+{
+    match value {
+        None => cost.min(other),
+        Some(value) => { if value == lit.positive() { cost } else { other } }
     }
 }
 
@@ -111,11 +112,14 @@ fn reprice_literal<C: Count>(
     ensures costs { costs.new ≡ slice_set costs.old (literal_place lit) (slice_index costs.old (literal_place lit) + from * coef - to * coef) }
     ensures sum { sum.new ≡ parts costs.new values.now }
 {
-    let before = part(costs, values, lit);
     let here = place_of(lit);
-    costs[here] = costs[here] + from * coef - to * coef;
-    let after = part(costs, values, lit);
-    *sum = *sum - before.number() + after.number();
+    let other = costs[place_of(lit.negate())];
+    let value = values[lit.var() as usize - 1];
+    let before = costs[here];
+    let after = before + from * coef - to * coef;
+    costs[here] = after;
+    *sum = *sum - least_of(lit, before, other, value).number()
+        + least_of(lit, after, other, value).number();
 }
 
 /// The reduced costs where all multipliers are 0.
