@@ -349,7 +349,8 @@ impl<'a, C: Count> EngineAt<'a, C> {
         }
     }
 
-    /// Of the literal and its negation the one that seems to cost less by the multipliers; the literal where there are none.
+    /// Of the literal and its negation the one that seems to cost less by the multipliers, unless its rows call for it so much
+    /// that the other one is soon refuted; the literal where there are no multipliers.
     pub fn cheaper(&self, lit: Lit) -> Lit
         requires { lit.var ≤ self.now.vars }
         ensures { result.var ≡ lit.var }
@@ -357,7 +358,7 @@ impl<'a, C: Count> EngineAt<'a, C> {
         let slacks = self.propagator.slacks();
         let _vars = slacks.tables().vars();
         match &self.relaxation {
-            Some(relaxation) => relaxation.cheaper(lit),
+            Some(relaxation) => relaxation.cheaper(lit, slacks.tables().cost(lit.negate())),
             None => lit,
         }
     }

@@ -33,6 +33,9 @@ use steps::Steps;
 /// How many literals below the root's are far below it.
 const FAR: usize = 256;
 
+/// How many times what a literal costs its rows take off it, beside that itself, where they call for it.
+const MANY_TIMES: u64 = 8;
+
 /// About how many variables are looked through for a literal to fix in the time of a term.
 const VARIABLES_OF_A_TERM: u32 = 8;
 
@@ -403,16 +406,30 @@ impl<'a, C: Count> Relaxation<'a, C> {
         self.refuting.is_none() && self.account.pays()
     }
 
-    /// Of the literal and its negation the one whose reduced cost is less, where the multipliers are used at the node; else
-    /// the literal.
-    pub fn cheaper(&self, lit: Lit) -> Lit
+    /// Of the literal and its negation, which costs so much, the one whose reduced cost is less, where the multipliers are used at
+    /// the node; else the literal. Where the rows take off the negation many times what it costs, the literal comes first all
+    /// the same: below it a bound soon closes the subtree, and the negation is as good as forced then.
+    pub fn cheaper(&self, lit: Lit, cost: Tally<C>) -> Lit
         requires { lit.var ≤ self.now.form.vars }
         ensures { result.var ≡ lit.var }
     {
-        if self.is_used && self.multipliers.difference(lit).is_positive() {
-            return lit.negate();
+        if !self.is_used || !self.multipliers.difference(lit).is_positive() {
+            return lit;
         }
-        lit
+        if !cost.is_zero() && self.is_called_for(lit.negate(), cost) {
+            return lit;
+        }
+        lit.negate()
+    }
+
+    /// Whether the rows take off a literal that costs so much many times that.
+    fn is_called_for(&self, lit: Lit, cost: Tally<C>) -> bool
+        requires { lit.var ≤ self.now.form.vars }
+    {
+        let (own, other) = self.multipliers.costs(lit);
+        let scaled = self.multipliers.scale().saturating_mul(cost);
+        let many = scaled.saturating_mul(Tally::of(MANY_TIMES));
+        !other.is_below(own.saturating_add(many))
     }
 
     /// Improves the bound where it is below the goal.

@@ -18,7 +18,7 @@ const FIRST_PASSES: u32 = 2;
 const PATIENCE: u32 = 10;
 
 /// How often all rows are gone through by then.
-const PASSES: u32 = 20;
+const PASSES: u32 = 4;
 
 /// After how many nodes all rows are shifted at once, to make the first multipliers better still.
 const LONG_PATIENCE: u32 = 20;
