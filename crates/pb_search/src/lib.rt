@@ -6,8 +6,7 @@
 //! the order of pb_order. Where there is none, `incumbent` takes the full trail, and `backtrack` goes back to a decision
 //! whose other value is still to be tried. Conflicts, and what decisions did to the bound, are told to the order
 //! (`learning`). `root_work` says when the search takes more decisions back (`step_back`): to try literals at the root
-//! (`probing`) and to dive from there (`diving`), from where it makes them again (`replay`), or since ties alone are left
-//! below them (`ties`).
+//! (`probing`) and to dive from there (`diving`), or since ties alone are left below them (`ties`).
 #![tactic(auto)]
 
 mod agreed_prefix;
@@ -24,7 +23,6 @@ mod piece_search;
 mod piece_tables;
 mod probing;
 mod pruning;
-mod replay;
 mod root;
 mod root_work;
 mod search;

@@ -21,7 +21,6 @@ use crate::incumbent::{borrow_on_the_way, take_leaf};
 use crate::learning::{gap_left, last_decided, learn, learn_conflict, learn_values};
 use crate::outcome::Outcome;
 use crate::pruning::Pruning;
-use crate::replay::next_replayed;
 use crate::root_work::work_at_root;
 use crate::search_state::SearchState;
 use crate::step_back::step_back;
@@ -84,10 +83,6 @@ fn expand_node<C: Count, S: Share>(
         return Some(one_sided(lit, bound, hints));
     }
     let vars = state.candidate.len();
-    let replay = &mut state.root_work.replay;
-    if let Some(branch) = next_replayed(&state.engine, vars, replay, pruning, bound) {
-        return Some(branch);
-    }
     state.order.lead_by_gains(state.engine.multipliers_pay());
     let is_calm = state.root_work.ties.is_calm;
     let next = next_decision(
@@ -164,7 +159,6 @@ fn next_branch<C: Count, S: Share>(
     if let Some(branch) = expand(state, best, share, agreed, left) {
         return Some(branch);
     }
-    state.root_work.replay.clear();
     let is_conflict = state.engine.conflict();
     match state
         .root_work

@@ -8,7 +8,6 @@ ghost use Rattle.pb_search.specs.SearchState.{IsEngineOf, IsOpenOnOneSide};
 use crate::branch::Branch;
 use crate::probing::{Probing, find_failed};
 use crate::pruning::Pruning;
-use crate::replay::Replayed;
 use crate::search_state::SearchState;
 use crate::ties::Ties;
 use pb_dive::DivePath;
@@ -80,18 +79,14 @@ pub struct RootWork {
     renewals: u32,
     /// The length of the root's trail when that was done last.
     renewed: usize,
-    /// The decisions below the root that are made again, the next one last.
-    pub replay: Vec<Replayed>,
 }
 
 impl RootWork {
-    /// Nothing was done. Where the search may step back there is room for a decision of each variable to be made again.
+    /// Nothing was done.
     pub fn new<C: Count>(alloc: Global, form: &Form<C>) -> Result<RootWork, Memory> {
         let vars = form.vars();
         let is_large = vars >= LEAST_VARIABLES;
         let is_decision = form.objective().is_empty();
-        let room = if is_large || !is_decision { vars } else { 0 };
-        let replay = Vec::with_capacity(alloc, room as usize)?;
         Ok(RootWork {
             returns: 0,
             prefix: 0,
@@ -107,7 +102,6 @@ impl RootWork {
             renewals: 0,
             renewed: 0,
             dive: DivePath::new(alloc, if is_decision { 0 } else { vars })?,
-            replay,
         })
     }
 
@@ -128,7 +122,6 @@ impl RootWork {
         self.dived = None;
         self.renewals = if self.is_decision { 0 } else { MOST_RENEWALS };
         self.renewed = 0;
-        self.replay.clear();
     }
 
     /// Nothing is left below the path, after a conflict or not, where the best cost is this one. Answers how many decisions are

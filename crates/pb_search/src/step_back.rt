@@ -8,14 +8,13 @@ ghost use Rattle.pb_search.specs.SearchState.{IsStateOf, IsAtSomePath, IsUnderWa
 
 use crate::agreed_prefix::AgreedPrefix;
 use crate::backtrack::undo_decision;
-use crate::replay::note;
 use crate::search_state::SearchState;
 use pb_engine::Count;
 use pb_inst::Best;
 
-/// Takes back all decisions but the first so many; they are noted to be made again. What lay below them lies below the last
-/// one that is left, so what is under way stays so. Where none of them was turned to its other value, nothing that was closed
-/// is opened again.
+/// Takes back all decisions but the first so many; none of them is made again unless the order says so. What lay below them
+/// lies below the last one that is left, so what is under way stays so. Where none of them was turned to its other value,
+/// nothing that was closed is opened again.
 pub fn step_back<C: Count>(
     state: &mut SearchState<'_, C>,
     count: usize,
@@ -33,8 +32,8 @@ pub fn step_back<C: Count>(
     ensures known { KnowsHeldPrefix state.new.engine.trail best.now.held agreed.new }
 {
     while state.branches.len() > count {
-        if let Some(branch) = undo_decision(&mut state.engine, &mut state.branches, best, agreed) {
-            note(&mut state.root_work.replay, &branch);
-        }
+        let Some(_) = undo_decision(&mut state.engine, &mut state.branches, best, agreed) else {
+            return;
+        };
     }
 }

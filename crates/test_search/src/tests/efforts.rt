@@ -215,7 +215,7 @@ fn ties_of_a_cost_are_settled_once(rt: HostRuntime) {
         costs.push((1, place + 1)).expect(&rt, "memory");
     }
     let count = decisions_on_clauses(&rt, alloc, 1, 300, &costs, 750);
-    assert!(rt; count <= 6_150, "{count} decisions");
+    assert!(rt; count <= 5_100, "{count} decisions");
 }
 
 /// Clauses without a solution. Where what led to a conflict does not come forward with the row that could not be met, that takes
@@ -240,12 +240,12 @@ fn decisions_at_few_costs(rt: &impl Abort, alloc: Global, state: u64) -> u64 {
     decisions_on_clauses(rt, alloc, state, 150, &costs, 375)
 }
 
-/// Decided first, a few variables with a cost tell early what the rest will cost. Else two searches take nine times as many
-/// decisions each.
+/// Decided first, a few variables with a cost tell early what the rest will cost. Else one search takes nine times as many
+/// decisions, and the other five times.
 #[test]
 fn few_costs_come_first(rt: HostRuntime) {
     let alloc = rt.alloc();
-    for (state, most) in [(4, 175), (28, 265)] {
+    for (state, most) in [(4, 175), (52, 320)] {
         let count = decisions_at_few_costs(&rt, alloc, state);
         assert!(rt; count <= most, "{count} decisions");
     }

@@ -68,17 +68,6 @@ returns-in-Some-work_at_root-clause-expanded g c = record {
   own = search rules;
 }
 
-pub returns-in-Some-next_replayed-clause-expanded : goal.returns-in-Some-next_replayed-clause-expanded
-returns-in-Some-next_replayed-clause-expanded g c = record {
-  free = search rules;
-  sides = search rules;
-  closed = search rules;
-  same_branches = place_propagated c.args.state.now _ c.propagate-step.new.self.trail (is_conflict c.propagate-step.result) c.requires.sound ((c.work_at_root.ensures.engine ∙ c.judge_node-pruning.ensures.unchanged) ∙ c.propagate-step.ensures.added) c.propagate-step.ensures.forced c.work_at_root.ensures.branches (ap (λ (a : List Bool). length a) c.work_at_root.ensures.candidate) c.work_at_root.ensures.returns;
-  sound = search rules;
-  moves_on = search rules;
-  own = search rules;
-}
-
 pub returns-in_default-next-clause-expanded : goal.returns-in_default-next-clause-expanded
 returns-in_default-next-clause-expanded g c = record {
   free = search rules;
