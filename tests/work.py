@@ -4,11 +4,12 @@
     tests/work.py
     tests/work.py --measure [NAME ..]
 
-`bench_work` is built without proof (`rt try`) and solves each instance of tests/work/ in an interpreter, whose steps are the same
-in each run. Each must end within STEPS of them, with the report that stands beside it. So that the bound is near for each, a
-comment is put in after the first line, so long that the run takes more than nine tenths of the steps today; reading it costs the
-same in each run, some 172 steps a byte. So a body that looks at more rows, makes more decisions, undoes more than it did, or
-clears what need not be cleared, fails here though its answer is right, where that takes a run past the bound.
+`bench_work` is built without proof (`rt try`) and solves each instance of tests/work/ in an interpreter, whose steps are the
+same in each run. Each must end within STEPS of them, with the report that stands beside it. So that the bound is near for each,
+a comment is put in after the first line, so long that the run took more than nine tenths of the steps when it was measured
+last; reading it costs the same in each run, some 172 steps a byte. So a body that looks at more rows, makes more decisions,
+undoes more than it did, or clears what need not be cleared, fails here though its answer is right, where that takes a run past
+the bound.
 
 The interpreter counts the requests for memory too. They are the same in each run as well, so no more than SPARE may be added.
 
