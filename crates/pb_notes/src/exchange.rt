@@ -1,0 +1,310 @@
+//! One worker's side of the exchange of notes.
+ghost use Rattle.std.specs.Prelude.{◌≡◌, length, IfOk, IfSome};
+
+use crate::notes::Notes;
+use crate::reading::{Note, read_note};
+use crate::turns::{next_in_turn, next_other};
+use crate::writing::{note_room, write_note};
+use pb_inst::{Assignment, Memory, Number};
+use std::alloc::Global;
+use std::io;
+use std::marker::Model;
+
+/// Of so many calls of `borrow` the first one looks at the notes, and the others do not.
+pub const LOOKS_APART: u32 = 8;
+
+/// What the assignment is kept for.
+#[derive(Clone, Copy)]
+enum Kept {
+    /// For nothing.
+    Nothing,
+    /// It was lent with this told cost. The next call shows whether the search took it over.
+    Lent(Number),
+    /// It is to be written, with this cost.
+    Due(Number),
+}
+
+/// What came of a look at the note of one task.
+#[derive(Clone, Copy)]
+enum Look {
+    /// There is no note of the instance.
+    Nothing,
+    /// There is one, whose cost is not low enough.
+    Declined,
+    /// There is one, and it was lent.
+    Lent,
+    /// The place has a fault, which was told.
+    Fault,
+}
+
+/// What a worker of a task exchanges with other tasks: it writes the best assignments of its search as the task's note, and
+/// lends the search those of other notes. All its memory is taken at the start. A fault of the place is told and then passed
+/// over: the next look tries again. Contracts see the number of variables.
+#[derive(Drop)]
+pub struct Exchange<'n, N> {
+    notes: &'n N,
+    digest: [u8; 32],
+    task: u32,
+    tasks: u32,
+    worker: u32,
+    kept: Kept,
+    values: Assignment,
+    /// The least cost that the task's note is known to tell.
+    written: Option<Number>,
+    /// Whether the task's own note, as it lay there at the first look, was not what it told.
+    own_was_wrong: bool,
+    /// The task whose note was looked at last.
+    last: u32,
+    has_looked: bool,
+    /// How many calls pass before the next look.
+    pause: u32,
+    text: Vec<u8>,
+    /// Room for a note that is read, and one byte more.
+    room: Vec<u8>,
+}
+
+impl<'n, N> Model for Exchange<'n, N> {
+    ghost use Rattle.std.specs.Prelude.{ℕ, ◌+◌, ◌≤◌, length, vec_capacity};
+
+    ghost Value = { ℕ };
+
+    ghost view = { λ e. length e.values };
+
+    ghost invariant = { λ e. 143 + length e.values ≤ vec_capacity e.text };
+}
+
+impl<'n, N: Notes> Exchange<'n, N> {
+    /// The side of this worker of this task, of so many tasks that number from 0 on. The digest is the SHA-256 of the
+    /// instance's text, and `vars` its number of variables. Fails where memory is refused.
+    pub fn new(
+        alloc: Global,
+        notes: &'n N,
+        digest: [u8; 32],
+        vars: u32,
+        task: u32,
+        tasks: u32,
+        worker: u32,
+    ) -> Result<Exchange<'n, N>, Memory>
+        ensures { IfOk result (λ exchange. exchange ≡ vars) }
+    {
+        let values = Assignment::new(alloc, vars)?;
+        let text = Vec::with_capacity(alloc, note_room(vars))?;
+        let room = vec![in alloc; 0u8; note_room(vars) + 1]?;
+        Ok(Exchange {
+            notes,
+            digest,
+            task,
+            tasks,
+            worker,
+            kept: Kept::Nothing,
+            values,
+            written: None,
+            own_was_wrong: false,
+            last: task,
+            has_looked: false,
+            pause: 0,
+            text,
+            room,
+        })
+    }
+
+    /// Keeps an assignment of the search to be written at the next look, where it costs less than what is written or to be
+    /// written. One of another number of variables is passed over. No file is touched.
+    pub fn offer(&mut self, cost: Number, assignment: &Assignment)
+        ensures { self.new ≡ self.old }
+    {
+        if assignment.len() != self.values.len() || !self.is_news(cost) {
+            return;
+        }
+        self.values.copy_from(assignment);
+        self.kept = Kept::Due(cost);
+    }
+
+    /// Whether a cost is below the one that is written, and the one that is to be written.
+    fn is_news(&self, cost: Number) -> bool {
+        let due = match self.kept {
+            Kept::Due(due) => Some(due),
+            Kept::Nothing | Kept::Lent(_) => None,
+        };
+        is_below(cost, self.written) && is_below(cost, due)
+    }
+
+    /// Looks, at the first call and then at each `LOOKS_APART`-th one: writes what is to be written, and reads one note, at the
+    /// first look the task's own, or, where there is none, that of the next task that has one, and later that of the next other
+    /// task in turn. Where the note tells a cost below the given one, which is that of the best assignment of the search,
+    /// answers true and copies its values into the assignment. Nothing says that they cost what the note tells, or are
+    /// feasible. Where the search takes them over, which the next call's cost shows, they are to be written as the task's own
+    /// note, so that news spreads.
+    ///
+    /// For an assignment of another number of variables it does nothing.
+    pub fn borrow(&mut self, below: Number, into: &mut Assignment) -> bool
+        ensures same { self.new ≡ self.old }
+        ensures same_length { length into.new ≡ length into.old }
+    {
+        self.settle(below);
+        if into.len() != self.values.len() || !self.is_time_to_look() {
+            return false;
+        }
+        self.write_due();
+        if self.has_looked {
+            self.look_at_next(below, into)
+        } else {
+            self.has_looked = true;
+            self.look_at_first(below, into)
+        }
+    }
+
+    /// Writes what is still to be written.
+    pub fn close(&mut self)
+        ensures { self.new ≡ self.old }
+    {
+        self.write_due();
+    }
+
+    /// What was lent is to be written where the search took it over: its best assignment then costs no more. A note that was
+    /// not what it told goes no further.
+    fn settle(&mut self, best: Number)
+        ensures { self.new ≡ self.old }
+    {
+        let Kept::Lent(cost) = self.kept else {
+            return;
+        };
+        self.kept = Kept::Nothing;
+        if best > cost {
+            self.own_was_wrong |= self.last == self.task;
+        } else if is_below(cost, self.written) {
+            self.kept = Kept::Due(cost);
+        }
+    }
+
+    /// Whether this call looks at the notes.
+    fn is_time_to_look(&mut self) -> bool
+        ensures { self.new ≡ self.old }
+    {
+        if self.pause > 0 {
+            self.pause -= 1;
+            return false;
+        }
+        self.pause = LOOKS_APART - 1;
+        true
+    }
+
+    /// Writes what is to be written as the task's note. One that tells no higher cost stays there: another worker of the task
+    /// may have written it, or the task before it was started again.
+    fn write_due(&mut self)
+        ensures { self.new ≡ self.old }
+    {
+        let Kept::Due(cost) = self.kept else {
+            return;
+        };
+        let own = self.own_cost();
+        if !is_below(cost, own) {
+            self.written = own;
+            self.kept = Kept::Nothing;
+            return;
+        }
+        write_note(&mut self.text, &self.digest, cost, &self.values);
+        match self.notes.write(self.worker, &self.text) {
+            Ok(()) => {
+                self.written = Some(cost);
+                self.kept = Kept::Nothing;
+            }
+            Err(fault) => self.notes.tell(&fault),
+        }
+    }
+
+    /// The cost that the task's own note tells, if there is one that can be relied on.
+    fn own_cost(&mut self) -> Option<Number>
+        ensures { self.new ≡ self.old }
+    {
+        if self.own_was_wrong {
+            return None;
+        }
+        let vars = self.values.len();
+        match note_of(self.notes, &self.digest, vars, self.task, &mut self.room) {
+            Ok(found) => found.map(|note| note.cost()),
+            Err(fault) => {
+                self.notes.tell(&fault);
+                None
+            }
+        }
+    }
+
+    /// The first look: goes through the tasks, from its own on, to the first one that has a note.
+    fn look_at_first(&mut self, below: Number, into: &mut Assignment) -> bool
+        requires { length into.old ≡ self.old }
+        ensures same { self.new ≡ self.old }
+        ensures same_length { length into.new ≡ length into.old }
+    {
+        for _ in 0..self.tasks.max(1) {
+            match self.look_at(self.last, below, into) {
+                Look::Nothing => self.last = next_in_turn(self.tasks, self.last),
+                Look::Lent => return true,
+                Look::Declined | Look::Fault => return false,
+            }
+        }
+        false
+    }
+
+    /// A later look, at the note of the next other task.
+    fn look_at_next(&mut self, below: Number, into: &mut Assignment) -> bool
+        requires { length into.old ≡ self.old }
+        ensures same { self.new ≡ self.old }
+        ensures same_length { length into.new ≡ length into.old }
+    {
+        if self.tasks <= 1 {
+            return false;
+        }
+        self.last = next_other(self.tasks, self.task, self.last);
+        matches!(self.look_at(self.last, below, into), Look::Lent)
+    }
+
+    /// Lends the note of a task where it tells a cost below the given one.
+    fn look_at(&mut self, task: u32, below: Number, into: &mut Assignment) -> Look
+        requires { length into.old ≡ self.old }
+        ensures same { self.new ≡ self.old }
+        ensures same_length { length into.new ≡ length into.old }
+    {
+        let vars = self.values.len();
+        let note = match note_of(self.notes, &self.digest, vars, task, &mut self.room) {
+            Ok(Some(note)) => note,
+            Ok(None) => return Look::Nothing,
+            Err(fault) => {
+                self.notes.tell(&fault);
+                return Look::Fault;
+            }
+        };
+        if note.cost() >= below {
+            return Look::Declined;
+        }
+        note.copy_into(into);
+        self.values.copy_from(into);
+        self.kept = Kept::Lent(note.cost());
+        Look::Lent
+    }
+}
+
+/// Whether a cost is below another one, or there is no other.
+fn is_below(cost: Number, other: Option<Number>) -> bool {
+    match other {
+        Some(other) => cost < other,
+        None => true,
+    }
+}
+
+/// The note of a task, read into the room, if it has one of the instance.
+fn note_of<'r, N: Notes>(
+    notes: &N,
+    digest: &[u8; 32],
+    vars: u32,
+    task: u32,
+    room: &'r mut [u8],
+) -> io::Result<Option<Note<'r>>>
+    ensures { IfOk result (λ found. IfSome found (λ note. length note.values ≡ vars)) }
+{
+    match notes.read(task, room) {
+        Ok(Some(len)) => Ok(read_note(digest, vars, &room[..len])),
+        Ok(None) => Ok(None),
+        Err(fault) => Err(fault),
+    }
+}

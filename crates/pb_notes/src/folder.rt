@@ -1,0 +1,128 @@
+//! Notes in a folder of the system.
+ghost use Rattle.std.specs.Prelude.{◌≤◌, length, IfOk, IfSome};
+
+use crate::notes::Notes;
+use pb_inst::Memory;
+use std::alloc::Global;
+use std::fs::{self, File};
+use std::io::{self, Error, ErrorKind, Read, Write};
+use std::rt::Files;
+use std::sync::atomic::{AtomicBool, Ordering};
+
+/// A folder of notes. That of task 3 is the file `3.note`. Worker 2 writes it whole to `3.2.new` first, which then gets its
+/// name.
+#[derive(Drop)]
+pub struct Folder<'a, R> {
+    rt: &'a R,
+    folder: String,
+    task: u32,
+    /// The paths of the notes of all tasks.
+    notes: Vec<String>,
+    /// The paths of the files to which the workers write.
+    drafts: Vec<String>,
+    has_told: AtomicBool,
+}
+
+impl<'a, R: Files> Folder<'a, R> {
+    /// The notes in the folder of this name, of so many tasks that number from 0 on, for the workers of one of them. No file is
+    /// touched. Fails where memory is refused.
+    pub fn new(
+        alloc: Global,
+        rt: &'a R,
+        folder: &str,
+        task: u32,
+        tasks: u32,
+        workers: u32,
+    ) -> Result<Folder<'a, R>, Memory> {
+        let name = String::from_str(alloc, folder)?;
+        let mut notes = Vec::new(alloc);
+        for number in 0..tasks {
+            notes.push(format!(in alloc; "{folder}/{number}.note")?)?;
+        }
+        let mut drafts = Vec::new(alloc);
+        for worker in 0..workers {
+            drafts.push(format!(in alloc; "{folder}/{task}.{worker}.new")?)?;
+        }
+        Ok(Folder {
+            rt,
+            folder: name,
+            task,
+            notes,
+            drafts,
+            has_told: AtomicBool::new(false),
+        })
+    }
+
+    /// Makes the folder, and those that it lies in, where they are not there.
+    pub fn make(&self) -> io::Result<()> {
+        fs::create_dir_all(self.rt, self.folder.as_str())
+    }
+}
+
+impl<R: Files + Eprint> Notes for Folder<'_, R> {
+    // What is no file is a fault: reading a pipe might wait for ever.
+    fn read(&self, task: u32, room: &mut [u8]) -> io::Result<Option<usize>> {
+        let Some(path) = self.notes.get(task as usize) else {
+            return Ok(None);
+        };
+        match fs::metadata(self.rt, path.as_str()) {
+            Ok(found) if found.is_file() => {}
+            Ok(_) => return Err(Error::from(ErrorKind::InvalidInput)),
+            Err(fault) => return none_where_missing(fault),
+        }
+        match File::open(self.rt, path.as_str()) {
+            Ok(mut file) => {
+                let len = fill(&mut file, room)?;
+                Ok(Some(len))
+            }
+            Err(fault) => none_where_missing(fault),
+        }
+    }
+
+    fn write(&self, worker: u32, text: &[u8]) -> io::Result<()> {
+        let (Some(draft), Some(note)) = (
+            self.drafts.get(worker as usize),
+            self.notes.get(self.task as usize),
+        ) else {
+            return Err(Error::from(ErrorKind::InvalidInput));
+        };
+        let mut file = File::create(self.rt, draft.as_str())?;
+        file.write_all(text)?;
+        drop(file);
+        fs::rename(self.rt, draft.as_str(), note.as_str())
+    }
+
+    // One line to the standard error, whose own faults are ignored.
+    fn tell(&self, fault: &io::Error) {
+        if !self.has_told.swap(true, Ordering::SeqCst) {
+            let folder = &self.folder;
+            let _ = eprintln!(self.rt; "cannot exchange notes in {folder}: {fault}");
+        }
+    }
+}
+
+/// No note where the file is not there, and else the fault.
+fn none_where_missing(fault: io::Error) -> io::Result<Option<usize>>
+    ensures { IfOk result (λ found. IfSome found (λ n. n ≤ 0)) }
+{
+    if fault.kind() == ErrorKind::NotFound {
+        Ok(None)
+    } else {
+        Err(fault)
+    }
+}
+
+/// Reads a file into the room until that is full, and answers how many bytes it got.
+fn fill<F: Read>(file: &mut F, room: &mut [u8]) -> io::Result<usize>
+    ensures { IfOk result (λ n. n ≤ length room.new) }
+{
+    let mut filled = 0;
+    while filled < room.len() {
+        match file.read(&mut room[filled..]) {
+            Ok(0) => return Ok(filled),
+            Ok(more) => filled += more,
+            Err(fault) => return Err(fault),
+        }
+    }
+    Ok(filled)
+}
