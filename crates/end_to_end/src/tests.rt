@@ -10,6 +10,7 @@ mod fixing;
 mod gates;
 mod limits;
 mod refused_memory;
+mod tasks;
 mod turns;
 mod workers;
 

@@ -1,5 +1,6 @@
-//! The share through which workers lend each other what they found: rows and the least word of the board.
-ghost use Rattle.std.specs.Prelude.{◌≡◌, ◌≢◌, ◌<◌, ◌≤◌, ◌+◌, ◌^◌, ◌++◌, ◌∷◌, [], refl, length, nat_lt, ℕ, ℤ, ◌≤ℤ◌};
+//! The share through which workers lend each other what they found: rows and the least word of the board, and what is known
+//! beside it.
+ghost use Rattle.std.specs.Prelude.{◌≡◌, ◌<◌, ◌≤◌, ◌+◌, ◌^◌, ◌++◌, ◌∷◌, [], refl, length, nat_lt, ◌||◌, ℕ, ℤ, ◌≤ℤ◌, false, true, IsTrue};
 ghost use Rattle.std.proofs.Common.{◌∙◌};
 ghost use Rattle.pb_board.specs.Seats.{BoardView, SeatView};
 ghost use Rattle.pb_share.specs.Keys.{IsKeyOf};
@@ -7,7 +8,8 @@ ghost use Rattle.pb_share.specs.Sharing.{BoardShareView, KeepsClaims};
 
 use pb_board::{Board, Seat};
 use pb_inst::{Assignment, Number};
-use pb_search::Share;
+use pb_notes::next_other;
+use pb_search::{Alone, Share};
 use std::marker::Model;
 
 /// What a cost is raised by to be a key of the board: 2^63.
@@ -18,36 +20,51 @@ const LOWEST: Number = -9_223_372_036_854_775_808;
 
 const HIGHEST: Number = 9_223_372_036_854_775_807;
 
-/// A worker's ways to the others: its seat on the board, its own row, and the rows of the others, which it reads in turn.
+/// A worker's ways to the others: its seat on the board, its own row, and the rows of the others, which it reads in turn. Beside
+/// the board it has a share with others who are not on it, `Alone` where there are none.
 #[derive(Drop)]
-pub struct BoardShare<'b> {
+pub struct BoardShare<'b, S: Share + Drop> {
     board: &'b Board,
     seat: Seat,
     worker: u32,
     // the worker whose row was read last, at first this one
     last_read: u32,
+    beside: S,
 }
 
-impl<'b> Model for BoardShare<'b> {
+impl<'b, S: Share + Drop> Model for BoardShare<'b, S> {
     ghost Value = { BoardShareView };
 
-    ghost view = { λ s. record { board = s.board.now; worker = s.worker; seat = s.seat } };
+    ghost view = { λ s. record { board = s.board.now; worker = s.worker; seat = s.seat; lends_beside = S.lends s.beside } };
 
     ghost invariant = { λ s. (s.worker < s.board.now.workers) × (s.last_read < s.board.now.workers) × (s.seat.board ≡ s.board.now.id) };
 }
 
-impl<'b> BoardShare<'b> {
-    /// The share of a worker below the board's number of workers, with a seat of the board.
-    pub fn new(board: &'b Board, seat: Seat, worker: u32) -> BoardShare<'b>
+impl<'b> BoardShare<'b, Alone> {
+    /// The share of a worker below the board's number of workers, with a seat of the board. Beside the board there is nobody.
+    pub fn new(board: &'b Board, seat: Seat, worker: u32) -> BoardShare<'b, Alone>
         requires seat { seat.board ≡ board.now.id }
         requires worker { worker < board.now.workers }
-        ensures { result ≡ record { board = board.now; worker = worker; seat = seat } }
+        ensures { result ≡ record { board = board.now; worker = worker; seat = seat; lends_beside = false } }
+    {
+        BoardShare::beside(board, seat, worker, Alone)
+    }
+}
+
+impl<'b, S: Share + Drop> BoardShare<'b, S> {
+    /// The same with a share beside the board, which is told of each assignment that is offered, and is asked where the board
+    /// has nothing to lend.
+    pub fn beside(board: &'b Board, seat: Seat, worker: u32, beside: S) -> BoardShare<'b, S>
+        requires seat { seat.board ≡ board.now.id }
+        requires worker { worker < board.now.workers }
+        ensures { result ≡ record { board = board.now; worker = worker; seat = seat; lends_beside = S.lends beside } }
     {
         BoardShare {
             board,
             seat,
             worker,
             last_read: worker,
+            beside,
         }
     }
 
@@ -67,6 +84,7 @@ impl<'b> BoardShare<'b> {
             seat,
             worker: _,
             last_read: _,
+            beside: _,
         } = self;
         seat
     }
@@ -80,18 +98,19 @@ impl<'b> BoardShare<'b> {
     }
 }
 
-impl<'b> Share for BoardShare<'b> {
+impl<'b, S: Share + Drop> Share for BoardShare<'b, S> {
     ghost keeps = { KeepsClaims };
 
     // A board of one worker has no other row to read.
-    ghost lends = { λ s. nat_lt 1 s.board.workers };
+    ghost lends = { λ s. nat_lt 1 s.board.workers || s.lends_beside };
 
-    ghost keeps_itself = { λ s. record { board = refl; worker = refl; seat_of = refl; parts = refl; claimed = refl } };
+    ghost keeps_itself = { λ s. record { board = refl; worker = refl; seat_of = refl; parts = refl; claimed = refl; lending = refl } };
 
-    ghost keeps_onward = { λ s t u h k. record { board = k.board ∙ h.board; worker = k.worker ∙ h.worker; seat_of = k.seat_of ∙ h.seat_of; parts = k.parts ∙ h.parts; claimed = k.claimed ∙ h.claimed } };
+    ghost keeps_onward = { λ s t u h k. record { board = k.board ∙ h.board; worker = k.worker ∙ h.worker; seat_of = k.seat_of ∙ h.seat_of; parts = k.parts ∙ h.parts; claimed = k.claimed ∙ h.claimed; lending = k.lending ∙ h.lending } };
 
-    /// Writes the assignment into the worker's own row, and then offers the key of its cost.
+    /// Writes the assignment into the worker's own row, and then offers the key of its cost. Tells whoever is beside the board.
     fn offer(&mut self, cost: Number, assignment: &Assignment) {
+        self.beside.offer(cost, assignment);
         if assignment.len() != self.board.vars() {
             return;
         }
@@ -100,8 +119,20 @@ impl<'b> Share for BoardShare<'b> {
         self.board.offer(&mut self.seat, key_of(cost));
     }
 
-    /// Where some worker offered a lesser key than that of `below`, reads the row of the next other worker in turn.
+    /// Where some worker offered a lesser key than that of `below`, reads the row of the next other worker in turn. Else asks
+    /// whoever is beside the board.
     fn borrow(&mut self, below: Number, into: &mut Assignment) -> bool {
+        self.borrow_from_row(below, into) || self.beside.borrow(below, into)
+    }
+}
+
+impl<'b, S: Share + Drop> BoardShare<'b, S> {
+    /// Where some worker offered a lesser key than that of `below`, reads the row of the next other worker in turn.
+    fn borrow_from_row(&mut self, below: Number, into: &mut Assignment) -> bool
+        ensures kept { KeepsClaims self.old self.new }
+        ensures lent { IsTrue result → nat_lt 1 self.old.board.workers ≡ true }
+        ensures same_length { length into.new ≡ length into.old }
+    {
         if into.len() != self.board.vars() {
             return false;
         }
@@ -123,27 +154,4 @@ fn key_of(cost: Number) -> u64
 {
     let within = cost.clamp(LOWEST, HIGHEST);
     (within + KEY_OFFSET) as u64
-}
-
-/// The worker whose turn comes after the last one's, without this one. It is this one only where there is no other.
-fn next_other(workers: u32, worker: u32, last: u32) -> u32
-    requires { (worker < workers) × (last < workers) }
-    ensures within { result < workers }
-    ensures other { 1 < workers → result ≢ worker }
-{
-    let next = next_in_turn(workers, last);
-    if next == worker {
-        next_in_turn(workers, next)
-    } else {
-        next
-    }
-}
-
-/// The next of the workers, and the first after the last.
-fn next_in_turn(workers: u32, worker: u32) -> u32
-    requires { worker < workers }
-    ensures within { result < workers }
-    ensures another { 1 < workers → result ≢ worker }
-{
-    if worker + 1 < workers { worker + 1 } else { 0 }
 }

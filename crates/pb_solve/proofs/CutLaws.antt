@@ -1,10 +1,12 @@
 -- Whether some part names a piece that was cut.
 use Rattle.std.proofs.Common.{◌≡◌, ◌≢◌, ◌↔◌, ℕ, zero, suc, ◌+◌, ◌<◌, List, [], ◌∷◌, ◌++◌, ◌⊎◌, inl, inr, Bool, true, false, not, ◌||◌, ◌==◌, IsTrue, Option, None, Some, length, take, get_or, refl, sym, ◌∙◌, ap, subst, arith, rules, tests}
-use Rattle.std.specs.Prelude.{All, Any, IfNone}
+use Rattle.std.specs.Prelude.{All, Any, IfNone, flat_map}
 use Rattle.std.proofs.lemmas.Bool.{false≢true}
 use Rattle.std.proofs.lemmas.List.{take_more}
-use Rattle.std.proofs.lemmas.List.Elements.{All-contains}
+use Rattle.std.proofs.lemmas.List.Elements.{All-contains, All-tail}
+use Rattle.std.proofs.lemmas.List.Sorted.{length_permutation}
 use Rattle.std.proofs.lemmas.List.Quantifiers.{Any-push}
+use Rattle.pb_solve.specs.Dealing.{TaskView, AreNamesOf}
 use Rattle.pb_solve.specs.Parts.{PartView}
 
 abbrev pub HasCut : PartView → Type 0
@@ -69,3 +71,20 @@ none_cut_of_all None parts true none told =
 -- no part has a cut piece, where that was told
 pub none_cut_told : (parts : List PartView) (cut : Bool) → (Any (λ (x : PartView). x.cut ≢ []) parts → IsTrue cut) → cut ≡ false → Any (λ (x : PartView). x.cut ≢ []) parts → ⊥
 none_cut_told parts cut told none some = false≢true (sym none ∙ told some)
+
+-- the names of parts of which none has a cut piece
+none_of_parts : (parts : List PartView) → All (λ (x : PartView). x.cut ≡ []) parts → flat_map (λ (x : PartView). x.cut) parts ≡ []
+none_of_parts [] none = refl
+none_of_parts (part ∷ parts) none =
+    ap (λ (l : List ℕ). l ++ flat_map (λ (x : PartView). x.cut) parts) (All-contains (λ (x : PartView). x.cut ≡ []) (part ∷ parts) part none (0, omega arith, refl))
+    ∙ none_of_parts parts (All-tail (λ (x : PartView). x.cut ≡ []) part parts none)
+
+empty_by_length : (l : List ℕ) → length l ≡ 0 → l ≡ []
+empty_by_length [] is = refl
+empty_by_length (n ∷ l) is = absurd (omega arith)
+
+-- without a budget no name is that of a cut piece
+pub no_cut_names : (task : TaskView) (nodes : Option ℕ) (parts : List PartView) (done cut : List ℕ) → IfNone nodes (All (λ (x : PartView). x.cut ≡ []) parts) → AreNamesOf (Some task) parts done cut → IfNone nodes (cut ≡ [])
+no_cut_names task None parts done cut none names =
+    empty_by_length cut (length_permutation (flat_map (λ (x : PartView). x.cut) parts) cut names.1 ∙ ap length (none_of_parts parts none))
+no_cut_names task (Some budget) parts done cut none names = tt

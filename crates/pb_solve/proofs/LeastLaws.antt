@@ -43,7 +43,14 @@ no_better d i a (Some m) None candidate done held_is first_is not = absurd not
 no_better d i a (Some m) (Some f) candidate done held_is first_is not =
     not_before_onward d.problem a m.assignment f.assignment (candidate.for_all_variables ∙ sym held_is.for_all_variables) (done.1 a candidate) (by_costs d.problem m f held_is first_is not)
 
-All-from_map : {X Y : Type 0} (P : Y → Type 0) (f : X → Y) (xs : List X) → All P (map f xs) → All (λ x. P (f x)) xs
+-- a piece that is done by what some part holds is done by what is not after it
+pub done_by_first : (d : Division) (i : ℕ) (held first : Option Solution) → IsDone d i held → IfSome first (IsSolution d.problem) → IsNotBefore held first → IsDone d i first
+done_by_first d i None None done is not = done
+done_by_first d i None (Some f) done is not = (is, λ a candidate before. done a candidate)
+done_by_first d i (Some m) None done is not = absurd not
+done_by_first d i (Some m) (Some f) done is not = (is, λ a candidate before. no_better d i a (Some m) (Some f) candidate done done.0 is not before)
+
+pub All-from_map : {X Y : Type 0} (P : Y → Type 0) (f : X → Y) (xs : List X) → All P (map f xs) → All (λ x. P (f x)) xs
 All-from_map P f xs all k d lt = subst P (get_or-map f xs k d) (all k (f d) (let same = length-map xs f in omega arith))
 
 -- what is known of the parts and of the first of what was held before and what they found

@@ -1,6 +1,6 @@
 -- How the pieces that a worker claims are done one by one.
-use Rattle.std.proofs.Common.{◌≡◌, ℕ, ◌+◌, ◌<◌, ◌≤◌, List, [], ◌∷◌, ◌++◌, ◌⊎◌, inl, inr, true, cond, length, Option, None, Some, refl, sym, ◌∙◌, ap, subst, arith, rules, tests, length-append}
-use Rattle.std.specs.Prelude.{All, nat_lt, IfNone}
+use Rattle.std.proofs.Common.{◌≡◌, ℕ, ◌+◌, ◌<◌, ◌≤◌, List, [], ◌∷◌, ◌++◌, ◌⊎◌, inl, inr, Bool, true, false, cond, length, Option, None, Some, refl, sym, ◌∙◌, ap, subst, arith, rules, tests, length-append}
+use Rattle.std.specs.Prelude.{All, nat_lt, ◌&&◌, IfNone}
 use Rattle.std.specs.Option.{IfSome, option_map}
 use Rattle.std.proofs.lemmas.List.Elements.{All-nil, All-push, All-weaker, filter-append}
 use Rattle.pb_inst.specs.Problem.{Problem}
@@ -12,6 +12,7 @@ use Rattle.pb_search.proofs.HeldLemmas.{improvement_on_earlier}
 use Rattle.pb_solve.specs.Parts.{PartView, AreCounted, AreDone}
 use Rattle.pb_search.specs.declared.outcome.Outcome.{Outcome}
 use Rattle.pb_search.specs.declared.outcome.Outcome.TheVariants.{Whole, Cut}
+use Rattle.pb_solve.specs.Dealing.{TaskView, is_dealt, is_own_piece}
 use Rattle.pb_solve.specs.Claims.{piece_count, pieces_among, AreDealt, EndsPast, IsWholeWork, NamesOneMore}
 use Rattle.pb_share.specs.Sharing.{BoardShareView, KeepsClaims, SameSeat}
 
@@ -67,12 +68,26 @@ dealt_by_outcome Whole all done cut done' cut' i dealt names =
 dealt_by_outcome Cut all done cut done' cut' i dealt names =
     subst (λ (l : List ℕ). AreDealt (all ++ i ∷ []) done' l) (sym names.1) (subst (λ (l : List ℕ). AreDealt (all ++ i ∷ []) l (cut ++ i ∷ [])) (sym names.0) (dealt_to_others all done cut i dealt))
 
--- one more claim is a piece, and is named
-pub dealt_more : (count : ℕ) (outcome : Outcome) (done cut done' cut' claimed after : List ℕ) (i : ℕ) → AreDealt (pieces_among count claimed) done cut → NamesOneMore outcome i done cut done' cut' → after ≡ claimed ++ i ∷ [] → nat_lt i count ≡ true → AreDealt (pieces_among count after) done' cut'
-dealt_more count outcome done cut done' cut' claimed after i dealt names claim piece =
-    let one_more : pieces_among count after ≡ pieces_among count claimed ++ i ∷ [] =
-    ap (pieces_among count) claim ∙ filter-append (λ n. nat_lt n count) claimed (i ∷ []) ∙ ap (λ b. pieces_among count claimed ++ cond b (i ∷ []) []) piece in
-    subst (λ (l : List ℕ). AreDealt l done' cut') (sym one_more) (dealt_by_outcome outcome (pieces_among count claimed) done cut done' cut' i dealt names)
+among_more : (task : Option TaskView) (count : ℕ) (claimed after : List ℕ) (i : ℕ) (own : Bool) → after ≡ claimed ++ i ∷ [] → is_own_piece task count i ≡ own → pieces_among task count after ≡ pieces_among task count claimed ++ cond own (i ∷ []) []
+among_more task count claimed after i own claim is =
+    ap (pieces_among task count) claim ∙ filter-append (λ n. is_own_piece task count n) claimed (i ∷ []) ∙ ap (λ b. pieces_among task count claimed ++ cond b (i ∷ []) []) is
+
+-- one more claim is a piece that the task is dealt, and is named
+pub dealt_more : (task : Option TaskView) (count : ℕ) (outcome : Outcome) (done cut done' cut' claimed after : List ℕ) (i : ℕ) → AreDealt (pieces_among task count claimed) done cut → NamesOneMore outcome i done cut done' cut' → after ≡ claimed ++ i ∷ [] → is_own_piece task count i ≡ true → AreDealt (pieces_among task count after) done' cut'
+dealt_more task count outcome done cut done' cut' claimed after i dealt names claim own =
+    subst (λ (l : List ℕ). AreDealt l done' cut') (sym (among_more task count claimed after i true claim own)) (dealt_by_outcome outcome (pieces_among task count claimed) done cut done' cut' i dealt names)
+
+-- a number below that of the pieces is a piece
+is_piece : (n count : ℕ) → n < count → nat_lt n count ≡ true
+is_piece n count h = search (rules, tests)
+
+-- whether the task is dealt a number, by whether it is a piece
+pub own_piece : (task : Option TaskView) (count i : ℕ) (told : Bool) → told ≡ is_dealt task i → i < count → is_own_piece task count i ≡ told
+own_piece task count i told is below = ap (λ b. is_dealt task i && b) (is_piece i count below) ∙ and_true (is_dealt task i) ∙ sym is
+  where
+    and_true : (b : Bool) → b && true ≡ b
+    and_true true = refl
+    and_true false = refl
 
 -- without a budget each search is whole, by what it tells
 pub whole_by : (X : Type 0) (nodes : Option ℕ) (outcome : Outcome) → IfNone nodes ((outcome ≡ Whole) × X) → nodes ≡ None → outcome ≡ Whole
@@ -96,15 +111,12 @@ pub same_seat_kept : (s t : BoardShareView) → KeepsClaims s t → SameSeat s t
 same_seat_kept s t h = record { board = h.board; worker = h.worker; seat_of = h.seat_of; parts = h.parts }
 
 -- no claim is named yet
-pub none_named : (count : ℕ) (done cut claimed : List ℕ) → done ≡ [] → cut ≡ [] → claimed ≡ [] → AreDealt (pieces_among count claimed) done cut
-none_named count done cut claimed none_done none_cut unclaimed = subst (λ (l : List ℕ). AreDealt (pieces_among count l) done cut) (sym unclaimed) (none_done, none_cut)
+pub none_named : (task : Option TaskView) (count : ℕ) (done cut claimed : List ℕ) → done ≡ [] → cut ≡ [] → claimed ≡ [] → AreDealt (pieces_among task count claimed) done cut
+none_named task count done cut claimed none_done none_cut unclaimed = subst (λ (l : List ℕ). AreDealt (pieces_among task count l) done cut) (sym unclaimed) (none_done, none_cut)
 
 pub none_cut : (nodes : Option ℕ) (cut : List ℕ) → cut ≡ [] → IfNone nodes (cut ≡ [])
 none_cut None cut is = is
 none_cut (Some budget) cut is = tt
-
-pub is_piece : (n count : ℕ) → n < count → nat_lt n count ≡ true
-is_piece n count h = search (rules, tests)
 
 -- nothing is counted yet
 pub none_counted : (nodes : Option ℕ) (done decisions cut cut_decisions : List ℕ) → done ≡ [] → decisions ≡ [] → cut ≡ [] → cut_decisions ≡ [] → IfSome nodes (λ budget. AreCounted budget done decisions cut cut_decisions)
@@ -162,16 +174,16 @@ room_told X None told n is room = subst (λ (o : Option ℕ). IfSome o (λ _. X)
 room_told X (Some budget) told n is room = subst (λ (o : Option ℕ). IfSome o (λ _. X)) (sym is) room
 
 -- what a worker did, from what it claimed and named
-pub whole_work : (p : Problem) (pieces : CubeList) (nodes : Option ℕ) (part : PartView) (claimed after named cut decisions cut_decisions : List ℕ) (count : ℕ) (best : Incumbent)
+pub whole_work : (p : Problem) (pieces : CubeList) (task : Option TaskView) (nodes : Option ℕ) (part : PartView) (claimed after named cut decisions cut_decisions : List ℕ) (count : ℕ) (best : Incumbent)
     → part ≡ record { pieces = pieces; named = named; cut = cut; decisions = decisions; cut_decisions = cut_decisions; best = best } → claimed ≡ after → count ≡ piece_count pieces → best.problem ≡ p
-    → AreDealt (pieces_among count after) named cut → IfNone nodes (cut ≡ []) → IfSome nodes (λ budget. AreCounted budget named decisions cut cut_decisions)
-    → length after ≤ count + 1 → EndsPast count after ⊎ (length after ≡ count + 1) → IsWholeWork p pieces nodes part claimed
-whole_work p pieces nodes part claimed after named cut decisions cut_decisions count best is same number of_instance names uncut budget most ends =
-    subst (λ (x : PartView). IsWholeWork p pieces nodes x claimed) (sym is)
-    (subst (λ (l : List ℕ). IsWholeWork p pieces nodes (record { pieces = pieces; named = named; cut = cut; decisions = decisions; cut_decisions = cut_decisions; best = best }) l) (sym same) (record {
+    → AreDealt (pieces_among task count after) named cut → IfNone nodes (cut ≡ []) → IfSome nodes (λ budget. AreCounted budget named decisions cut cut_decisions)
+    → length after ≤ count + 1 → EndsPast count after ⊎ (length after ≡ count + 1) → IsWholeWork p pieces task nodes part claimed
+whole_work p pieces task nodes part claimed after named cut decisions cut_decisions count best is same number of_instance names uncut budget most ends =
+    subst (λ (x : PartView). IsWholeWork p pieces task nodes x claimed) (sym is)
+    (subst (λ (l : List ℕ). IsWholeWork p pieces task nodes (record { pieces = pieces; named = named; cut = cut; decisions = decisions; cut_decisions = cut_decisions; best = best }) l) (sym same) (record {
       of_instance = of_instance;
       of_pieces = refl;
-      named = subst (λ (n : ℕ). AreDealt (pieces_among n after) named cut) number names;
+      named = subst (λ (n : ℕ). AreDealt (pieces_among task n after) named cut) number names;
       uncut = uncut;
       budget = budget;
       most = subst (λ (n : ℕ). length after ≤ n + 1) number most;

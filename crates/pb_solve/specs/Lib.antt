@@ -8,4 +8,5 @@ pub mod Solving
 pub mod Run
 pub mod Laws
 pub mod Parts
+pub mod Dealing
 pub mod Claims

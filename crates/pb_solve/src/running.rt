@@ -253,8 +253,9 @@ fn report_least<W: Write>(
     }
 }
 
-/// Reports what is held as what was found of the instance before a piece was cut.
-fn report_found<W: Write>(
+/// Reports what is held as what was found of the instance: the best assignment that is known, with its cost where there is an
+/// objective, or that none is known. That it is the least is not said. A fault is `Write`, where the device has failed.
+pub fn report_found<W: Write>(
     out: &mut Device<W>,
     format: Format,
     instance: &Instance,

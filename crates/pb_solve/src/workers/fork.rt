@@ -24,7 +24,7 @@ pub(crate) fn fork<'c, R: Threads + Sync, C: Crew + Sync>(
     requires seat { (seat.board ≡ (C.meets_on crew.now).id) × (seat.claimed ≡ []) }
     requires workers { first + seat.parts ≤ (C.meets_on crew.now).workers }
     requires most { (C.meets_on crew.now).workers ≤ MAX_WORKERS }
-    ensures whole { IfOk result (λ done. AreWholeWork (C.problem crew.now) (C.pieces crew.now) (C.nodes crew.now) done.0.items done.1.claimed) }
+    ensures whole { IfOk result (λ done. AreWholeWork (C.problem crew.now) (C.pieces crew.now) (C.task crew.now) (C.nodes crew.now) done.0.items done.1.claimed) }
     ensures seat { IfOk result (λ done. (done.1.board ≡ (C.meets_on crew.now).id) × (done.1.parts ≡ seat.parts)) }
     ensures claims { IfOk result (λ done. length done.1.claimed ≤ 2 ^ 32 * seat.parts) }
 {
@@ -38,11 +38,11 @@ pub(crate) fn fork<'c, R: Threads + Sync, C: Crew + Sync>(
         rt,
         move || -> Result<(Vec<Part<'_>>, Seat), Memory>
             requires { IsSync R.row × IsSync C.row × (low.board ≡ (C.meets_on crew.now).id) × (low.claimed ≡ []) × (first + low.parts ≤ (C.meets_on crew.now).workers) × ((C.meets_on crew.now).workers ≤ MAX_WORKERS) }
-            ensures { IfOk result (λ done. AreWholeWork (C.problem crew.entry.now) (C.pieces crew.entry.now) (C.nodes crew.entry.now) done.0.items done.1.claimed × (done.1.board ≡ (C.meets_on crew.entry.now).id) × (done.1.parts ≡ low.parts) × (length done.1.claimed ≤ 2 ^ 32 * low.parts)) }
+            ensures { IfOk result (λ done. AreWholeWork (C.problem crew.entry.now) (C.pieces crew.entry.now) (C.task crew.entry.now) (C.nodes crew.entry.now) done.0.items done.1.claimed × (done.1.board ≡ (C.meets_on crew.entry.now).id) × (done.1.parts ≡ low.parts) × (length done.1.claimed ≤ 2 ^ 32 * low.parts)) }
         { fork(rt, alloc, crew, low, first) },
         move || -> Result<(Vec<Part<'_>>, Seat), Memory>
             requires { IsSync R.row × IsSync C.row × (high.board ≡ (C.meets_on crew.now).id) × (high.claimed ≡ []) × (middle + high.parts ≤ (C.meets_on crew.now).workers) × ((C.meets_on crew.now).workers ≤ MAX_WORKERS) }
-            ensures { IfOk result (λ done. AreWholeWork (C.problem crew.entry.now) (C.pieces crew.entry.now) (C.nodes crew.entry.now) done.0.items done.1.claimed × (done.1.board ≡ (C.meets_on crew.entry.now).id) × (done.1.parts ≡ high.parts) × (length done.1.claimed ≤ 2 ^ 32 * high.parts)) }
+            ensures { IfOk result (λ done. AreWholeWork (C.problem crew.entry.now) (C.pieces crew.entry.now) (C.task crew.entry.now) (C.nodes crew.entry.now) done.0.items done.1.claimed × (done.1.board ≡ (C.meets_on crew.entry.now).id) × (done.1.parts ≡ high.parts) × (length done.1.claimed ≤ 2 ^ 32 * high.parts)) }
         { fork(rt, alloc, crew, high, middle) },
     );
     let (mut parts, low) = low?;
@@ -60,7 +60,7 @@ fn one_worker<'c, C: Crew>(
 ) -> Result<(Vec<Part<'c>>, Seat), Memory>
     requires seat { (seat.board ≡ (C.meets_on crew.now).id) × (seat.claimed ≡ []) }
     requires worker { worker < (C.meets_on crew.now).workers }
-    ensures whole { IfOk result (λ done. AreWholeWork (C.problem crew.now) (C.pieces crew.now) (C.nodes crew.now) done.0.items done.1.claimed) }
+    ensures whole { IfOk result (λ done. AreWholeWork (C.problem crew.now) (C.pieces crew.now) (C.task crew.now) (C.nodes crew.now) done.0.items done.1.claimed) }
     ensures seat { IfOk result (λ done. (done.1.board ≡ (C.meets_on crew.now).id) × (done.1.parts ≡ seat.parts)) }
     ensures claims { IfOk result (λ done. length done.1.claimed ≤ 2 ^ 32) }
 {

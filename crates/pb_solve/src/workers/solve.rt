@@ -1,18 +1,13 @@
 //! Solving with many workers, which claim pieces and lend each other what they found.
-ghost use Rattle.std.specs.Prelude.{◌≡◌, ◌≤◌, List, false, min, All, IfOk, IfNone, IfSome};
-ghost use Rattle.pb_inst.specs.declared.TheConstants.{MAX_WORKERS};
+ghost use Rattle.std.specs.Prelude.{◌≡◌, List, false, All, IfOk, IfNone, IfSome};
 ghost use Rattle.pb_solve.specs.Parts.{IsAnswerOf, KeepsBudget, PartView};
 ghost use Rattle.pb_solve.specs.Solving.{HoldsLeast};
 
-use crate::workers::crew::SearchCrew;
-use crate::workers::fork::fork;
 use crate::workers::gate::Gate;
-use crate::workers::gather::gather;
-use pb_board::Board;
+use crate::workers::together::{Dealt, work_together};
 use pb_cubes::Pieces;
 use pb_inst::{Best, Instance, Memory, Workers};
-use pb_normal::normalise;
-use pb_search::SearchTables;
+use pb_share::{Correspondence, NoNotes};
 use std::alloc::Global;
 use std::thread::Threads;
 use thiserror::Error;
@@ -60,27 +55,21 @@ pub fn solve<'i, R: Threads + Sync, G: Gate + Sync>(
     ensures no_budget { IfNone nodes (IfOk result (λ answer. answer.cut ≡ false)) }
     ensures parts { IfOk result (λ answer. (parts : List PartView) × IsAnswerOf inst.now pieces.now parts answer.best.held answer.cut × IfSome nodes (λ budget. All (KeepsBudget budget) parts)) }
 {
-    let mut best = Best::none(alloc, inst)?;
-    let normal = normalise(alloc, inst)?;
-    let tables = SearchTables::new(alloc, inst, &normal, pieces)?;
-    let workers = workers_with_a_piece(workers, pieces.len());
-    let (board, seat) = Board::new(alloc, workers, inst.vars())?;
-    let crew = SearchCrew::new(inst, pieces, &tables, &board, gate, nodes);
-    let (parts, seat) = fork(rt, alloc, &crew, seat, 0)?;
-    let cut = gather(&mut best, &parts);
-    drop(parts);
-    board.close(seat);
+    let dealt = work_together(
+        rt,
+        alloc,
+        inst,
+        pieces,
+        workers,
+        None::<&Correspondence<'_, NoNotes>>,
+        gate,
+        None,
+        nodes,
+    )?;
+    let Dealt {
+        best,
+        names: _,
+        cut,
+    } = dealt;
     Ok(Answer { best, cut })
-}
-
-/// As many workers as are asked for, and no more than there are pieces.
-fn workers_with_a_piece(asked: Workers, pieces: u32) -> Workers
-    requires { 1 ≤ pieces }
-    ensures fewest { result ≡ min asked pieces }
-    ensures in_range { (1 ≤ result) × (result ≤ MAX_WORKERS) }
-{
-    match Workers::new(asked.get().min(pieces)) {
-        Ok(fewest) => fewest,
-        Err(_) => asked,
-    }
 }

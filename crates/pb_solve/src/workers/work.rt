@@ -1,8 +1,9 @@
 //! The whole work of one worker.
-ghost use Rattle.std.specs.Prelude.{◌≡◌, ◌<◌, ◌≤◌, ◌⊎◌, ◌+◌, ◌^◌, ◌++◌, ◌∷◌, [], length, All, IfOk, IfSome, IfNone};
+ghost use Rattle.std.specs.Prelude.{◌≡◌, ◌<◌, ◌≤◌, ◌⊎◌, ◌+◌, ◌^◌, ◌++◌, ◌∷◌, [], length, Option, All, IfOk, IfSome, IfNone};
 ghost use Rattle.pb_normal.specs.NormalForm.{KeepsCost, KeepsFeasible};
 ghost use Rattle.pb_search.specs.Done.{IsDone};
 ghost use Rattle.pb_solve.specs.Claims.{AreDealt, EndsPast, IsWholeWork, pieces_among};
+ghost use Rattle.pb_solve.specs.Dealing.{TaskView};
 ghost use Rattle.std.specs.Option.{option_map};
 ghost use Rattle.pb_solve.specs.Parts.{AreCounted};
 ghost use Rattle.pb_share.specs.Sharing.{SameSeat};
@@ -10,12 +11,14 @@ ghost use Rattle.pb_share.specs.Sharing.{SameSeat};
 use crate::workers::gate::Gate;
 use crate::workers::named::Named;
 use crate::workers::part::Part;
+use crate::workers::task::{Task, has_piece};
 use pb_board::{Board, Seat};
 use pb_cubes::Pieces;
 use pb_inst::{Best, Instance, Memory};
 use pb_normal::Normal;
-use pb_search::{Search, SearchTables};
-use pb_share::BoardShare;
+use pb_notes::Notes;
+use pb_search::{Search, SearchTables, Share};
+use pb_share::{Beyond, BoardShare, Correspondence, NoNotes};
 use std::alloc::Global;
 
 /// The whole work of one worker: it claims numbers from the board until it gets one that is no piece, and searches each
@@ -45,19 +48,29 @@ pub fn work<'i, G: Gate + Sync>(
     requires unclaimed { seat.claimed ≡ [] }
     requires board { board.now.vars ≡ inst.now.vars }
     requires worker { worker < board.now.workers }
-    ensures whole { IfOk result (λ done. IsWholeWork inst.now pieces.now nodes done.0 done.1.claimed) }
+    ensures whole { IfOk result (λ done. IsWholeWork inst.now pieces.now None nodes done.0 done.1.claimed) }
     ensures seat { IfOk result (λ done. (done.1.board ≡ board.now.id) × (done.1.parts ≡ seat.parts)) }
     ensures claims { IfOk result (λ done. length done.1.claimed ≤ 2 ^ 32) }
 {
     let tables = SearchTables::new(alloc, inst, normal, pieces)?;
     work_over(
-        alloc, inst, pieces, &tables, board, seat, worker, gate, nodes,
+        alloc,
+        inst,
+        pieces,
+        &tables,
+        board,
+        seat,
+        worker,
+        None::<&Correspondence<'_, NoNotes>>,
+        gate,
+        None,
+        nodes,
     )
 }
 
-/// The same over tables of the instance and the pieces that are lent, to any number of workers at a time; what the worker
-/// changes is its own.
-pub(crate) fn work_over<'i, G: Gate>(
+/// The same of the pieces that a task is dealt, over tables of the instance and the pieces that are lent, to any number of
+/// workers at a time; what the worker changes is its own. Beside the board it exchanges notes, where the task does.
+pub(crate) fn work_over<'i, N: Notes, G: Gate>(
     alloc: Global,
     inst: &'i Instance,
     pieces: &'i Pieces,
@@ -65,7 +78,9 @@ pub(crate) fn work_over<'i, G: Gate>(
     board: &Board,
     seat: Seat,
     worker: u32,
+    notes: Option<&Correspondence<'_, N>>,
     gate: &G,
+    task: Option<Task>,
     nodes: Option<u64>,
 ) -> Result<(Part<'i>, Seat), Memory>
     requires tables { tables.now ≡ record { problem = inst.now; cubes = pieces.now.cubes } }
@@ -73,13 +88,14 @@ pub(crate) fn work_over<'i, G: Gate>(
     requires unclaimed { seat.claimed ≡ [] }
     requires board { board.now.vars ≡ inst.now.vars }
     requires worker { worker < board.now.workers }
-    ensures whole { IfOk result (λ done. IsWholeWork inst.now pieces.now nodes done.0 done.1.claimed) }
+    ensures whole { IfOk result (λ done. IsWholeWork inst.now pieces.now task nodes done.0 done.1.claimed) }
     ensures seat { IfOk result (λ done. (done.1.board ≡ board.now.id) × (done.1.parts ≡ seat.parts)) }
     ensures claims { IfOk result (λ done. length done.1.claimed ≤ 2 ^ 32) }
 {
     let mut best = Best::none(alloc, inst)?;
     let mut search = Search::over(alloc, tables)?;
-    let mut share = BoardShare::new(board, seat, worker);
+    let beyond = Beyond::new(alloc, notes, inst.vars(), worker)?;
+    let mut share = BoardShare::beside(board, seat, worker, beyond);
     let named = search_claimed(
         alloc,
         &mut search,
@@ -87,19 +103,21 @@ pub(crate) fn work_over<'i, G: Gate>(
         &mut best,
         &mut share,
         gate,
+        task,
         nodes,
     )?;
     Ok((Part::new(pieces, named, best), share.into_seat()))
 }
 
-/// Searches the pieces that the share claims, each within the budget, and answers their numbers.
-fn search_claimed<G: Gate>(
+/// Searches the pieces that the share claims and the task is dealt, each within the budget, and answers their numbers.
+fn search_claimed<S: Share + Drop, G: Gate>(
     alloc: Global,
     search: &mut Search<'_>,
     count: u32,
     best: &mut Best<'_>,
-    share: &mut BoardShare<'_>,
+    share: &mut BoardShare<'_, S>,
     gate: &G,
+    task: Option<Task>,
     nodes: Option<u64>,
 ) -> Result<Named, Memory>
     requires count { count ≡ length search.old.division.cubes + 1 }
@@ -107,7 +125,7 @@ fn search_claimed<G: Gate>(
     requires unclaimed { share.old.seat.claimed ≡ [] }
     ensures same_instance { best.new.problem ≡ best.old.problem }
     ensures done { IfOk result (λ named. All (λ i. IsDone search.old.division i best.new.held) named.done.items) }
-    ensures named { IfOk result (λ named. AreDealt (pieces_among count share.new.seat.claimed) named.done.items named.cut.items) }
+    ensures named { IfOk result (λ named. AreDealt (pieces_among task count share.new.seat.claimed) named.done.items named.cut.items) }
     ensures uncut { IfOk result (λ named. IfNone nodes (named.cut.items ≡ [])) }
     ensures budget { IfOk result (λ named. IfSome nodes (λ budget. AreCounted budget named.done.items named.decisions.items named.cut.items named.cut_decisions.items)) }
     ensures most { IfOk result (λ named. length share.new.seat.claimed ≤ count + 1) }
@@ -119,6 +137,9 @@ fn search_claimed<G: Gate>(
         let Some(piece) = claim_piece(share, count) else {
             return Ok(named);
         };
+        if !has_piece(&task, piece) {
+            continue;
+        }
         // What is refused here is refused before the piece is searched, so that no finished work is lost for it.
         named.reserve(nodes)?;
         gate.pass(share.worker(), piece);
@@ -141,10 +162,10 @@ fn decisions_of(search: &Search<'_>, nodes: Option<u64>) -> Option<u64>
 }
 
 /// Claims the next number, and answers it where it is a piece's.
-fn claim_piece(share: &mut BoardShare<'_>, count: u32) -> Option<u32>
+fn claim_piece<S: Share + Drop>(share: &mut BoardShare<'_, S>, count: u32) -> Option<u32>
     requires { length share.old.seat.claimed < 2 ^ 32 }
     ensures piece { IfSome result (λ piece. (piece < count) × (share.new.seat.claimed ≡ share.old.seat.claimed ++ piece ∷ [])) }
-    ensures none { IfNone result (EndsPast count share.new.seat.claimed × (pieces_among count share.new.seat.claimed ≡ pieces_among count share.old.seat.claimed)) }
+    ensures none { IfNone result (EndsPast count share.new.seat.claimed × ((task : Option TaskView) → pieces_among task count share.new.seat.claimed ≡ pieces_among task count share.old.seat.claimed)) }
     ensures one { length share.new.seat.claimed ≡ length share.old.seat.claimed + 1 }
     ensures seat { SameSeat share.old share.new }
 {

@@ -6,5 +6,5 @@ pub returns-clause-whole : goal.returns-clause-whole
 returns-clause-whole g t c =
     let low = IfOk-at_ok _ c.in_ok-parts.was c.join-low.ensures.first in
     let high = IfOk-at_ok _ c.in_ok-more.was c.join-low.ensures.second in
-    work_of_both (g.C.Crew.problem c.args.crew.now) (g.C.Crew.pieces c.args.crew.now) (g.C.Crew.nodes c.args.crew.now) c.in_ok-parts.parts.items c.in_ok-more.more.items c.append.new.self.items c.board-2.result.now c.in_ok-parts.low c.in_ok-more.high c.join.result
+    work_of_both (g.C.Crew.problem c.args.crew.now) (g.C.Crew.pieces c.args.crew.now) (g.C.Crew.task c.args.crew.now) (g.C.Crew.nodes c.args.crew.now) c.in_ok-parts.parts.items c.in_ok-more.more.items c.append.new.self.items c.board-2.result.now c.in_ok-parts.low c.in_ok-more.high c.join.result
     c.in_ok-append.ensures.items c.join.ensures low.0 high.0

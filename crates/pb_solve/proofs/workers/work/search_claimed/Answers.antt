@@ -4,7 +4,7 @@ use Rattle.std.specs.Option.{IfSome}
 use Rattle.std.proofs.lemmas.List.Elements.{All-nil}
 use Rattle.pb_search.specs.Held.{IsNotAfter}
 use Rattle.pb_search.specs.Done.{Division, IsDone}
-use Rattle.pb_solve.proofs.WorkLaws.{counted_more, dealt_more, done_more, none_counted, none_cut, none_named, room_told, uncut_more, whole_by, is_piece, same_seat_itself, same_seat_onward, same_seat_kept}
+use Rattle.pb_solve.proofs.WorkLaws.{counted_more, dealt_more, done_more, none_counted, none_cut, none_named, room_told, uncut_more, whole_by, own_piece, same_seat_itself, same_seat_onward, same_seat_kept}
 use Rattle.pb_solve.specs.Claims.{AreDealt, NamesOneMore}
 use Rattle.pb_solve.proofs.workers.work.search_claimed.Goals as goal
 
@@ -13,7 +13,7 @@ loop-turn-init g c = record {
   same_instance = refl;
   same_search = refl;
   count = ap length c.requires.unclaimed;
-  named = none_named c.args.count c.new-named.result.done.items c.new-named.result.cut.items c.args.share.now.seat.claimed c.new-named.ensures.pieces.0 c.new-named.ensures.pieces.1 c.requires.unclaimed;
+  named = none_named c.args.task c.args.count c.new-named.result.done.items c.new-named.result.cut.items c.args.share.now.seat.claimed c.new-named.ensures.pieces.0 c.new-named.ensures.pieces.1 c.requires.unclaimed;
   uncut = none_cut c.args.nodes c.new-named.result.cut.items c.new-named.ensures.pieces.1;
   budget = none_counted c.args.nodes c.new-named.result.done.items c.new-named.result.decisions.items c.new-named.result.cut.items c.new-named.result.cut_decisions.items
       c.new-named.ensures.pieces.0 c.new-named.ensures.decisions.0 c.new-named.ensures.pieces.1 c.new-named.ensures.decisions.1;
@@ -58,8 +58,8 @@ loop-turn-preserved g c =
       same_instance = ran.ensures.same_instance ∙ c.loop-turn.invariant.same_instance;
       same_search = search;
       count = omega arith;
-      named = dealt_more c.args.count ran.result c.loop-turn.named.done.items c.loop-turn.named.cut.items c.push_reserved.new.self.done.items c.push_reserved.new.self.cut.items c.loop-turn.share.seat.claimed ran.new.share.seat.claimed c.in-Some.piece
-          c.loop-turn.invariant.named names claim (is_piece c.in-Some.piece c.args.count c.in-Some.ensures.piece.0);
+      named = dealt_more c.args.task c.args.count ran.result c.loop-turn.named.done.items c.loop-turn.named.cut.items c.push_reserved.new.self.done.items c.push_reserved.new.self.cut.items c.loop-turn.share.seat.claimed ran.new.share.seat.claimed c.in-Some.piece
+          c.loop-turn.invariant.named names claim (own_piece c.args.task c.args.count c.in-Some.piece c.has_piece.result c.has_piece.ensures c.in-Some.ensures.piece.0 ∙ c.if-not-has_piece.false);
       uncut = uncut_more c.args.nodes ran.result c.in-Some.piece c.loop-turn.named.done.items c.loop-turn.named.cut.items c.push_reserved.new.self.done.items c.push_reserved.new.self.cut.items names (whole_by _ c.args.nodes ran.result ran.ensures.no_budget) c.loop-turn.invariant.uncut;
       budget = counted_more c.args.nodes c.decisions_of.result ran.result c.in-Some.piece ran.new.self.decisions
           c.loop-turn.named.done.items c.loop-turn.named.decisions.items c.loop-turn.named.cut.items c.loop-turn.named.cut_decisions.items
@@ -81,7 +81,7 @@ pub returns-in_default-clause-done : goal.returns-in_default-clause-done
 returns-in_default-clause-done g c = c.loop-turn.invariant.done
 
 pub returns-in_default-clause-named : goal.returns-in_default-clause-named
-returns-in_default-clause-named g c = subst (λ (l : List ℕ). AreDealt l c.loop-turn.named.done.items c.loop-turn.named.cut.items) (sym c.in_default.ensures.none.1) c.loop-turn.invariant.named
+returns-in_default-clause-named g c = subst (λ (l : List ℕ). AreDealt l c.loop-turn.named.done.items c.loop-turn.named.cut.items) (sym (c.in_default.ensures.none.1 c.args.task)) c.loop-turn.invariant.named
 
 pub returns-in_default-clause-uncut : goal.returns-in_default-clause-uncut
 returns-in_default-clause-uncut g c = c.loop-turn.invariant.uncut

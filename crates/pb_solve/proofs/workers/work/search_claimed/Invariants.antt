@@ -13,7 +13,7 @@ invariant-loop-turn g l = record {
   same_instance : l.best.problem ≡ l.initial.best.problem;
   same_search : l.search.division ≡ l.initial.search.division;
   count : length l.share.seat.claimed ≡ l._turn;
-  named : AreDealt (pieces_among l.count l.share.seat.claimed) l.named.done.items l.named.cut.items;
+  named : AreDealt (pieces_among l.task l.count l.share.seat.claimed) l.named.done.items l.named.cut.items;
   uncut : IfNone l.nodes (l.named.cut.items ≡ []);
   budget : IfSome l.nodes (λ budget. AreCounted budget l.named.done.items l.named.decisions.items l.named.cut.items l.named.cut_decisions.items);
   done : All (λ i. IsDone l.initial.search.division i l.best.held) l.named.done.items;
