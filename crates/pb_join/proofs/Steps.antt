@@ -18,7 +18,7 @@ use Rattle.pb_join.specs.declared.states.PieceState.TheVariants.{Missing, Cut, D
 use Rattle.pb_join.specs.Pieces.{found_in}
 use Rattle.pb_join.specs.Joining.{AreGathered, AreStates, IsStateOf, IsWitness, all_found}
 
-any_still : {X : Type 0} (P : X → Type 0) (xs : List X) (y : X) → Any P xs → Any P (xs ++ y ∷ [])
+pub any_still : {X : Type 0} (P : X → Type 0) (xs : List X) (y : X) → Any P xs → Any P (xs ++ y ∷ [])
 any_still P [] y (k, x, within, is, holds) = absurd (omega arith)
 any_still P (z ∷ xs) y (zero, x, within, is, holds) = (zero, x, omega arith, is, holds)
 any_still P (z ∷ xs) y (suc k, x, within, is, holds) =

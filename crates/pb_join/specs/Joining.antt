@@ -1,5 +1,5 @@
 -- What reports of pieces make together.
-use Rattle.std.specs.Prelude.{◌≡◌, ◌≢◌, ℕ, ◌<◌, ◌≤◌, Bool, true, false, if◌then◌else◌, List, ◌∷◌, length, map, take, slice_index_or, All, AllPairs, Any, Option, None, Some, is_some, IsSomeAnd, ⊤}
+use Rattle.std.specs.Prelude.{◌≡◌, ◌≢◌, ℕ, ◌<◌, ◌≤◌, Bool, true, false, List, ◌∷◌, length, map, take, slice_index_or, All, AllPairs, Any, Option, None, is_some, IsSomeAnd, ⊤}
 use Rattle.std.specs.Option.{IfSome}
 use Rattle.std.specs.Io.KnownBytes.{Appends}
 use Rattle.pb_inst.specs.Problem.{Problem}
@@ -89,11 +89,15 @@ abbrev pub joined_status : Problem → Bool → Option Solution → Status
 joined_status p true held = status_of (outcome_of p held)
 joined_status p false held = found_status (found_of p held)
 
--- All that was written is the report of the first assignment that any report has, which is feasible and has its own cost:
--- as the answer, or as what was found.
-pub record TellsFirst (format : Format) (p : Problem) (reports : List PieceReport) (whole : Bool) (old new : Option (List ℕ)) (ended : Status) : Type 0 where
+-- All that was written is the report of the first of what was found, which is feasible and has its own cost: as the answer, or as
+-- what was found.
+pub record TellsFirstOf (format : Format) (p : Problem) (found : List (Option Solution)) (whole : Bool) (old new : Option (List ℕ)) (ended : Status) : Type 0 where
   pub held : Option Solution
   pub solution : IfSome held (λ s. IsSolution p s)
-  pub first : IsFirst (all_found p reports) held
+  pub first : IsFirst found held
   pub writes : Appends old new (joined_report format p whole held)
   pub ends : ended ≡ joined_status p whole held
+
+-- the same, of the first assignment that any report has
+abbrev pub TellsFirst : Format → Problem → List PieceReport → Bool → Option (List ℕ) → Option (List ℕ) → Status → Type 0
+TellsFirst format p reports whole old new ended = TellsFirstOf format p (all_found p reports) whole old new ended

@@ -1,3 +1,4 @@
 pub mod Pieces
 pub mod Joining
 pub mod Costs
+pub mod Parts

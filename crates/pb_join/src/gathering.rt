@@ -93,7 +93,11 @@ fn state_of(claim: &Claim, has_objective: bool) -> PieceState
 }
 
 /// Holds the first of what is held and what is claimed, unless the instance does not accept it.
-fn take_claim(best: &mut Best<'_>, instance: &Instance, claim: &Claim) -> Result<(), Rejection>
+pub(crate) fn take_claim(
+    best: &mut Best<'_>,
+    instance: &Instance,
+    claim: &Claim,
+) -> Result<(), Rejection>
     requires { best.old.problem ≡ instance.now }
     ensures same_instance { best.new.problem ≡ instance.now }
     ensures witness { OnOk result (IfSome (witness_of claim.now) (λ w. IsWitness instance.now w)) }

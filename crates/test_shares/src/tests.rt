@@ -2,6 +2,7 @@
 
 mod boards;
 mod joining;
+mod part_joining;
 mod row_sets;
 mod sessions;
 mod shares;

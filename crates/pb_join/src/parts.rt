@@ -1,0 +1,7 @@
+//! Reports of parts, of which each is what one task has searched.
+
+pub mod faults;
+pub mod finishing;
+pub mod gathering;
+pub mod joining;
+pub mod states;

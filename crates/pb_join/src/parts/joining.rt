@@ -1,0 +1,79 @@
+//! One report of the reports of all parts.
+ghost use Rattle.std.specs.Prelude.{◌≡◌, ◌≢◌, ◌↔◌, List, IfOk, IfErr, IsErrOf, IsTrue, All, false, true};
+ghost use Rattle.pb_inst.specs.Literal.{Literal};
+ghost use Rattle.pb_parts.specs.Parts.{IsFit};
+ghost use Rattle.pb_solve.specs.Run.{Answers};
+ghost use Rattle.pb_join.specs.Joining.{TellsFirstOf};
+ghost use Rattle.pb_join.specs.Parts.{AreAllNamed, AreFitParts, ArePartsOf, AreTaskStates, IsPartsFault, all_found_in_parts, first_division};
+
+use crate::parts::faults::PartsFault;
+use crate::parts::finishing::is_whole;
+use crate::parts::gathering::gather_parts;
+use crate::parts::states::TaskState;
+use crate::writing::report_joined;
+use pb_inst::Instance;
+use pb_parts::PartReport;
+use pb_solve::{Device, Format, Status};
+use std::alloc::Global;
+use std::io::Write;
+
+/// How a report that was joined of parts ended, and what became of each task.
+#[derive(Drop)]
+pub struct JoinedParts {
+    /// What the written report says.
+    pub status: Status,
+    /// Whether every piece is done, so that the report is written as the answer; else it is written as what was found.
+    pub whole: bool,
+    /// What became of each task, by its number.
+    pub states: Vec<TaskState>,
+}
+
+/// Joins the reports of the parts of an instance, whose bytes have this SHA-256, and writes the report of the whole, which is
+/// flushed. The instance's pieces were dealt among so many tasks, and each report is of one of them, as `read_part` reads it.
+///
+/// Where each piece is named as done by some report, the first assignment of them all is written as the answer: with
+/// `s OPTIMUM FOUND`, or `s SATISFIABLE` where there is no objective; `s UNSATISFIABLE` where no report has one. Where each piece
+/// that a report names as done is done by its assignment this is, byte for byte, the report of the whole instance. Where a piece
+/// is missing or was cut, the best assignment is written with `s SATISFIABLE` and its cost, or `s UNKNOWN` alone; so it is where
+/// there are no reports. Whatever is claimed, an assignment that is written is feasible, and its cost is its own.
+///
+/// The first report that is none of the parts, or that is of another division than the first one, is rejected, and then nothing
+/// is written; nor is it where memory is refused. After `Write`, which comes exactly where the device has failed, it is not said
+/// what was written.
+pub fn join_parts<W: Write>(
+    alloc: Global,
+    format: Format,
+    instance: &Instance,
+    digest: &[u8; 32],
+    tasks: u32,
+    parts: &[PartReport],
+    out: &mut Device<W>,
+) -> Result<JoinedParts, PartsFault>
+    requires fit { All (λ part. IsFit part.heading) parts.now }
+    requires out { out.old.failed ≡ false }
+
+    ensures headline { (cubes : List (List Literal)) → ArePartsOf instance.now cubes parts.now
+        → IfOk result (λ joined. joined.whole ≡ true
+        → Answers format instance.now (W.contents out.old.held) (W.contents out.new.held) joined.status) }
+
+    ensures first { IfOk result (λ joined. TellsFirstOf format instance.now (all_found_in_parts instance.now parts.now) joined.whole
+        (W.contents out.old.held) (W.contents out.new.held) joined.status) }
+
+    ensures whole { IfOk result (λ joined. IsTrue joined.whole ↔ AreAllNamed (first_division parts.now) parts.now) }
+    ensures states { IfOk result (λ joined. AreTaskStates tasks parts.now joined.states.items) }
+    ensures fit { IfOk result (λ joined. AreFitParts instance.now digest.now tasks parts.now) }
+    ensures refused { IfErr result (λ fault. IsPartsFault instance.now digest.now tasks parts.now fault) }
+    ensures write { IsTrue out.new.failed ↔ IsErrOf result PartsFault.Write }
+    ensures unwritten { IfErr result (λ fault. fault ≢ PartsFault.Write → out.new ≡ out.old) }
+{
+    let gathered = gather_parts(alloc, instance, digest, tasks, parts)?;
+    let whole = is_whole(&gathered.division, &gathered.states);
+    let Ok(status) = report_joined(out, format, instance, whole, &gathered.best) else {
+        return Err(PartsFault::Write);
+    };
+    Ok(JoinedParts {
+        status,
+        whole,
+        states: gathered.states,
+    })
+}
