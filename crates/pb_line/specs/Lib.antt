@@ -3,5 +3,6 @@ pub mod Ends
 pub mod Joining
 pub mod Options
 pub mod Solving
+pub mod Tasks
 pub mod Told
 pub mod Values

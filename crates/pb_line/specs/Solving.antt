@@ -1,23 +1,11 @@
 -- The one command of `pbcube`, and what a line takes from its matches.
-use Rattle.std.specs.Prelude.{◌≡◌, ◌≤◌, List, [], ◌∷◌, Some, option_map, codes, refl, true, IsSomeAnd}
+use Rattle.std.specs.Prelude.{◌≡◌, ◌≤◌, List, Some, option_map, codes, refl, true, IsSomeAnd}
 use Rattle.clap.proofs.OnLiterals.{clap_on_literals}
-use Rattle.clap.specs.Words.{App, Row, Rule, first_of, is_simple_and_free, one_of, new_rule, with_rule}
-use Rattle.clap.specs.declared.builder.ValueParser.TheVariants as parser
+use Rattle.clap.specs.Words.{App, Row, first_of, is_simple_and_free, one_of, with_rule}
 use Rattle.pb_inst.specs.declared.TheConstants.{MAX_WORKERS}
-use Rattle.pb_line.specs.Options.{cubes, file, format, format_name, split, with_version}
+use Rattle.pb_line.specs.Options.{cubes, file, format, format_name, nodes, split, with_version, workers}
 use Rattle.pb_line.specs.Values.{Spells, SpellsIfGiven}
 use Rattle.pb_line.specs.declared.solving.asked.Line.{Line}
-use Rattle.pb_line.specs.declared.solving.asked.TheConstants.{MAX_NODES}
-
--- Help has a name for the value of each, which `value_names` counts; no word is read by it.
-
--- `--workers`, a number from 1 to `MAX_WORKERS`, by default 1
-abbrev pub workers : Rule
-workers = record (new_rule (codes "workers")) { long = Some (codes "workers"); value_names = 1; defaults = codes "1" ∷ []; parser = Some (parser.Unsigned 1 MAX_WORKERS) }
-
--- `--nodes`, a number from 0 to `MAX_NODES`, without a default
-abbrev pub nodes : Rule
-nodes = record (new_rule (codes "nodes")) { long = Some (codes "nodes"); value_names = 1; parser = Some (parser.Unsigned 0 MAX_NODES) }
 
 -- `pbcube [--format FORMAT] [--workers W] [--split K] [--cubes FILE] [--nodes B] FILE`
 unfoldable pub pbcube : App

@@ -9,11 +9,15 @@ mod lines;
 mod matched;
 mod options;
 pub mod solving;
+pub mod tasks;
 mod version;
 mod words;
 
 pub use faults::{Told, tell_fault};
 pub use formats::format_of;
-pub use options::{cubes_option, file_operand, format_option, named, split_option};
+pub use options::{
+    MAX_NODES, cubes_option, file_operand, format_option, named, nodes_option, split_option,
+    workers_option,
+};
 pub use version::VERSION;
 pub use words::{texts_of, words_of};

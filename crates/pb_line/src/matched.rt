@@ -1,11 +1,13 @@
 //! The values of the matches.
-ghost use Rattle.std.specs.Prelude.{◌≡◌, ◌≢◌, ℕ, Option, Some, codes, option_map, IfSome, IsNone, IsSomeAnd};
+ghost use Rattle.std.specs.Prelude.{◌≡◌, ◌≢◌, ◌≤◌, ℕ, Option, Some, codes, option_map, IfSome, IsNone, IsSomeAnd, SomeIff};
 ghost use Rattle.clap.specs.Words.{first_of, found_of, one_of, rows_of};
+ghost use Rattle.pb_inst.specs.declared.TheConstants.{MAX_WORKERS};
 ghost use Rattle.pb_line.specs.Options.{format_name};
 ghost use Rattle.pb_line.specs.Values.{Spells, SpellsIfGiven};
 
 use crate::formats::format_of;
 use clap::ArgMatches;
+use pb_inst::Workers;
 use pb_read::Format;
 
 /// The text of this name.
@@ -31,10 +33,25 @@ pub(crate) fn number_of(matches: &ArgMatches<'_>, name: &str) -> Option<u32>
     matches.get_one::<u32>(name)
 }
 
+/// The number of this name, if there is one; or nothing where its text spells none of 32 bits.
+pub(crate) fn count_if_given(matches: &ArgMatches<'_>, name: &str) -> Option<Option<u32>>
+    ensures some { IfSome result (SpellsIfGiven 32 (one_of name.now (rows_of (found_of matches.now)))) }
+    ensures none { IsNone result → (number : Option ℕ) → SpellsIfGiven 32 (one_of name.now (rows_of (found_of matches.now))) number → ⊥ }
+{
+    matches.try_get_one::<u32>(name).ok()
+}
+
 /// The number of this name, if there is one; or nothing where its text spells none of 64 bits.
 pub(crate) fn number_if_given(matches: &ArgMatches<'_>, name: &str) -> Option<Option<u64>>
     ensures some { IfSome result (SpellsIfGiven 64 (one_of name.now (rows_of (found_of matches.now)))) }
     ensures none { IsNone result → (number : Option ℕ) → SpellsIfGiven 64 (one_of name.now (rows_of (found_of matches.now))) number → ⊥ }
 {
     matches.try_get_one::<u64>(name).ok()
+}
+
+/// So many workers, from 1 to `MAX_WORKERS`.
+pub(crate) fn workers_of(count: u32) -> Option<Workers>
+    ensures { SomeIff result ((1 ≤ count) × (count ≤ MAX_WORKERS)) count }
+{
+    Workers::new(count).ok()
 }

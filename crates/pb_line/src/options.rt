@@ -1,13 +1,17 @@
 //! The options and the operand that the programs have in common. What help says of each is the program's own.
 ghost use Rattle.std.specs.Prelude.{◌≡◌, false};
 ghost use Rattle.clap.specs.Words.{app_of, rule_of};
-ghost use Rattle.pb_line.specs.Options.{format, split, cubes, file, with_version};
+ghost use Rattle.pb_line.specs.Options.{format, workers, split, cubes, nodes, file, with_version};
 
 use crate::version::VERSION;
 use clap::builder::ValueParser;
 use clap::{Arg, Command};
 use pb_cubes::MAX_SPLIT;
+use pb_inst::MAX_WORKERS;
 use std::alloc::Global;
+
+/// The most decisions in each piece that a command line may allow.
+pub const MAX_NODES: u64 = 1_000_000_000;
 
 /// A command of this name that tells the version and has no other options, and what help says around them: of what it
 /// does, in short and at length, and at the end.
@@ -39,6 +43,19 @@ pub fn format_option<'a>(alloc: Global, help: &'a str) -> Arg<'a>
         .help(help)
 }
 
+/// `--workers W`, from 1, the default, to `MAX_WORKERS`.
+pub fn workers_option<'a>(alloc: Global, help: &'a str) -> Arg<'a>
+    ensures rule { rule_of result ≡ workers }
+    ensures local { result.global ≡ false }
+{
+    Arg::new(alloc, "workers")
+        .long("workers")
+        .default_value("1")
+        .value_name("W")
+        .help(help)
+        .value_parser(ValueParser::Unsigned(1, u64::from(MAX_WORKERS)))
+}
+
 /// `--split K`, from 0, the default, to `MAX_SPLIT`.
 pub fn split_option<'a>(alloc: Global, help: &'a str) -> Arg<'a>
     ensures rule { rule_of result ≡ split }
@@ -61,6 +78,18 @@ pub fn cubes_option<'a>(alloc: Global, help: &'a str) -> Arg<'a>
         .long("cubes")
         .value_name("FILE")
         .help(help)
+}
+
+/// `--nodes B`, from 0 to `MAX_NODES`, without a default.
+pub fn nodes_option<'a>(alloc: Global, help: &'a str) -> Arg<'a>
+    ensures rule { rule_of result ≡ nodes }
+    ensures local { result.global ≡ false }
+{
+    Arg::new(alloc, "nodes")
+        .long("nodes")
+        .value_name("B")
+        .help(help)
+        .value_parser(ValueParser::Unsigned(0, MAX_NODES))
 }
 
 /// `FILE`, which has to be there.

@@ -5,5 +5,5 @@ mod command;
 mod help;
 mod words;
 
-pub use asked::{Line, MAX_NODES};
+pub use asked::Line;
 pub use words::line;

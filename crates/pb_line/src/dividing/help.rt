@@ -28,7 +28,8 @@ pub const EXAMPLES_AND_STATUSES: &str = "\
 The pieces are DIR/NUMBER.opb, or .cnf for an instance of clauses, with leading
 zeros, so that they sort by number. DIR/index is written last: it tells the
 number of pieces, the format and the variables that all of them have, the
-SHA-256 digest of FILE, and then the pieces' names. No file is overwritten.
+SHA-256 digest of FILE, and then the pieces' names. No file is overwritten. At
+the end the number of pieces is printed.
 
 Examples:
   pbcube_pieces --split 3 --out pieces instance.opb      nine pieces
@@ -38,5 +39,5 @@ Examples:
 Exit status:
    0  all is written; also after help and the version
    1  a file cannot be opened, read or written, an input is refused, or memory
-      ran out
+      ran out; or all is written, and its number of pieces cannot be printed
    2  the command line is refused";

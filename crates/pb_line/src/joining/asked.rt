@@ -11,8 +11,10 @@ pub struct Line<'a> {
     pub file: &'a str,
     /// How it and the reports are written.
     pub format: Format,
-    /// The number of pieces, 1 to `MAX_PIECES`.
-    pub pieces: u32,
+    /// The number of pieces, 1 to `MAX_PIECES`, where the line tells it. Then it tells no number of tasks.
+    pub pieces: Option<u32>,
+    /// Among how many tasks the pieces were dealt, at least 1, where the reports are those of tasks.
+    pub tasks: Option<u32>,
     /// The files of the reports, and the folders in which they lie.
     pub reports: Vec<&'a str>,
 }

@@ -1,16 +1,19 @@
 //! The one command.
 ghost use Rattle.std.specs.Prelude.{◌≡◌, false, IfOk};
 ghost use Rattle.clap.specs.Words.{app_of, rule_of};
-ghost use Rattle.pb_line.specs.Joining.{pbcube_join, pieces, reports};
+ghost use Rattle.pb_line.specs.Joining.{pbcube_join, pieces, reports, tasks};
 
 use crate::joining::asked::MAX_PIECES;
-use crate::joining::help::{ABOUT, EXAMPLES_AND_STATUSES, LONG_ABOUT};
+use crate::joining::help::{
+    ABOUT, EXAMPLES_AND_STATUSES, LONG_ABOUT, PIECES_HELP, REPORT_HELP, TASKS_HELP,
+};
 use crate::options::{file_operand, format_option, named};
+use crate::tasks::MAX_TASKS;
 use clap::builder::ValueParser;
 use clap::{Arg, ArgAction, Command};
 use std::alloc::{AllocError, Global};
 
-/// `pbcube_join [--format FORMAT] --pieces N FILE [REPORT]...`
+/// `pbcube_join [--format FORMAT] [--pieces N | --tasks T] FILE [REPORT]...`
 pub fn command<'a>(alloc: Global) -> Result<Command<'a>, AllocError>
     ensures { IfOk result (λ command. app_of command ≡ pbcube_join) }
 {
@@ -27,6 +30,7 @@ pub fn command<'a>(alloc: Global) -> Result<Command<'a>, AllocError>
             "How FILE and the reports are written: opb, cnf or icnf",
         ))?
         .arg(pieces_option(alloc))?
+        .arg(tasks_option(alloc))?
         .arg(file_operand(alloc, "The file that holds the whole instance"))?
         .arg(report_operands(alloc))?;
     Ok(command)
@@ -39,10 +43,21 @@ fn pieces_option<'a>(alloc: Global) -> Arg<'a>
 {
     Arg::new(alloc, "pieces")
         .long("pieces")
-        .required(true)
         .value_name("N")
-        .help("The number of pieces, which are numbered from 0, 1 to 1048576")
+        .help(PIECES_HELP)
         .value_parser(ValueParser::Unsigned(1, MAX_PIECES))
+}
+
+// `--tasks T`
+fn tasks_option<'a>(alloc: Global) -> Arg<'a>
+    ensures rule { rule_of result ≡ tasks }
+    ensures local { result.global ≡ false }
+{
+    Arg::new(alloc, "tasks")
+        .long("tasks")
+        .value_name("T")
+        .help(TASKS_HELP)
+        .value_parser(ValueParser::Unsigned(1, MAX_TASKS))
 }
 
 // `REPORT...`
@@ -54,7 +69,5 @@ fn report_operands<'a>(alloc: Global) -> Arg<'a>
         .value_name("REPORT")
         .action(ArgAction::Append)
         .num_args(0..)
-        .help(
-            "A report, or a folder of files NUMBER.report; its piece's number ends the name before its last dot",
-        )
+        .help(REPORT_HELP)
 }

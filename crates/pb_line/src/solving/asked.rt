@@ -2,9 +2,6 @@
 use pb_inst::Workers;
 use pb_read::Format;
 
-/// The most decisions in each piece that a command line may allow.
-pub const MAX_NODES: u64 = 1_000_000_000;
-
 /// What the words of the command line ask for.
 #[derive(Clone, Copy)]
 pub struct Line<'a> {

@@ -1,16 +1,16 @@
 //! The one command.
-ghost use Rattle.std.specs.Prelude.{◌≡◌, false, IfOk};
-ghost use Rattle.clap.specs.Words.{app_of, rule_of};
-ghost use Rattle.pb_line.specs.Solving.{pbcube, workers, nodes};
+ghost use Rattle.std.specs.Prelude.{◌≡◌, IfOk};
+ghost use Rattle.clap.specs.Words.{app_of};
+ghost use Rattle.pb_line.specs.Solving.{pbcube};
 
-use crate::options::{cubes_option, file_operand, format_option, named, split_option};
-use crate::solving::asked::MAX_NODES;
-use crate::solving::help::{
-    ABOUT, CUBES_HELP, EXAMPLES_AND_STATUSES, FILE_HELP, FORMAT_HELP, LONG_ABOUT, SPLIT_HELP,
+use crate::options::{
+    cubes_option, file_operand, format_option, named, nodes_option, split_option, workers_option,
 };
-use clap::builder::ValueParser;
-use clap::{Arg, Command};
-use pb_inst::MAX_WORKERS;
+use crate::solving::help::{
+    ABOUT, CUBES_HELP, EXAMPLES_AND_STATUSES, FILE_HELP, FORMAT_HELP, LONG_ABOUT, NODES_HELP,
+    SPLIT_HELP, WORKERS_HELP,
+};
+use clap::Command;
 use std::alloc::{AllocError, Global};
 
 /// `pbcube [--format FORMAT] [--workers W] [--split K] [--cubes FILE] [--nodes B] FILE`
@@ -20,35 +20,10 @@ pub fn command<'a>(alloc: Global) -> Result<Command<'a>, AllocError>
     let whole = named(alloc, "pbcube", ABOUT, LONG_ABOUT, EXAMPLES_AND_STATUSES);
     let command = whole
         .arg(format_option(alloc, FORMAT_HELP))?
-        .arg(workers_option(alloc))?
+        .arg(workers_option(alloc, WORKERS_HELP))?
         .arg(split_option(alloc, SPLIT_HELP))?
         .arg(cubes_option(alloc, CUBES_HELP))?
-        .arg(nodes_option(alloc))?
+        .arg(nodes_option(alloc, NODES_HELP))?
         .arg(file_operand(alloc, FILE_HELP))?;
     Ok(command)
-}
-
-// `--workers W`
-fn workers_option<'a>(alloc: Global) -> Arg<'a>
-    ensures rule { rule_of result ≡ workers }
-    ensures local { result.global ≡ false }
-{
-    Arg::new(alloc, "workers")
-        .long("workers")
-        .default_value("1")
-        .value_name("W")
-        .help("Workers, 1 to 64: the threads that share the work")
-        .value_parser(ValueParser::Unsigned(1, u64::from(MAX_WORKERS)))
-}
-
-// `--nodes B`
-fn nodes_option<'a>(alloc: Global) -> Arg<'a>
-    ensures rule { rule_of result ≡ nodes }
-    ensures local { result.global ≡ false }
-{
-    Arg::new(alloc, "nodes")
-        .long("nodes")
-        .value_name("B")
-        .help("Make at most B decisions in each piece, 0 to 1000000000; no limit by default")
-        .value_parser(ValueParser::Unsigned(0, MAX_NODES))
 }

@@ -13,12 +13,19 @@ assignment, or that nothing is feasible, or which fault the input has.";
 /// What help says of `--format`.
 pub const FORMAT_HELP: &str = "How FILE is written: opb, cnf or icnf";
 
+/// What help says of `--workers`.
+pub const WORKERS_HELP: &str = "Workers, 1 to 64: the threads that share the work";
+
 /// What help says of `--split`.
 pub const SPLIT_HELP: &str = "Divide the work by the K most frequent variables, 0 to 12";
 
 /// What help says of `--cubes`.
 pub const CUBES_HELP: &str =
     "A file of cubes that divide the work, lines `a LITERALS 0`; none by default";
+
+/// What help says of `--nodes`.
+pub const NODES_HELP: &str =
+    "Make at most B decisions in each piece, 0 to 1000000000; no limit by default";
 
 /// What help says of FILE.
 pub const FILE_HELP: &str = "The file that holds the instance";

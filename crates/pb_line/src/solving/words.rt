@@ -1,16 +1,14 @@
 //! From the words to what they ask for.
-ghost use Rattle.std.specs.Prelude.{◌≡◌, ◌≤◌, map, IfErr, IfOk, IfSome, IsNone, SomeIff, []};
-ghost use Rattle.pb_inst.specs.declared.TheConstants.{MAX_WORKERS};
+ghost use Rattle.std.specs.Prelude.{◌≡◌, map, IfErr, IfOk, IfSome, IsNone, []};
 ghost use Rattle.clap.specs.Words.{fault_of, found_of, kind_of, matches_of, rows_of};
 ghost use Rattle.pb_line.specs.Ends.{MayFailBy};
 ghost use Rattle.pb_line.specs.Solving.{HasNoLine, IsLineOf, pbcube};
 
 use crate::lines::{CommandLine, read_line};
-use crate::matched::{format_asked, number_if_given, number_of, text_of};
+use crate::matched::{format_asked, number_if_given, number_of, text_of, workers_of};
 use crate::solving::asked::Line;
 use crate::solving::command::command;
 use clap::{ArgMatches, Command, Error};
-use pb_inst::Workers;
 use std::alloc::{AllocError, Global};
 
 /// Reads the words, the program's name first. Fails where clap refuses them, where they ask for help or the version, where the
@@ -53,11 +51,4 @@ fn line_of<'a>(matches: &ArgMatches<'a>) -> Option<Line<'a>>
         split: number_of(matches, "split")?,
         nodes: number_if_given(matches, "nodes")?,
     })
-}
-
-// So many workers, from 1 to `MAX_WORKERS`.
-fn workers_of(count: u32) -> Option<Workers>
-    ensures { SomeIff result ((1 ≤ count) × (count ≤ MAX_WORKERS)) count }
-{
-    Workers::new(count).ok()
 }

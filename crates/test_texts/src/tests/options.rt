@@ -2,7 +2,7 @@
 
 use clap::Command;
 use pb_line::{
-    cubes_option, file_operand, format_of, format_option, named, split_option, words_of,
+    cubes_option, file_operand, format_of, format_option, joining, named, split_option, words_of,
 };
 use pb_read::Format;
 use std::alloc::Global;
@@ -104,5 +104,27 @@ fn words_are_the_texts(rt: HostRuntime) -> Result<(), Fail> {
     }
     let words = words_of(alloc, &texts)?;
     assert!(rt; words.as_slice() == ["tool", "", "instance"].as_slice());
+    Ok(())
+}
+
+/// The number of pieces that the words of `pbcube_join` ask for, or the text that they end with.
+fn pieces_asked(alloc: Global, words: &'static [&'static str]) -> Result<String, Fail> {
+    match joining::line(alloc, words) {
+        Ok(line) => Ok(format!(in alloc; "{:?}", line.pieces)?),
+        Err(fault) => Ok(format!(in alloc; "{fault}")?),
+    }
+}
+
+#[test]
+fn a_number_of_pieces_may_be_left_out(rt: HostRuntime) -> Result<(), Fail> {
+    let told = pieces_asked(
+        rt.alloc(),
+        &["pbcube_join", "--pieces", "1048576", "instance", "folder"],
+    )?;
+    assert!(rt; told.as_str() == "Some(1048576)", "{told}");
+    let untold = pieces_asked(rt.alloc(), &["pbcube_join", "instance", "folder"])?;
+    assert!(rt; untold.as_str() == "None", "{untold}");
+    let none = pieces_asked(rt.alloc(), &["pbcube_join", "--pieces", "0", "instance"])?;
+    assert!(rt; none.as_str().contains("0 is not in 1..=1048576"), "{none}");
     Ok(())
 }

@@ -1,7 +1,7 @@
 use Rattle.std.proofs.Common.{rules, ◌≡◌, ◌∙◌, ap, Some}
 use Rattle.pb_inst.specs.declared.TheConstants.{MAX_WORKERS}
 use Rattle.clap.specs.declared.builder.ValueParser.TheVariants as parser
-use Rattle.pb_line.proofs.solving.command.workers_option.Goals as goal
+use Rattle.pb_line.proofs.options.workers_option.Goals as goal
 
 pub returns-clause-rule : goal.returns-clause-rule
 returns-clause-rule c =

@@ -1,7 +1,7 @@
 use Rattle.std.proofs.Common.{rules, ◌≡◌, ◌∙◌, ap, Some}
 use Rattle.clap.specs.declared.builder.ValueParser.TheVariants as parser
-use Rattle.pb_line.specs.declared.solving.asked.TheConstants.{MAX_NODES}
-use Rattle.pb_line.proofs.solving.command.nodes_option.Goals as goal
+use Rattle.pb_line.specs.declared.options.TheConstants.{MAX_NODES}
+use Rattle.pb_line.proofs.options.nodes_option.Goals as goal
 
 pub returns-clause-rule : goal.returns-clause-rule
 returns-clause-rule c =

@@ -1,0 +1,424 @@
+//! What an exchange reads and writes, and when, over a place of the tests' own that notes the calls.
+ghost use Rattle.std.specs.Prelude.{◌≤◌, length};
+
+use crate::tests::note_texts::{DIGEST, assignment, below_first_line, bits_of, note};
+use pb_inst::{Assignment, Memory, Number};
+use pb_notes::{Exchange, LOOKS_APART, Notes};
+use std::alloc::Global;
+use std::cell::{Cell, RefCell};
+use std::io::{self, Error, ErrorKind};
+use std::test::Fail;
+
+/// The variables of all notes.
+const VARS: u32 = 4;
+
+/// The task whose exchange is tested.
+const TASK: u32 = 1;
+
+/// Three notes, empty where there is none, and the calls so far: `r0` for a read of task 0, `w` for a write, and `!` where a
+/// fault was told.
+#[derive(Drop)]
+struct Shelf {
+    notes: [RefCell<Vec<u8>>; 3],
+    calls: RefCell<Vec<u8>>,
+    fails: Cell<bool>,
+}
+
+impl Shelf {
+    fn new(alloc: Global) -> Shelf {
+        Shelf {
+            notes: [
+                RefCell::new(Vec::new(alloc)),
+                RefCell::new(Vec::new(alloc)),
+                RefCell::new(Vec::new(alloc)),
+            ],
+            calls: RefCell::new(Vec::new(alloc)),
+            fails: Cell::new(false),
+        }
+    }
+
+    /// Puts a text in the place of a task's note.
+    fn put(&self, task: u32, text: &[u8]) {
+        if let Some(note) = self.notes.get(task as usize)
+            && let Ok(mut note) = note.try_borrow_mut()
+        {
+            note.clear();
+            let _ = note.extend_from_slice(text);
+        }
+    }
+
+    /// Whether this is the note of a task.
+    fn has(&self, task: u32, text: &[u8]) -> bool {
+        let Some(note) = self.notes.get(task as usize) else {
+            return false;
+        };
+        match note.try_borrow() {
+            Ok(note) => note.as_slice() == text,
+            Err(_) => false,
+        }
+    }
+
+    fn call(&self, what: &[u8]) {
+        if let Ok(mut calls) = self.calls.try_borrow_mut() {
+            let _ = calls.extend_from_slice(what);
+        }
+    }
+
+    /// Whether these were the calls since this was asked last.
+    fn had_calls(&self, expected: &[u8]) -> bool {
+        let Ok(mut calls) = self.calls.try_borrow_mut() else {
+            return false;
+        };
+        let is_so = calls.as_slice() == expected;
+        calls.clear();
+        is_so
+    }
+}
+
+/// Copies as many bytes as there is room for, and answers how many these are.
+fn copy(text: &[u8], room: &mut [u8]) -> usize
+    ensures { result ≤ length room.new }
+{
+    let len = text.len().min(room.len());
+    room[..len].copy_from_slice(&text[..len]);
+    len
+}
+
+impl Notes for Shelf {
+    fn read(&self, task: u32, room: &mut [u8]) -> io::Result<Option<usize>> {
+        self.call(match task {
+            0 => b"r0",
+            1 => b"r1",
+            2 => b"r2",
+            _ => b"r?",
+        });
+        if self.fails.get() {
+            return Err(Error::from(ErrorKind::Other));
+        }
+        let Some(note) = self.notes.get(task as usize) else {
+            return Ok(None);
+        };
+        match note.try_borrow() {
+            Ok(note) if !note.is_empty() => Ok(Some(copy(&note, room))),
+            _ => Ok(None),
+        }
+    }
+
+    fn write(&self, _worker: u32, text: &[u8]) -> io::Result<()> {
+        self.call(b"w");
+        if self.fails.get() {
+            return Err(Error::from(ErrorKind::Other));
+        }
+        self.put(TASK, text);
+        Ok(())
+    }
+
+    fn tell(&self, _fault: &io::Error) {
+        self.call(b"!");
+    }
+}
+
+/// What happens to an exchange, or what is asked of the place.
+#[derive(Clone, Copy)]
+enum Move {
+    /// A task's note tells this cost, and values of these bits.
+    Put(u32, Number, u64),
+    /// A task's note has this text below its first line.
+    PutText(u32, &'static [u8]),
+    /// The search found an assignment.
+    Offer(Number, u64),
+    /// A call while the best assignment of the search has this cost, which lends these bits or nothing.
+    Borrow(Number, Option<u64>),
+    /// All calls before the next look. They lend nothing.
+    Pause(Number),
+    /// The place has a fault from now on, or has none.
+    Fail(bool),
+    Close,
+    /// These were the calls of the place since the last such move.
+    Calls(&'static [u8]),
+    /// A task's note is this one.
+    Note(u32, Number, u64),
+}
+
+/// What a call of `borrow` lends.
+fn lent(
+    alloc: Global,
+    exchange: &mut Exchange<'_, Shelf>,
+    below: Number,
+) -> Result<Option<u64>, Memory> {
+    let mut values = Assignment::new(alloc, VARS)?;
+    if exchange.borrow(below, &mut values) {
+        Ok(Some(bits_of(&values)))
+    } else {
+        Ok(None)
+    }
+}
+
+/// Whether none of the calls before the next look lends anything.
+fn is_quiet(
+    alloc: Global,
+    exchange: &mut Exchange<'_, Shelf>,
+    below: Number,
+) -> Result<bool, Memory> {
+    let mut is_quiet = true;
+    for _ in 1..LOOKS_APART {
+        is_quiet &= lent(alloc, exchange, below)?.is_none();
+    }
+    Ok(is_quiet)
+}
+
+/// Makes a move, and answers whether it went as it says.
+fn makes(
+    alloc: Global,
+    exchange: &mut Exchange<'_, Shelf>,
+    shelf: &Shelf,
+    step: Move,
+) -> Result<bool, Memory> {
+    match step {
+        Move::Put(task, cost, bits) => shelf.put(task, &note(alloc, cost, VARS, bits)?),
+        Move::PutText(task, text) => shelf.put(task, &below_first_line(alloc, text)?),
+        Move::Offer(cost, bits) => exchange.offer(cost, &assignment(alloc, VARS, bits)?),
+        Move::Borrow(below, bits) => return Ok(lent(alloc, exchange, below)? == bits),
+        Move::Pause(below) => return is_quiet(alloc, exchange, below),
+        Move::Fail(fails) => shelf.fails.set(fails),
+        Move::Close => exchange.close(),
+        Move::Calls(calls) => return Ok(shelf.had_calls(calls)),
+        Move::Note(task, cost, bits) => {
+            return Ok(shelf.has(task, &note(alloc, cost, VARS, bits)?));
+        }
+    }
+    Ok(true)
+}
+
+/// The place of the first move that went otherwise than it says, in an exchange of so many tasks.
+fn first_otherwise(alloc: Global, tasks: u32, moves: &[Move]) -> Result<Option<usize>, Memory> {
+    let shelf = Shelf::new(alloc);
+    let mut exchange = Exchange::new(alloc, &shelf, DIGEST, VARS, TASK, tasks, 0)?;
+    for (place, step) in moves.iter().enumerate() {
+        if !makes(alloc, &mut exchange, &shelf, *step)? {
+            return Ok(Some(place));
+        }
+    }
+    Ok(None)
+}
+
+const SCENES: &[(&str, u32, &[Move])] = &[
+    (
+        "looks are apart, and other tasks have their turns",
+        3,
+        &[
+            Move::Borrow(100, None),
+            Move::Calls(b"r1r2r0"),
+            Move::Pause(100),
+            Move::Calls(b""),
+            Move::Borrow(100, None),
+            Move::Calls(b"r2"),
+            Move::Pause(100),
+            Move::Borrow(100, None),
+            Move::Calls(b"r0"),
+            Move::Pause(100),
+            Move::Put(2, 5, 0b1010),
+            Move::Borrow(100, Some(0b1010)),
+            Move::Calls(b"r2"),
+        ],
+    ),
+    (
+        "the first look is at the task's own note",
+        3,
+        &[
+            Move::Put(1, 5, 0b0001),
+            Move::Put(2, 3, 0b0010),
+            Move::Borrow(100, Some(0b0001)),
+            Move::Calls(b"r1"),
+            Move::Pause(5),
+            Move::Borrow(5, Some(0b0010)),
+            Move::Calls(b"r1r2"),
+        ],
+    ),
+    (
+        "the first look goes on where there is no note",
+        3,
+        &[
+            Move::PutText(1, b"cost 5\nvalues 0\n"),
+            Move::Put(0, 3, 0b0010),
+            Move::Borrow(100, Some(0b0010)),
+            Move::Calls(b"r1r2r0"),
+        ],
+    ),
+    (
+        "the first look ends at a note that is too dear",
+        3,
+        &[
+            Move::Put(1, 5, 0b0001),
+            Move::Put(2, 3, 0b0010),
+            Move::Borrow(5, None),
+            Move::Calls(b"r1"),
+        ],
+    ),
+    (
+        "what is found is written at the next look",
+        3,
+        &[
+            Move::Borrow(100, None),
+            Move::Calls(b"r1r2r0"),
+            Move::Offer(9, 0b0100),
+            Move::Offer(7, 0b1000),
+            Move::Offer(8, 0b0001),
+            Move::Pause(7),
+            Move::Calls(b""),
+            Move::Borrow(7, None),
+            Move::Calls(b"r1wr2"),
+            Move::Note(1, 7, 0b1000),
+            Move::Offer(7, 0b0001),
+            Move::Offer(-2, 0b0011),
+            Move::Close,
+            Move::Calls(b"r1w"),
+            Move::Note(1, -2, 0b0011),
+            Move::Close,
+            Move::Calls(b""),
+        ],
+    ),
+    (
+        "what is taken over is passed on",
+        3,
+        &[
+            Move::Put(2, 5, 0b1010),
+            Move::Borrow(100, Some(0b1010)),
+            Move::Calls(b"r1r2"),
+            Move::Pause(5),
+            Move::Borrow(5, None),
+            Move::Calls(b"r1wr0"),
+            Move::Note(1, 5, 0b1010),
+            Move::Pause(5),
+            Move::Borrow(5, None),
+            Move::Calls(b"r2"),
+        ],
+    ),
+    (
+        "what was not as it was told is not passed on",
+        3,
+        &[
+            Move::Put(2, -99, 0b1010),
+            Move::Borrow(100, Some(0b1010)),
+            Move::Pause(100),
+            Move::Offer(7, 0b0001),
+            Move::Calls(b"r1r2"),
+            Move::Borrow(7, None),
+            Move::Calls(b"r1wr0"),
+            Move::Note(1, 7, 0b0001),
+        ],
+    ),
+    (
+        "an own note that was not as it was told is written over",
+        3,
+        &[
+            Move::Put(1, -99, 0b1010),
+            Move::Borrow(100, Some(0b1010)),
+            Move::Calls(b"r1"),
+            Move::Pause(100),
+            Move::Offer(7, 0b0001),
+            Move::Borrow(7, None),
+            Move::Calls(b"wr2"),
+            Move::Note(1, 7, 0b0001),
+        ],
+    ),
+    (
+        "a better note of another worker of the task stays",
+        3,
+        &[
+            Move::Borrow(100, None),
+            Move::Calls(b"r1r2r0"),
+            Move::Put(1, 3, 0b0011),
+            Move::Offer(7, 0b0001),
+            Move::Close,
+            Move::Calls(b"r1"),
+            Move::Note(1, 3, 0b0011),
+            Move::Offer(4, 0b0001),
+            Move::Close,
+            Move::Calls(b""),
+            Move::Offer(2, 0b0001),
+            Move::Close,
+            Move::Calls(b"r1w"),
+            Move::Note(1, 2, 0b0001),
+        ],
+    ),
+    (
+        "texts that are no notes are passed over",
+        3,
+        &[
+            Move::Borrow(100, None),
+            Move::PutText(2, b"cost 5\nvalues 01100\n"),
+            Move::PutText(
+                0,
+                b"cost 5\nvalues 0110\nand more than there is room for, since a cost may have forty digits\n",
+            ),
+            Move::Pause(100),
+            Move::Borrow(100, None),
+            Move::Pause(100),
+            Move::Borrow(100, None),
+            Move::Calls(b"r1r2r0r2r0"),
+        ],
+    ),
+    (
+        "faults are told, and later looks try again",
+        3,
+        &[
+            Move::Fail(true),
+            Move::Borrow(100, None),
+            Move::Calls(b"r1!"),
+            Move::Offer(7, 0b0001),
+            Move::Pause(7),
+            Move::Borrow(7, None),
+            Move::Calls(b"r1!w!r2!"),
+            Move::Fail(false),
+            Move::Pause(7),
+            Move::Put(0, 3, 0b0011),
+            Move::Borrow(7, Some(0b0011)),
+            Move::Calls(b"r1wr0"),
+            Move::Note(1, 7, 0b0001),
+        ],
+    ),
+    (
+        "one task alone reads its own note",
+        1,
+        &[
+            Move::Put(1, 5, 0b0001),
+            Move::Borrow(100, Some(0b0001)),
+            Move::Pause(5),
+            Move::Borrow(5, None),
+            Move::Offer(3, 0b0001),
+            Move::Pause(3),
+            Move::Borrow(3, None),
+            Move::Calls(b"r1r1r1w"),
+            Move::Note(1, 3, 0b0001),
+        ],
+    ),
+    (
+        "no task at all reads its own note",
+        0,
+        &[Move::Borrow(100, None), Move::Calls(b"r1")],
+    ),
+];
+
+#[test]
+fn exchanges_go_as_told(rt: HostRuntime) -> Result<(), Fail> {
+    for (name, tasks, moves) in SCENES {
+        let otherwise = first_otherwise(rt.alloc(), *tasks, *moves)?;
+        assert!(rt; otherwise.is_none(), "{name}: {otherwise:?}");
+    }
+    Ok(())
+}
+
+#[test]
+fn other_lengths_are_passed_over(rt: HostRuntime) -> Result<(), Fail> {
+    let shelf = Shelf::new(rt.alloc());
+    shelf.put(TASK, &note(rt.alloc(), 5, VARS, 0b0110)?);
+    let mut exchange = Exchange::new(rt.alloc(), &shelf, DIGEST, VARS, TASK, 3, 0)?;
+    let mut other = assignment(rt.alloc(), VARS + 1, 0b1_0000)?;
+    let answer = exchange.borrow(100, &mut other);
+    assert!(rt; !answer && bits_of(&other) == 0b1_0000);
+    exchange.offer(3, &other);
+    exchange.close();
+    assert!(rt; shelf.had_calls(b""));
+    Ok(())
+}
