@@ -1,3 +1,4 @@
+pub mod Dividing
 pub mod Names
 pub mod Reading
 pub mod Texts

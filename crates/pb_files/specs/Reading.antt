@@ -1,16 +1,21 @@
 -- What is read, and from which files.
-use Rattle.std.specs.Prelude.{◌≡◌, ℕ, ◌-◌, List, [], ◌∷◌, ◌++◌, length, map, drop, filter, codes, nat_eq, Bool, Option, None, Some, IsPermutation, IsSomeAnd, Ok}
+use Rattle.std.specs.Prelude.{◌≡◌, ◌≢◌, ℕ, ◌-◌, List, [], ◌∷◌, ◌++◌, length, map, drop, filter, codes, nat_eq, Bool, Option, None, Some, IfSome, IsNone, IsPermutation, IsSomeAnd, Ok}
 use Rattle.std.specs.Char.{is_ascii_digit}
 use Rattle.std.specs.List.{ends_with, suffix_len}
 use Rattle.std.specs.Path.{path_file_stem}
 use Rattle.std.specs.Str.Parse.{ParsesUnsigned}
 use Rattle.std.specs.declared.num.ParseIntError.{ParseIntError}
+use Rattle.hex.specs.Hex.{encode_lower}
+use Rattle.sha2.specs.Sha256.{sha256}
 use Rattle.pb_files.specs.Texts.{Text}
+use Rattle.pb_files.specs.Writing.{index_lines}
 use Rattle.pb_inst.specs.Literal.{Literal}
 use Rattle.pb_inst.specs.Problem.{Problem}
 use Rattle.pb_read.specs.Format.{Spells}
 use Rattle.pb_read.specs.declared.format.Format.{Format}
 use Rattle.pb_report.specs.Report.{Claims}
+use Rattle.pb_parts.specs.Parts.{IsPartReport}
+use Rattle.pb_parts.specs.declared.parts.PartReport.{PartReport}
 use Rattle.pb_join.specs.declared.reports.PieceReport.{PieceReport}
 
 -- the digits that end the text
@@ -26,31 +31,59 @@ pub record IsReportOf (format : Format) (vars : ℕ) (name text : Text) (report 
   pub number : IsNumberOf name report.number
   pub claim : Claims format vars text report.claim
 
--- the files of these names are read one after the other, and each of them has the report at its place
+-- the files of these names are read one after the other, and each of them has the report at its place, which a file of this name
+-- and this text has
+abbrev pub ReadsEach : {F : Type 0} {R : Type 0} → (F → Text → List ℕ → F → Type 0) → (Text → Text → R → Type 0) → List Text → List R → F → F → Type 0
+ReadsEach reads Has [] [] old new = new ≡ old
+ReadsEach {F} reads Has (name ∷ names) (report ∷ reports) old new =
+    (text : List ℕ) × (between : F) × reads old name text between × Has name text report × ReadsEach reads Has names reports between new
+ReadsEach reads Has _ _ old new = ⊥
+
+-- the reports of pieces are those of these files
 abbrev pub ReadsReports : {F : Type 0} → (F → Text → List ℕ → F → Type 0) → Format → ℕ → List Text → List PieceReport → F → F → Type 0
-ReadsReports reads format vars [] [] old new = new ≡ old
-ReadsReports {F} reads format vars (name ∷ names) (report ∷ reports) old new =
-    (text : List ℕ) × (between : F) × reads old name text between × IsReportOf format vars name text report × ReadsReports reads format vars names reports between new
-ReadsReports reads format vars _ _ old new = ⊥
+ReadsReports reads format vars = ReadsEach reads (IsReportOf format vars)
+
+-- the reports of parts are those of these files, whatever the names are
+abbrev pub ReadsParts : {F : Type 0} → (F → Text → List ℕ → F → Type 0) → Format → ℕ → List Text → List PartReport → F → F → Type 0
+ReadsParts reads format vars = ReadsEach reads (λ name text part. IsPartReport format vars text part)
 
 abbrev pub is_report_name : Text → Bool
 is_report_name name = ends_with nat_eq name (codes ".report")
 
--- an operand that is no folder is the file of a report; of a folder those files are that end in `.report`
-abbrev pub IsNamedBy : Text → Option (List Text) → List Text → Type 0
-IsNamedBy operand None names = names ≡ operand ∷ []
-IsNamedBy operand (Some found) names = IsPermutation (filter is_report_name found) names
+-- the file of this name in a folder is its index
+abbrev pub is_index_name : Text → Bool
+is_index_name name = ends_with nat_eq name (codes "/index")
 
--- the operands are looked at one after the other, and these files are those that they name
-abbrev pub ListsReports : {F : Type 0} → (F → Text → Option (List Text) → F → Type 0) → List Text → List Text → F → F → Type 0
-ListsReports lists [] names old new = (names ≡ []) × (new ≡ old)
-ListsReports {F} lists (operand ∷ operands) names old new =
-    (found : Option (List Text)) × (first : List Text) × (rest : List Text) × (between : F)
-    × lists old operand found between × IsNamedBy operand found first × (names ≡ first ++ rest) × ListsReports lists operands rest between new
+-- An operand that is no folder is the file of a report, and there is no index. Of a folder those files are reports that end in
+-- `.report`, and its index is there where it has one.
+abbrev pub AreNamedBy : Text → Option (List Text) → List Text → List Text → Type 0
+AreNamedBy operand None reports indexes = (reports ≡ operand ∷ []) × (indexes ≡ [])
+AreNamedBy operand (Some found) reports indexes = IsPermutation (filter is_report_name found) reports × (indexes ≡ filter is_index_name found)
 
--- the file of this name is read, and its text is that of the instance
-pub record ReadsInstance {F : Type 0} (reads : F → Text → List ℕ → F → Type 0) (format : Format) (name : Text) (p : Problem) (old new : F) : Type 0 where
+-- the operands are looked at one after the other, and these files of reports and these indexes are those that they name
+abbrev pub ListsFiles : {F : Type 0} → (F → Text → Option (List Text) → F → Type 0) → List Text → List Text → List Text → F → F → Type 0
+ListsFiles lists [] reports indexes old new = (reports ≡ []) × (indexes ≡ []) × (new ≡ old)
+ListsFiles {F} lists (operand ∷ operands) reports indexes old new =
+    (found : Option (List Text)) × (first : List Text) × (rest : List Text) × (first_index : List Text) × (rest_indexes : List Text) × (between : F)
+    × lists old operand found between × AreNamedBy operand found first first_index
+    × (reports ≡ first ++ rest) × (indexes ≡ first_index ++ rest_indexes) × ListsFiles lists operands rest rest_indexes between new
+
+-- the file of this name is read, and its text, which has this digest, is that of the instance
+pub record ReadsInstance {F : Type 0} (reads : F → Text → List ℕ → F → Type 0) (format : Format) (name : Text) (p : Problem) (digest : List ℕ) (old new : F) : Type 0 where
   pub text : List ℕ
   pub read : reads old name text new
   pub cubes : List (List Literal)
   pub spelled : Spells format text p cubes
+  pub digest_is : digest ≡ sha256 text
+
+-- the files of these names are read one after the other, and each of them has this text
+abbrev pub ReadsSame : {F : Type 0} → (F → Text → List ℕ → F → Type 0) → Text → List Text → F → F → Type 0
+ReadsSame reads text [] old new = new ≡ old
+ReadsSame {F} reads text (name ∷ names) old new = (between : F) × reads old name text between × ReadsSame reads text names between new
+
+-- There are as many pieces as are asked for, where a number is; else there is an index. Each index is read, and is that of so many
+-- pieces of an instance in this format, of so many variables, whose text has this digest.
+pub record CountsPieces {F : Type 0} (reads : F → Text → List ℕ → F → Type 0) (format : Format) (vars : ℕ) (digest : List ℕ) (asked : Option ℕ) (indexes : List Text) (pieces : ℕ) (old new : F) : Type 0 where
+  pub asked_for : IfSome asked (λ n. pieces ≡ n)
+  pub told : IsNone asked → indexes ≢ []
+  pub read : ReadsSame reads (index_lines format pieces vars (encode_lower digest)) indexes old new

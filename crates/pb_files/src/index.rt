@@ -1,6 +1,7 @@
 //! The index of the pieces.
-ghost use Rattle.std.specs.Prelude.{◌≡◌, ◌-◌, ◌≤◌, OnOk};
+ghost use Rattle.std.specs.Prelude.{◌≡◌, ◌-◌, ◌≤◌, IfOk, OnOk};
 ghost use Rattle.std.specs.Io.KnownBytes.{Appends};
+ghost use Rattle.hex.specs.Hex.{encode_lower};
 ghost use Rattle.pb_files.specs.Names.{written_name};
 ghost use Rattle.pb_files.specs.Writing.{index_lines, name_lines};
 
@@ -12,20 +13,43 @@ use std::io::{self, Write};
 
 /// What the index tells of all pieces.
 #[derive(Clone, Copy)]
-pub struct Index<'a> {
+struct Index<'a> {
     /// How the instance was written.
-    pub format: Format,
+    format: Format,
     /// The number of pieces, at least 1.
-    pub pieces: u32,
+    pieces: u32,
     /// The number of variables.
-    pub vars: u32,
+    vars: u32,
     /// The digest of the instance's text, as hex digits.
-    pub digest: &'a str,
+    digest: &'a str,
+}
+
+/// The text of the index of so many pieces of an instance in this format, of so many variables, whose text has this digest.
+/// Fails for want of memory alone.
+pub fn index_of(
+    alloc: Global,
+    format: Format,
+    pieces: u32,
+    vars: u32,
+    digest: [u8; 32],
+) -> io::Result<Vec<u8>>
+    ensures { IfOk result (λ text. text.items ≡ index_lines format pieces vars (encode_lower digest)) }
+{
+    let digest = hex::encode(alloc, digest)?;
+    let told = Index {
+        format,
+        pieces,
+        vars,
+        digest: &digest,
+    };
+    let mut text = Vec::new(alloc);
+    write_index(alloc, &mut text, &told)?;
+    Ok(text)
 }
 
 /// Writes the index: the number of pieces, the format in which they are written, the number of variables, the digest of the
 /// instance's text, and the pieces' names in order, each on a line.
-pub fn write_index<W: Write>(alloc: Global, out: &mut W, index: &Index<'_>) -> io::Result<()>
+fn write_index<W: Write>(alloc: Global, out: &mut W, index: &Index<'_>) -> io::Result<()>
     ensures { OnOk result (Appends (W.contents out.old) (W.contents out.new) (index_lines index.now.format index.now.pieces index.now.vars index.now.digest.now)) }
 {
     writeln!(out, "pieces {}", index.pieces)?;

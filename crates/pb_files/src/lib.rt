@@ -1,22 +1,33 @@
-//! The pieces of an instance in files, with an index (`pieces`), and reports of pieces in files (`reports`).
+//! An instance and its pieces from files (`dividing`), pieces in files, with an index (`pieces`), and reports of pieces (`reports`) and
+//! of parts (`parts`) in files.
 #![tactic(auto)]
 
+mod counting;
+mod dividing;
+mod dividing_fault;
 mod files;
 mod folders;
 mod index;
 mod listing;
+mod parts;
 mod piece_names;
 mod pieces;
 mod pieces_fault;
 mod prepared;
 mod reports;
 mod reports_fault;
+mod whole;
 
+pub use counting::count_pieces;
+pub use dividing::prepare;
+pub use dividing_fault::DivisionFault;
 pub use files::Files;
 pub use folders::Folders;
-pub use listing::report_names;
+pub use listing::{Named, named_files};
+pub use parts::{PartReports, read_parts};
 pub use pieces::write_pieces;
 pub use pieces_fault::PiecesFault;
 pub use prepared::Prepared;
 pub use reports::{Reports, read_instance, read_reports};
-pub use reports_fault::{Refusal, ReportsFault};
+pub use reports_fault::{IndexFault, Refusal, ReportsFault};
+pub use whole::Whole;

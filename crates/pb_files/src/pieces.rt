@@ -6,7 +6,7 @@ ghost use Rattle.pb_write.specs.Written.{written_format};
 ghost use Rattle.pb_files.specs.Writing.{MakesRoom, WritesDivided, WritesPieces, index_text};
 
 use crate::folders::Folders;
-use crate::index::{Index, write_index};
+use crate::index::index_of;
 use crate::piece_names::{INDEX, path, piece_name};
 use crate::pieces_fault::PiecesFault;
 use crate::prepared::Prepared;
@@ -110,16 +110,9 @@ fn put_index<'a, F: Folders>(
 ) -> Result<(), PiecesFault<'a>>
     ensures { OnOk result (F.writes folders.old (string_bytes file) (index_text format prepared.now.pieces.cubes prepared.now.instance.vars prepared.now.digest) folders.new) }
 {
-    let digest = hex::encode(alloc, prepared.digest)?;
-    let told = Index {
-        format: format,
-        pieces: prepared.pieces.len(),
-        vars: prepared.instance.vars(),
-        digest: &digest,
-    };
-    let mut text = Vec::new(alloc);
-    match write_index(alloc, &mut text, &told) {
-        Ok(()) => put_file(folders, file, &text),
+    let (pieces, vars) = (prepared.pieces.len(), prepared.instance.vars());
+    match index_of(alloc, format, pieces, vars, prepared.digest) {
+        Ok(text) => put_file(folders, file, &text),
         Err(error) => Err(cannot_write(file, &error)),
     }
 }

@@ -6,10 +6,11 @@ ghost use Rattle.pb_files.specs.Texts.{texts};
 use crate::files::Files;
 use crate::listing::piece_number;
 use crate::reports_fault::{Refusal, ReportsFault};
-use pb_inst::Instance;
+use crate::whole::Whole;
 use pb_join::PieceReport;
 use pb_read::{Format, ReadFault, ReadKind, read};
 use pb_report::{ReportKind, read_report};
+use sha2::{Digest, Sha256};
 use std::alloc::Global;
 use std::io::{self, ErrorKind};
 
@@ -20,14 +21,14 @@ pub struct Reports {
     pub reports: Vec<PieceReport>,
 }
 
-/// The whole instance, from the file of this name. Its own cubes are no part of it.
+/// The whole instance, from the file of this name, and the digest of its text. Its own cubes are no part of it.
 pub fn read_instance<'a, F: Files>(
     alloc: Global,
     format: Format,
     file: &'a str,
     files: &mut F,
-) -> Result<Instance, ReportsFault<'a>>
-    ensures { IfOk result (λ instance. ReadsInstance F.reads format file.now instance files.old files.new) }
+) -> Result<Whole, ReportsFault<'a>>
+    ensures { IfOk result (λ whole. ReadsInstance F.reads format file.now whole.instance whole.digest files.old files.new) }
 {
     let text = match files.read(file) {
         Ok(text) => text,
@@ -36,7 +37,10 @@ pub fn read_instance<'a, F: Files>(
     match read(alloc, format, &text) {
         Ok((instance, cubes)) => {
             drop(cubes);
-            Ok(instance)
+            Ok(Whole {
+                instance,
+                digest: Sha256::digest(text.as_slice()),
+            })
         }
         Err(fault) => Err(refusal(file, fault)),
     }
@@ -81,8 +85,8 @@ pub fn read_reports<'a, F: Files>(
     Ok(Reports { names, reports })
 }
 
-/// Why the report in the file of the name at this place was not read.
-fn fault_at<'a>(mut names: Vec<String>, place: usize, why: Unread) -> ReportsFault<'a>
+/// Why the file of the name at this place was not taken.
+pub fn fault_at<'a>(mut names: Vec<String>, place: usize, why: Unread) -> ReportsFault<'a>
     requires { place < length names.items }
 {
     match why {
@@ -91,8 +95,8 @@ fn fault_at<'a>(mut names: Vec<String>, place: usize, why: Unread) -> ReportsFau
     }
 }
 
-/// Why one report was not read.
-enum Unread {
+/// Why one file was not taken.
+pub enum Unread {
     Memory,
     Refused(Refusal),
 }
@@ -110,14 +114,21 @@ fn read_one<F: Files>(
     let Some(number) = piece_number(name) else {
         return Err(Unread::Refused(Refusal::NoNumber));
     };
-    let text = match files.read(name) {
-        Ok(text) => text,
-        Err(error) if error.kind() == ErrorKind::OutOfMemory => return Err(Unread::Memory),
-        Err(_) => return Err(Unread::Refused(Refusal::Unreadable)),
-    };
+    let text = read_file(name, files)?;
     match read_report(alloc, format, vars, &text) {
         Ok(claim) => Ok(PieceReport { number, claim }),
         Err(fault) if fault.kind == ReportKind::Memory => Err(Unread::Memory),
         Err(fault) => Err(Unread::Refused(Refusal::Faulty(fault))),
+    }
+}
+
+/// All bytes of the file of this name.
+pub fn read_file<F: Files>(name: &str, files: &mut F) -> Result<Vec<u8>, Unread>
+    ensures { IfOk result (λ text. F.reads files.old name.now text.items files.new) }
+{
+    match files.read(name) {
+        Ok(text) => Ok(text),
+        Err(error) if error.kind() == ErrorKind::OutOfMemory => Err(Unread::Memory),
+        Err(_) => Err(Unread::Refused(Refusal::Unreadable)),
     }
 }

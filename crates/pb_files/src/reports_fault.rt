@@ -1,11 +1,29 @@
 //! What keeps reports from being joined.
-use pb_join::Rejection;
+use pb_join::{PartRejection, Rejection};
+use pb_parts::PartFault;
 use pb_read::ReadFault;
 use pb_report::ReportFault;
 use std::alloc::{AllocError, AllocFailed};
 use thiserror::Error;
 
-/// Why the file of a report was not taken.
+/// Why an index is not that of the instance.
+#[derive(Clone, Copy, Debug, PartialEq, Eq, Error)]
+pub enum IndexFault {
+    /// Its first line tells no number of pieces that there may be.
+    #[error("line 1 tells no number of pieces")]
+    NoNumber,
+    /// It tells the first of these numbers of pieces, and the words or another index tell the second.
+    #[error("it is of {0} pieces, and not of {1}")]
+    OtherNumber(u32, u32),
+    /// It tells the digest of another text.
+    #[error("the instance is not the text that was cut: the digest at line 4 is another")]
+    OtherDigest,
+    /// This line, counted from 1, is not as it has to be.
+    #[error("line {0} is not that of an index of the instance")]
+    OtherLine(usize),
+}
+
+/// Why the file of a report or an index was not taken.
 #[derive(Clone, Copy, Debug, PartialEq, Eq, Error)]
 pub enum Refusal {
     /// Its name tells no piece.
@@ -20,6 +38,15 @@ pub enum Refusal {
     /// No piece can have its report.
     #[error("{0}")]
     Rejected(Rejection),
+    /// Its lines are no report of a part.
+    #[error("{0}")]
+    FaultyPart(PartFault),
+    /// No part can have its report.
+    #[error("{0}")]
+    RejectedPart(PartRejection),
+    /// It is no index of the instance.
+    #[error("{0}")]
+    Index(IndexFault),
 }
 
 /// What keeps reports from being joined, with the name of the file that it was met at.
@@ -31,9 +58,12 @@ pub enum ReportsFault<'a> {
     /// The instance is refused.
     #[error("{0}: {1}")]
     Refused(&'a str, ReadFault),
-    /// The file of a report is refused.
+    /// The file of a report or an index is refused.
     #[error("{0}: {1}")]
     Report(String, Refusal),
+    /// Neither the words nor an index tell how many pieces there are.
+    #[error("the number of pieces is told neither by --pieces nor by an index")]
+    NoNumber,
     /// Memory was refused.
     #[error("out of memory")]
     Memory,

@@ -1,18 +1,22 @@
 -- What the program writes.
-use Rattle.std.specs.Prelude.{◌≡◌, ℕ, List, Option, true}
+use Rattle.std.specs.Prelude.{◌≡◌, ◌↔◌, ℕ, List, Option, None, Some, IsTrue, true}
 use Rattle.pb_inst.specs.Literal.{Literal}
 use Rattle.pb_inst.specs.Problem.{Problem}
 use Rattle.pb_read.specs.declared.format.Format.{Format}
 use Rattle.pb_solve.specs.Run.{Answers}
 use Rattle.pb_join.specs.declared.joining.Joined.{Joined}
 use Rattle.pb_join.specs.declared.reports.PieceReport.{PieceReport}
-use Rattle.pb_join.specs.Joining.{AreFit, AreStates, TellsFirst}
+use Rattle.pb_join.specs.declared.parts.joining.JoinedParts.{JoinedParts}
+use Rattle.pb_join.specs.Joining.{AreFit, AreStates, TellsFirst, TellsFirstOf}
+use Rattle.pb_join.specs.Parts.{AreAllNamed, AreFitParts, ArePartsOf, AreTaskStates, all_found_in_parts, first_division}
 use Rattle.pb_join.specs.Pieces.{AreOfPieces}
 use Rattle.clap.specs.Words.{Text, matches_of}
+use Rattle.pb_parts.specs.declared.parts.PartReport.{PartReport}
 use Rattle.pb_report.specs.Statuses.{exit_status}
+use Rattle.pb_report.specs.declared.statuses.Status.{Status}
 use Rattle.pb_line.specs.declared.joining.asked.Line.{Line}
 use Rattle.pb_line.specs.Joining.{IsLineOf, pbcube_join}
-use Rattle.pbcube_join.specs.Reading.{ReadsFor}
+use Rattle.pbcube_join.specs.Reading.{ReadsFor, ReadsPartsFor}
 
 -- What was written tells the first assignment of these reports, which are fit reports of the instance's pieces, and of each
 -- piece it is told what became of it. It is the answer on the instance where every piece is done and each report is right.
@@ -29,14 +33,38 @@ Tells format p pieces old new joined = (reports : List PieceReport) × TellsOf f
 -- the instance and the reports are read from the files that the line names, and what was written tells of these
 pub record JoinsFiles {F : Type 0} (reads : F → Text → List ℕ → F → Type 0) (lists : F → Text → Option (List Text) → F → Type 0) (line : Line) (before after : F) (old new : Option (List ℕ)) (joined : Joined) : Type 0 where
   pub problem : Problem
+  pub pieces : ℕ
   pub reports : List PieceReport
-  pub from_files : ReadsFor reads lists line problem reports before after
-  pub tells : TellsOf line.format problem line.pieces reports old new joined
+  pub from_files : ReadsFor reads lists line problem pieces reports before after
+  pub tells : TellsOf line.format problem pieces reports old new joined
+
+-- What was written tells the first assignment of these reports, which are fit reports of the parts of this instance, and of each
+-- task it is told what became of it. It is written as the answer exactly where each piece is named as done, and it is the answer
+-- where each piece that is named as done is done.
+pub record TellsOfParts (format : Format) (p : Problem) (digest : List ℕ) (tasks : ℕ) (parts : List PartReport) (old new : Option (List ℕ)) (joined : JoinedParts) : Type 0 where
+  pub fit : AreFitParts p digest tasks parts
+  pub states : AreTaskStates tasks parts joined.states.items
+  pub first : TellsFirstOf format p (all_found_in_parts p parts) joined.whole old new joined.status
+  pub whole : IsTrue joined.whole ↔ AreAllNamed (first_division parts) parts
+  pub answer : (cubes : List (List Literal)) → ArePartsOf p cubes parts → joined.whole ≡ true → Answers format p old new joined.status
+
+-- the instance and the reports of parts are read from the files that the line names, and what was written tells of these
+pub record JoinsParts {F : Type 0} (reads : F → Text → List ℕ → F → Type 0) (lists : F → Text → Option (List Text) → F → Type 0) (line : Line) (tasks : ℕ) (before after : F) (old new : Option (List ℕ)) (joined : JoinedParts) : Type 0 where
+  pub problem : Problem
+  pub digest : List ℕ
+  pub parts : List PartReport
+  pub from_files : ReadsPartsFor reads lists line problem digest parts before after
+  pub tells : TellsOfParts line.format problem digest tasks parts old new joined
+
+-- the reports of so many tasks are joined where there is a number of them, and else those of pieces, and the report has this status
+abbrev pub JoinsLine : {F : Type 0} → (F → Text → List ℕ → F → Type 0) → (F → Text → Option (List Text) → F → Type 0) → Line → Option ℕ → F → F → Option (List ℕ) → Option (List ℕ) → Status → Type 0
+JoinsLine reads lists line None before after old new status = (joined : Joined) × JoinsFiles reads lists line before after old new joined × (status ≡ joined.status)
+JoinsLine reads lists line (Some tasks) before after old new status = (joined : JoinedParts) × JoinsParts reads lists line tasks before after old new joined × (status ≡ joined.status)
 
 -- the files of a line that has the values of the words' matches are joined, and the status is that of the report
 pub record JoinsAsAsked {F : Type 0} (reads : F → Text → List ℕ → F → Type 0) (lists : F → Text → Option (List Text) → F → Type 0) (words : List Text) (before after : F) (old new : Option (List ℕ)) (status : ℕ) : Type 0 where
   pub line : Line
   pub asked : IsLineOf (matches_of pbcube_join words) line
-  pub joined : Joined
-  pub joins : JoinsFiles reads lists line before after old new joined
-  pub ended : status ≡ exit_status joined.status
+  pub told : Status
+  pub joins : JoinsLine reads lists line line.tasks before after old new told
+  pub ended : status ≡ exit_status told

@@ -1,8 +1,9 @@
-//! `pbcube_join`: one report of the reports of an instance's pieces, from the command line.
+//! `pbcube_join`: one report of the reports of an instance's pieces, or of its parts, from the command line.
 #![tactic(auto)]
 
 ghost use Rattle.std.specs.Prelude.{◌≡◌};
 
+mod parts;
 mod running;
 
 use crate::running::{out_of_memory, program};

@@ -1,5 +1,5 @@
 //! The program over any files and any outputs.
-ghost use Rattle.std.specs.Prelude.{◌≡◌, ◌≢◌, ◌≤◌, ◌<◌, ◌⊎◌, ℕ, List, [], length, false, true, map, IfOk, IfErr};
+ghost use Rattle.std.specs.Prelude.{◌≡◌, ◌≢◌, ◌≤◌, ◌<◌, ◌⊎◌, ℕ, List, [], length, false, true, map, IfOk, IfErr, IfSome};
 ghost use Rattle.clap.specs.Words.{fault_of, kind_of};
 ghost use Rattle.pb_inst.specs.Problem.{Problem};
 ghost use Rattle.pb_join.specs.declared.faults.Rejection.{Rejection as Why};
@@ -7,19 +7,22 @@ ghost use Rattle.pb_line.specs.Ends.{EndsBy, IsShown};
 ghost use Rattle.pbcube_join.specs.Ending.{Ends};
 ghost use Rattle.pb_join.specs.declared.reports.PieceReport.{PieceReport};
 ghost use Rattle.pb_line.specs.Joining.{pbcube_join};
-ghost use Rattle.pbcube_join.specs.Joining.{JoinsAsAsked, JoinsFiles, Tells, TellsOf};
+ghost use Rattle.pbcube_join.specs.Joining.{JoinsAsAsked, JoinsFiles, JoinsLine, Tells, TellsOf};
 ghost use Rattle.pb_files.specs.Reading.{ReadsReports};
 ghost use Rattle.pb_files.specs.Texts.{texts};
 ghost use Rattle.pb_report.specs.Statuses.{IsExitStatus};
 
+use crate::parts::{join_tasks, name_tasks};
 use clap::Error;
-use pb_files::{Files, Refusal, ReportsFault, read_instance, read_reports, report_names};
+use pb_files::{
+    Files, Refusal, ReportsFault, count_pieces, named_files, read_instance, read_reports,
+};
 use pb_inst::Instance;
 use pb_join::{JoinFault, Joined, PieceState, join};
 use pb_line::joining::{Line, line};
 use pb_line::{Told, tell_fault};
 use pb_read::Format;
-use pb_solve::Device;
+use pb_solve::{Device, Status};
 use std::alloc::Global;
 use std::io::{self, Write};
 
@@ -43,11 +46,8 @@ pub fn program<'a, F: Files, W: Write, E: Write>(
         Ok(line) => line,
         Err(fault) => return end_at_line(&fault, out, err),
     };
-    match join_line(alloc, line, files, out) {
-        Ok(joined) => {
-            name_pieces(&joined.states, err);
-            joined.status.exit_status()
-        }
+    match join_asked(alloc, line, files, out, err) {
+        Ok(status) => status.exit_status(),
         Err(fault) => end_at_fault(&fault, err),
     }
 }
@@ -59,32 +59,56 @@ pub fn out_of_memory<E: Write>(err: &mut E) -> u8
     end_at_fault(&ReportsFault::Memory, err)
 }
 
-/// Reads what the line names, the instance before the reports, joins the reports and writes what they make. Where anything is
-/// refused nothing is written.
+/// Joins what the line names, the reports of tasks where it tells their number and else those of pieces, and names what is
+/// missing or was cut.
+fn join_asked<'a, F: Files, W: Write, E: Write>(
+    alloc: Global,
+    line: Line<'a>,
+    files: &mut F,
+    out: &mut Device<W>,
+    err: &mut E,
+) -> Result<Status, ReportsFault<'a>>
+    requires pieces { IfSome line.pieces (λ n. 1 ≤ n) }
+    requires out { out.old.failed ≡ false }
+    ensures joins { IfOk result (JoinsLine F.reads F.lists line.entry line.entry.tasks files.old files.new (W.contents out.old.held) (W.contents out.new.held)) }
+    ensures unwritten { IfErr result (λ fault. fault ≢ ReportsFault.CannotWrite → out.new ≡ out.old) }
+    ensures kept { IfErr result (λ fault. (out.new ≡ out.old) ⊎ (out.new.failed ≡ true)) }
+{
+    match line.tasks {
+        Some(tasks) => {
+            let end = join_tasks(alloc, line, tasks, files, out)?;
+            name_tasks(&end, err);
+            Ok(end.joined.status)
+        }
+        None => {
+            let joined = join_line(alloc, line, files, out)?;
+            name_pieces(&joined.states, err);
+            Ok(joined.status)
+        }
+    }
+}
+
+/// Reads what the line names, the instance before the indexes and those before the reports, joins the reports and writes what
+/// they make. Where anything is refused nothing is written.
 fn join_line<'a, F: Files, W: Write>(
     alloc: Global,
     line: Line<'a>,
     files: &mut F,
     out: &mut Device<W>,
 ) -> Result<Joined, ReportsFault<'a>>
-    requires pieces { 1 ≤ line.pieces }
+    requires pieces { IfSome line.pieces (λ n. 1 ≤ n) }
     requires out { out.old.failed ≡ false }
-    ensures tells { IfOk result (λ joined. (p : Problem) × Tells line.entry.format p line.entry.pieces (W.contents out.old.held) (W.contents out.new.held) joined) }
+    ensures tells { IfOk result (λ joined. (p : Problem) × (pieces : ℕ) × Tells line.entry.format p pieces (W.contents out.old.held) (W.contents out.new.held) joined) }
     ensures joins { IfOk result (JoinsFiles F.reads F.lists line.entry files.old files.new (W.contents out.old.held) (W.contents out.new.held)) }
     ensures unwritten { IfErr result (λ fault. fault ≢ ReportsFault.CannotWrite → out.new ≡ out.old) }
     ensures kept { IfErr result (λ fault. (out.new ≡ out.old) ⊎ (out.new.failed ≡ true)) }
 {
-    let instance = read_instance(alloc, line.format, line.file, files)?;
-    let names = report_names(alloc, &line.reports, files)?;
-    join_files(
-        alloc,
-        line.format,
-        &instance,
-        line.pieces,
-        names,
-        files,
-        out,
-    )
+    let format = line.format;
+    let whole = read_instance(alloc, format, line.file, files)?;
+    let named = named_files(alloc, &line.reports, files)?;
+    let pieces = count_pieces(alloc, format, &whole, line.pieces, named.indexes, files)?;
+    let instance = &whole.instance;
+    join_files(alloc, format, instance, pieces, named.reports, files, out)
 }
 
 /// Reads the reports from the files of these names, joins them and writes what they make.

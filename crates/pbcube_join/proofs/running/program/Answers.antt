@@ -36,23 +36,23 @@ of_report Unknown = inl refl
 pub returns-in-Err-clause-unwritten : goal.returns-in-Err-clause-unwritten
 returns-in-Err-clause-unwritten g c = λ accepted one. inl (c.end_at_line.ensures.kept (not_shown pbcube_join HasNoLine (map (λ (word : Bor (List ℕ)). word.now) c.args.words.now) _ c.in-Err.ensures.refused accepted))
 
-pub returns-in-Ok-join_line-clause-joined : goal.returns-in-Ok-join_line-clause-joined
-returns-in-Ok-join_line-clause-joined g c = λ accepted. inr (inr (record {
+pub returns-in-Ok-join_asked-clause-joined : goal.returns-in-Ok-join_asked-clause-joined
+returns-in-Ok-join_asked-clause-joined g c = λ accepted. inr (inr (record {
   line = c.in-Ok.line;
   asked = c.in-Ok.ensures.line;
-  joined = c.in-Ok-join_line.joined;
-  joins = c.in-Ok-join_line.ensures.joins;
+  told = c.in-Ok-join_asked.status;
+  joins = c.in-Ok-join_asked.ensures.joins;
   ended = c.exit_status.ensures;
 }))
 
-pub returns-in-Ok-join_line-clause-refused : goal.returns-in-Ok-join_line-clause-refused
-returns-in-Ok-join_line-clause-refused g c = λ two. elim (of_report c.in-Ok-join_line.joined.status) [
+pub returns-in-Ok-join_asked-clause-refused : goal.returns-in-Ok-join_asked-clause-refused
+returns-in-Ok-join_asked-clause-refused g c = λ two. elim (of_report c.in-Ok-join_asked.status) [
   | inl zero ↦ absurd (omega (arith, zero, two, c.exit_status.ensures))
   | inr far ↦ absurd (omega (arith, far, two, c.exit_status.ensures))
 ]
 
-pub returns-in-Ok-join_line-clause-unwritten : goal.returns-in-Ok-join_line-clause-unwritten
-returns-in-Ok-join_line-clause-unwritten g c = λ accepted one. elim (of_report c.in-Ok-join_line.joined.status) [
+pub returns-in-Ok-join_asked-clause-unwritten : goal.returns-in-Ok-join_asked-clause-unwritten
+returns-in-Ok-join_asked-clause-unwritten g c = λ accepted one. elim (of_report c.in-Ok-join_asked.status) [
   | inl zero ↦ absurd (omega (arith, zero, one, c.exit_status.ensures))
   | inr far ↦ absurd (omega (arith, far, one, c.exit_status.ensures))
 ]

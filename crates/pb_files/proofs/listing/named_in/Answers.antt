@@ -1,10 +1,10 @@
-use Rattle.std.proofs.Common.{◌≡◌, Bool, true, false, List, [], ◌∷◌, Some, ap, cond, map, refl, rules, string_bytes, subst, sym, ◌∙◌}
+use Rattle.std.proofs.Common.{◌≡◌, Bool, true, false, List, [], ◌∷◌, ap, cond, map, refl, rules, string_bytes, subst, sym, ◌∙◌}
 use Rattle.std.specs.Prelude.{filter, IsPermutation}
 use Rattle.std.proofs.lemmas.List.Elements.{filter_from_retain}
 use Rattle.std.proofs.lemmas.List.Sorted.{IsPermutation-map}
 use Rattle.pb_files.specs.Reading.{is_report_name}
-use Rattle.pb_files.specs.Texts.{texts, texts_found}
-use Rattle.pb_files.proofs.listing.names_by.Goals as goal
+use Rattle.pb_files.specs.Texts.{texts}
+use Rattle.pb_files.proofs.listing.named_in.Goals as goal
 
 filter-map : {X Y : Type 0} (p : Y → Bool) (f : X → Y) (xs : List X) → filter p (map f xs) ≡ map f (filter (λ x. p (f x)) xs)
 filter-map p f [] = refl
@@ -14,10 +14,9 @@ filter-map {X} p f (x ∷ xs) = chosen (p (f x)) (filter-map p f xs) where
   chosen true e = ap (λ l. f x ∷ l) e
   chosen false e = e
 
-pub returns-in-Ok-Some : goal.returns-in-Ok-Some
-returns-in-Ok-Some g c =
-    let found = c.in-Ok-Some.found.items in
+pub returns-clause-reports : goal.returns-clause-reports
+returns-clause-reports c =
+    let found = c.args.found.items in
     let kept = filter_from_retain _ (λ name. is_report_name (string_bytes name)) (λ p x b q k. search rules) _ found _ c.retain.ensures.filtered in
     let same = ap (map string_bytes) kept ∙ sym (filter-map is_report_name string_bytes found) in
-    let is : c.in-Ok-Some.field-0 ≡ Some c.in-Ok-Some.found = cc in
-    (Some (texts c.in-Ok-Some.found), subst (λ o. g.F.Files.lists c.args.files.now c.args.operand.now (texts_found o) c.list.new.self) is c.in-Ok-Some.ensures, subst (λ names. IsPermutation names (texts c.sort_unstable.new.self)) same (IsPermutation-map string_bytes _ _ c.sort_unstable.ensures.permutation))
+    subst (λ names. IsPermutation names (texts c.sort_unstable.new.self)) same (IsPermutation-map string_bytes _ _ c.sort_unstable.ensures.permutation)

@@ -1,8 +1,0 @@
-use Rattle.std.proofs.Common.{map, take}
-use Rattle.pb_files.specs.Reading.{ListsReports}
-use Rattle.pb_files.specs.Texts.{texts}
-use Rattle.pb_files.proofs.listing.report_names.Given as goal
-
--- the names are those of the operands so far
-abbrev pub invariant-loop-operand : goal.invariant-loop-operand
-invariant-loop-operand g l = ListsReports g.F.Files.lists (map (λ name. name.now) (take l.operand-index l.operands)) (texts l.names) l.initial.files l.files

@@ -1,0 +1,38 @@
+//! Why an instance was not divided.
+ghost use Rattle.std.specs.Prelude.{◌≡◌};
+
+use crate::pieces_fault::PiecesFault;
+use pb_report::Refusal;
+use std::alloc::AllocError;
+
+/// What keeps an instance from being read and divided.
+#[derive(Clone, Copy, Debug, PartialEq, Eq)]
+pub enum DivisionFault<'a> {
+    /// The file cannot be opened or read.
+    CannotRead(&'a str),
+    /// The instance, the cubes, the split or the number of cubes is refused. The name is that of the cube file for its cubes, and
+    /// else that of the instance's file.
+    Refused(&'a str, Refusal),
+    /// Memory was refused.
+    Memory,
+}
+
+impl From<AllocError> for DivisionFault<'_> {
+    fn from(_: AllocError) -> Self {
+        DivisionFault::Memory
+    }
+}
+
+impl<'a> From<DivisionFault<'a>> for PiecesFault<'a> {
+    fn from(fault: DivisionFault<'a>) -> PiecesFault<'a> {
+        match fault {
+            DivisionFault::CannotRead(name) => PiecesFault::CannotRead(name),
+            DivisionFault::Refused(name, Refusal::Input(fault) | Refusal::Cubes(fault)) => {
+                PiecesFault::Refused(name, fault)
+            }
+            DivisionFault::Refused(_, Refusal::Split) => PiecesFault::BadSplit,
+            DivisionFault::Refused(_, Refusal::TooManyCubes) => PiecesFault::TooManyCubes,
+            DivisionFault::Memory => PiecesFault::Memory,
+        }
+    }
+}

@@ -1,0 +1,9 @@
+//! A whole instance, and the digest of its text.
+use pb_inst::Instance;
+
+/// A whole instance, and the SHA-256 digest of the text that spells it.
+#[derive(Drop)]
+pub struct Whole {
+    pub instance: Instance,
+    pub digest: [u8; 32],
+}

@@ -1,0 +1,26 @@
+use Rattle.std.proofs.Common.{◌≡◌, ℕ, List, Bor, map, subst}
+use Rattle.std.proofs.lemmas.Result.{IfOk-weaker}
+use Rattle.pb_files.specs.Reading.{ListsFiles}
+use Rattle.pb_files.specs.Texts.{texts}
+use Rattle.pbcube_join.proofs.parts.join_tasks.Goals as goal
+
+pub returns-clause-joins : goal.returns-clause-joins
+returns-clause-joins g c =
+    let operands : c.deref.result.now ≡ c.args.line.reports.items = cc in
+    let named = c.in_ok-named.named in
+    let listed = subst (λ (names : List (Bor (List ℕ))). ListsFiles g.F.Files.lists (map (λ name. name.now) names) (texts named.reports) (texts named.indexes) c.read_instance.new.files c.named_files.new.files) operands c.in_ok-named.ensures in
+    IfOk-weaker c.join_part_files.result _ _ (λ end told. record {
+      problem = c.in_ok-whole.whole.instance;
+      digest = c.in_ok-whole.whole.digest;
+      parts = told.0;
+      from_files = record {
+        after_instance = c.read_instance.new.files;
+        instance = c.in_ok-whole.ensures;
+        names = texts named.reports;
+        indexes = texts named.indexes;
+        after_names = c.named_files.new.files;
+        listed = listed;
+        parts_read = told.1;
+      };
+      tells = told.2;
+    }) c.join_part_files.ensures.joins
