@@ -1,3 +1,2 @@
-pub mod Dividing
 pub mod Ending
 pub mod Writing

@@ -3,7 +3,6 @@
 
 ghost use Rattle.std.specs.Prelude.{◌≡◌};
 
-mod prepared;
 mod running;
 
 use crate::running::{out_of_memory, program};

@@ -1,20 +1,22 @@
 //! The program over any files and any outputs.
-ghost use Rattle.std.specs.Prelude.{◌≡◌, ◌≤◌, [], map, OnOk};
+ghost use Rattle.std.specs.Prelude.{◌≡◌, ◌≤◌, [], codes, decimal, map, IfOk, OnOk};
+ghost use Rattle.std.specs.Io.KnownBytes.{Appends};
 ghost use Rattle.clap.specs.Words.{fault_of, kind_of};
+ghost use Rattle.pb_files.specs.Writing.{told_line};
 ghost use Rattle.pb_line.specs.Ends.{EndsBy};
 ghost use Rattle.pb_line.specs.Dividing.{pbcube_pieces};
 ghost use Rattle.pbcube_pieces.specs.Ending.{Ends};
 ghost use Rattle.pbcube_pieces.specs.Writing.{Divides, DividesAsAsked};
 
-use crate::prepared::prepare;
 use clap::Error;
-use pb_files::{Folders, PiecesFault, write_pieces};
+use pb_files::{Folders, PiecesFault, prepare, write_pieces};
 use pb_line::dividing::{Line, line};
 use pb_line::{Told, tell_fault};
 use std::alloc::Global;
-use std::io::Write;
+use std::io::{self, Write};
 
-/// Runs the program on its words, its own name first, and answers its exit status.
+/// Runs the program on its words, its own name first, and answers its exit status. How many pieces were written is told on the
+/// output.
 pub fn program<'a, F: Folders, W: Write, E: Write>(
     alloc: Global,
     words: &'a [&'a str],
@@ -24,15 +26,19 @@ pub fn program<'a, F: Folders, W: Write, E: Write>(
 ) -> u8
     ensures status { result ≤ 2 }
     ensures ended { Ends (map (λ word. word.now) words.now) result }
-    ensures divided { fault_of pbcube_pieces (map (λ word. word.now) words.now) ≡ [] → result ≡ 0 → DividesAsAsked F.reads F.makes F.looks F.writes (map (λ word. word.now) words.now) folders.old folders.new }
+    ensures divided { fault_of pbcube_pieces (map (λ word. word.now) words.now) ≡ [] → result ≡ 0 → DividesAsAsked F.reads F.makes F.looks F.writes (map (λ word. word.now) words.now) folders.old folders.new (W.contents out.old) (W.contents out.new) }
 {
     let line = match line(alloc, words) {
         Ok(line) => line,
         Err(fault) => return end_at_line(&fault, out, err),
     };
-    match write_all(alloc, folders, &line) {
+    let pieces = match write_all(alloc, folders, &line) {
+        Ok(pieces) => pieces,
+        Err(fault) => return end_at_fault(&fault, err),
+    };
+    match tell(pieces, out) {
         Ok(()) => 0,
-        Err(fault) => end_at_fault(&fault, err),
+        Err(_) => end_unwritten(err),
     }
 }
 
@@ -43,15 +49,31 @@ pub fn out_of_memory<E: Write>(err: &mut E) -> u8
     end_at_fault(&PiecesFault::Memory, err)
 }
 
+/// Reads and divides what the line names, writes the pieces, and answers how many there are.
 fn write_all<'a, F: Folders>(
     alloc: Global,
     folders: &mut F,
     line: &Line<'a>,
-) -> Result<(), PiecesFault<'a>>
-    ensures { OnOk result (Divides F.reads F.makes F.looks F.writes line.now folders.old folders.new) }
+) -> Result<u32, PiecesFault<'a>>
+    ensures { IfOk result (λ pieces. Divides F.reads F.makes F.looks F.writes line.now pieces folders.old folders.new) }
 {
-    let prepared = prepare(alloc, folders, line)?;
-    write_pieces(alloc, folders, line.format, line.out, &prepared)
+    let prepared = prepare(
+        alloc,
+        folders,
+        line.format,
+        line.file,
+        line.cubes,
+        line.split,
+    )?;
+    write_pieces(alloc, folders, line.format, line.out, &prepared)?;
+    Ok(prepared.pieces.len())
+}
+
+/// Tells how many pieces were written, as the first line of the index does.
+fn tell<W: Write>(pieces: u32, out: &mut W) -> io::Result<()>
+    ensures { OnOk result (Appends (W.contents out.old) (W.contents out.new) (told_line (codes "pieces") (decimal pieces))) }
+{
+    writeln!(out, "pieces {pieces}")
 }
 
 /// The end where the words ask for no run: help, the version, a refusal, or no memory.
@@ -60,12 +82,17 @@ fn end_at_line<W: Write, E: Write>(fault: &Error, out: &mut W, err: &mut E) -> u
 {
     match tell_fault(fault, out, err) {
         Told::Written(status) => status,
-        Told::Unwritten => {
-            let _ = writeln!(err, "pbcube_pieces: cannot write");
-            1
-        }
+        Told::Unwritten => end_unwritten(err),
         Told::NoMemory => out_of_memory(err),
     }
+}
+
+/// The end where the output did not take all. One line to the standard error, whose own faults are ignored.
+fn end_unwritten<E: Write>(err: &mut E) -> u8
+    ensures { result ≡ 1 }
+{
+    let _ = writeln!(err, "pbcube_pieces: cannot write");
+    1
 }
 
 /// One line to the standard error, whose own faults are ignored.
