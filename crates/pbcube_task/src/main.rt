@@ -1,0 +1,110 @@
+//! `pbcube_task`: a task's share of the pieces of a pseudo-Boolean instance, searched from the command line.
+#![tactic(auto)]
+
+ghost use Rattle.std.specs.Prelude.{◌≡◌};
+
+mod faults;
+mod places;
+mod reporting;
+mod running;
+mod searching;
+
+use crate::places::Places;
+use crate::running::{out_of_memory, program};
+use pb_files::Folders;
+use pb_line::{texts_of, words_of};
+use pb_notes::Folder;
+use pb_solve::Device;
+use std::alloc::Global;
+use std::fs::{self, File};
+use std::io::{self, Error, ErrorKind, Write};
+use std::process::ExitCode;
+
+/// The files and folders of the system.
+#[derive(Drop)]
+struct SystemFolders<'a> {
+    rt: &'a HostRuntime,
+}
+
+impl Folders for SystemFolders<'_> {
+    ghost reads = { λ folders name text after. after ≡ folders };
+
+    ghost makes = { λ folders name after. after ≡ folders };
+
+    ghost looks = { λ folders name there after. after ≡ folders };
+
+    ghost writes = { λ folders name text after. after ≡ folders };
+
+    fn read(&mut self, name: &str) -> io::Result<Vec<u8>> {
+        fs::read(self.rt, name)
+    }
+
+    fn make_folder(&mut self, name: &str) -> io::Result<()> {
+        fs::create_dir_all(self.rt, name)
+    }
+
+    fn exists(&mut self, name: &str) -> io::Result<bool> {
+        fs::exists(self.rt, name)
+    }
+
+    fn write_new(&mut self, name: &str, text: &[u8]) -> io::Result<()> {
+        let mut file = File::create_new(self.rt, name)?;
+        file.write_all(text)
+    }
+}
+
+/// The folders of the system, in which notes can lie.
+#[derive(Drop)]
+struct SystemPlaces<'a> {
+    rt: &'a HostRuntime,
+}
+
+impl<'a> Places<Folder<'a, HostRuntime>> for SystemPlaces<'a> {
+    fn open(
+        &self,
+        alloc: Global,
+        folder: &str,
+        task: u32,
+        tasks: u32,
+        workers: u32,
+    ) -> io::Result<Folder<'a, HostRuntime>> {
+        match Folder::new(alloc, self.rt, folder, task, tasks, workers) {
+            Ok(place) => {
+                place.make()?;
+                Ok(place)
+            }
+            Err(_) => Err(Error::from(ErrorKind::OutOfMemory)),
+        }
+    }
+}
+
+/// Runs the program on the system's words, files and outputs. Words that are no text end with status 2.
+fn main(rt: HostRuntime) -> ExitCode {
+    let mut out = Device::new(rt.stdout());
+    let mut err = rt.stderr();
+    let texts = match texts_of(&rt) {
+        Ok(texts) => texts,
+        Err(fault) => {
+            return if fault.kind() == ErrorKind::OutOfMemory {
+                ExitCode::from(out_of_memory(&mut out, &mut err))
+            } else {
+                ExitCode::from(2)
+            };
+        }
+    };
+    let mut folders = SystemFolders { rt: &rt };
+    let places = SystemPlaces { rt: &rt };
+    let status = match words_of(rt.alloc(), &texts) {
+        Ok(words) => program(
+            &rt,
+            rt.alloc(),
+            &words,
+            &mut folders,
+            &places,
+            &mut out,
+            &mut err,
+        ),
+        Err(_) => out_of_memory(&mut out, &mut err),
+    };
+    ExitCode::from(status)
+}

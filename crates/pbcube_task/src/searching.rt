@@ -1,0 +1,150 @@
+//! The search of the pieces of a task.
+ghost use Rattle.std.specs.Prelude.{◌≡◌, ◌<◌, IfOk};
+ghost use Rattle.pb_solve.specs.Dealing.{IsAnswerOfTask};
+
+use crate::places::Places;
+use pb_files::Prepared;
+use pb_inst::Best;
+use pb_line::tasks::Line;
+use pb_notes::{Notes, note_room, write_note};
+use pb_share::{Correspondence, NoNotes};
+use pb_solve::{OpenGate, SolveFault, Task, TaskAnswer, solve_task};
+use std::alloc::Global;
+use std::io::{self, Error, ErrorKind, Write};
+use std::thread::Threads;
+
+/// Searches the pieces of the line's task, with the notes of other tasks where the line names a folder that can be used.
+pub fn search<'i, R: Threads + Sync, N: Notes + Sync + Drop, P: Places<N>, E: Write>(
+    rt: &R,
+    alloc: Global,
+    line: &Line<'_>,
+    prepared: &'i Prepared,
+    places: &P,
+    err: &mut E,
+) -> Result<TaskAnswer<'i>, SolveFault>
+    requires task { line.now.task < line.now.tasks }
+    requires same_variables { prepared.now.pieces.vars ≡ prepared.now.instance.vars }
+    ensures same_instance { IfOk result (λ answer. answer.best.problem ≡ prepared.now.instance) }
+    ensures answer { IfOk result (λ answer. IsAnswerOfTask prepared.now.instance prepared.now.pieces (record { number = line.now.task; tasks = line.now.tasks }) answer.done.items answer.cut.items answer.best.held) }
+{
+    match place_of(alloc, line, prepared.pieces.len(), places, err)? {
+        Some(notes) => search_with_notes(rt, alloc, line, prepared, &notes),
+        None => search_with(
+            rt,
+            alloc,
+            line,
+            prepared,
+            None::<&Correspondence<'_, NoNotes>>,
+        ),
+    }
+}
+
+/// The notes of the tasks, where the line names a folder and this task has a piece. A folder that cannot be used is told of.
+fn place_of<N, P: Places<N>, E: Write>(
+    alloc: Global,
+    line: &Line<'_>,
+    pieces: u32,
+    places: &P,
+    err: &mut E,
+) -> Result<Option<N>, SolveFault> {
+    if line.task >= pieces {
+        let _ = writeln!(
+            err,
+            "pbcube_task: none of the {pieces} pieces is of task {}",
+            line.task
+        );
+        return Ok(None);
+    }
+    let Some(folder) = line.exchange else {
+        return Ok(None);
+    };
+    let tasks = tasks_with_pieces(line.tasks, pieces);
+    match places.open(alloc, folder, line.task, tasks, line.workers.get()) {
+        Ok(place) => Ok(Some(place)),
+        Err(fault) if fault.kind() == ErrorKind::OutOfMemory => Err(SolveFault::Memory),
+        Err(fault) => {
+            let _ = writeln!(
+                err,
+                "pbcube_task: cannot use {folder}, so no notes are exchanged: {fault}"
+            );
+            Ok(None)
+        }
+    }
+}
+
+/// The number of tasks that have a piece. The others have no notes.
+fn tasks_with_pieces(tasks: u32, pieces: u32) -> u32 {
+    tasks.min(pieces)
+}
+
+/// Searches with these notes. What was found at last is left there for the tasks that still search.
+fn search_with_notes<'i, R: Threads + Sync, N: Notes + Sync>(
+    rt: &R,
+    alloc: Global,
+    line: &Line<'_>,
+    prepared: &'i Prepared,
+    notes: &N,
+) -> Result<TaskAnswer<'i>, SolveFault>
+    requires task { line.now.task < line.now.tasks }
+    requires same_variables { prepared.now.pieces.vars ≡ prepared.now.instance.vars }
+    ensures same_instance { IfOk result (λ answer. answer.best.problem ≡ prepared.now.instance) }
+    ensures answer { IfOk result (λ answer. IsAnswerOfTask prepared.now.instance prepared.now.pieces (record { number = line.now.task; tasks = line.now.tasks }) answer.done.items answer.cut.items answer.best.held) }
+{
+    let with = Correspondence {
+        notes,
+        digest: prepared.digest,
+        task: line.task,
+        tasks: tasks_with_pieces(line.tasks, prepared.pieces.len()),
+    };
+    let answer = search_with(rt, alloc, line, prepared, Some(&with))?;
+    if let Err(fault) = leave_note(alloc, notes, &prepared.digest, &answer.best) {
+        notes.tell(&fault);
+    }
+    Ok(answer)
+}
+
+/// Searches with this correspondence or none.
+fn search_with<'i, R: Threads + Sync, N: Notes + Sync>(
+    rt: &R,
+    alloc: Global,
+    line: &Line<'_>,
+    prepared: &'i Prepared,
+    with: Option<&Correspondence<'_, N>>,
+) -> Result<TaskAnswer<'i>, SolveFault>
+    requires task { line.now.task < line.now.tasks }
+    requires same_variables { prepared.now.pieces.vars ≡ prepared.now.instance.vars }
+    ensures same_instance { IfOk result (λ answer. answer.best.problem ≡ prepared.now.instance) }
+    ensures answer { IfOk result (λ answer. IsAnswerOfTask prepared.now.instance prepared.now.pieces (record { number = line.now.task; tasks = line.now.tasks }) answer.done.items answer.cut.items answer.best.held) }
+{
+    let Some(task) = Task::new(line.task, line.tasks) else {
+        unreachable!()
+    };
+    solve_task(
+        rt,
+        alloc,
+        &prepared.instance,
+        &prepared.pieces,
+        task,
+        line.workers,
+        with,
+        &OpenGate,
+        line.nodes,
+    )
+}
+
+/// Writes what is held as the task's note, if anything is.
+fn leave_note<N: Notes>(
+    alloc: Global,
+    notes: &N,
+    digest: &[u8; 32],
+    best: &Best<'_>,
+) -> io::Result<()> {
+    let (Some(cost), Some(values)) = (best.cost(), best.assignment()) else {
+        return Ok(());
+    };
+    let Ok(mut text) = Vec::with_capacity(alloc, note_room(values.len())) else {
+        return Err(Error::from(ErrorKind::OutOfMemory));
+    };
+    write_note(&mut text, digest, cost, values);
+    notes.write(0, &text)
+}
