@@ -1,17 +1,38 @@
 #!/usr/bin/env bash
-#SBATCH --job-name=pbcube --cpus-per-task=1
-# Solves the pieces of an instance as an array job of Slurm, a task for each. Before, with them, and after they have ended:
+#SBATCH --job-name=pbcube --cpus-per-task=1 --requeue --output=/dev/null
+#SBATCH --time=24:00:00 --mem=2G
+# Solves the pieces of an instance as an array job of Slurm. Time and memory above are examples. With 65 pieces, one for each task:
 #
 #   pbcube_pieces FILE --format opb --split 6 --out FOLDER
-#   sbatch --array=0-64 slurm.sh FOLDER
-#   pbcube_join FILE --format opb --pieces 65 FOLDER
+#   job=$(sbatch --parsable --array=0-64 slurm.sh FOLDER)
+#   sbatch --dependency=afterany:$job slurm-join.sh FILE opb FOLDER
 #
-# A task that was lost is one without a report: sbatch --array=NUMBER slurm.sh FOLDER does it again.
+# An array has 1,001 tasks at most where Slurm's MaxArraySize is as it comes. So with 1,025 pieces, three for each task, which
+# solves them one after the other:
+#
+#   job=$(sbatch --parsable --array=0-341 slurm.sh FOLDER 3)
+#
+# What was lost or killed has no report: the same line once more solves those pieces and passes over all others.
+# What a task says on standard error is FOLDER/task-NUMBER.log, where it says anything.
 set -euo pipefail
 cd "$1"
-piece=$(grep -E '^[0-9]+\.(opb|cnf)$' index | sed -n "$((SLURM_ARRAY_TASK_ID + 1))p")
-name=${piece%.*} status=0
-pbcube --format "${piece##*.}" "$piece" > "$name.part" || status=$?
-# A status of 10 or more is an answer; a report has its name only once it is whole.
-[ "$status" -ge 10 ] || exit 1
-mv "$name.part" "$name.report"
+log=task-$SLURM_ARRAY_TASK_ID.log
+exec 2> "$log"
+trap '[ -s "$log" ] || rm -f "$log"' EXIT
+a_task=${2:-1}
+mapfile -t pieces < <(grep -E '^[0-9]+\.(opb|cnf)$' index)
+first=$((SLURM_ARRAY_TASK_ID * a_task)) solved=true
+if [ "$first" -ge "${#pieces[@]}" ]; then
+  echo "slurm.sh: there is no piece $first: they are 0 to $((${#pieces[@]} - 1))" >&2
+fi
+for piece in "${pieces[@]:first:a_task}"; do
+  name=${piece%.*} status=0
+  [ ! -s "$name.report" ] || continue
+  pbcube --format "${piece##*.}" "$piece" > "$name.part" || status=$?
+  # The statuses 10, 20 and 30 are answers, and no others are; a report has its name only once it is whole.
+  case $status in
+    10 | 20 | 30) mv "$name.part" "$name.report" ;;
+    *) echo "slurm.sh: piece $name ended with status $status" >&2; solved=false ;;
+  esac
+done
+$solved
