@@ -39,6 +39,7 @@ STEPS = [
     Step("faults", "tests/faults.py"),
     Step("memory", "tests/memory.py"),
     Step("pieces", "tests/pieces.py"),
+    Step("tasks", "tests/tasks.py"),
     Step("examples", "tests/examples.py"),
     Step("commands", "tests/commands.py"),
     Step("builds", "tests/builds.py"),

@@ -3,8 +3,8 @@
 
     tests/commands.py [PROGRAM ..]
 
-Without a word it takes the programs that the merge gate built: pbcube, pbcube_pieces and pbcube_join. Each runs its own rows, in a
-new folder with the files below.
+Without a word it takes the programs that the merge gate built: pbcube, pbcube_pieces, pbcube_task and
+pbcube_join. Each runs its own rows, in a new folder with the files below.
 """
 import hashlib
 import os
@@ -20,11 +20,46 @@ from lib import built, side_by_side, version
 SECONDS = 60
 FULL = "/dev/full"  # takes no byte
 
+TIE = "* #variable= 3 #constraint= 2\nmin: 2 x1 3 x2 1 x3 ;\n1 x1 1 x2 >= 1 ;\n1 x2 1 x3 >= 1 ;\n"
 OWN_CUBES = "p inccnf\n1 20 0\na 1 0\n"  # one, of twenty variables
+
+
+def index_of(text, kind, variables, pieces):
+    """The index of so many pieces of an instance."""
+    width = len(str(pieces - 1))
+    names = "".join(f"{number:0{width}}.{kind}\n" for number in range(pieces))
+    return f"pieces {pieces}\nformat {kind}\nvariables {variables}\nsha256 {hashlib.sha256(text.encode()).hexdigest()}\n{names}"
+
+
 FIRST = "o 3\ns OPTIMUM FOUND\nv x1 -x2 x3\n"
 SECOND = "o 3\ns OPTIMUM FOUND\nv -x1 x2 -x3\n"
+ATTAINED = "o 3\ns SATISFIABLE\nv -x1 x2 -x3\n"
+
+
+def part(of, text, pieces, done, cut=""):
+    """The heading of a report, of a part of the instance of this text."""
+    digest = hashlib.sha256(text.encode()).hexdigest()
+    return f"c part {of} of instance {digest}\nc pieces {pieces}\nc done{done}\nc cut{cut}\n"
+
+
+# reports of two tasks, of three pieces, and others that are none of their parts
+IN_THREE = "3 split 1 cubes none"
+PARTS = {
+    "parts/first.report": part("0 of 2", TIE, IN_THREE, " 0 2") + "o 3\ns SATISFIABLE\nv x1 -x2 x3\n",
+    "parts/second.report": part("1 of 2", TIE, IN_THREE, " 1") + ATTAINED,
+    "cut.part": part("1 of 2", TIE, IN_THREE, "", " 1") + "s UNKNOWN\n",
+    "unnamed.part": part("0 of 2", TIE, IN_THREE, " 0") + ATTAINED,
+    "few.part": part("0 of 5", TIE, "1 split 0 cubes none", " 0") + ATTAINED,
+    "edited.part": part("1 of 2", TIE + "* edited\n", IN_THREE, " 1") + ATTAINED,
+    "no_pieces.part": part("1 of 2", TIE, "0 split 1 cubes none", "") + "s UNKNOWN\n",
+    "divided.part": part("1 of 2", TIE, "3 split 2 cubes none", " 1") + ATTAINED,
+    "claims.part": part("1 of 2", TIE, IN_THREE, " 1") + SECOND,
+    "costs.part": part("1 of 2", TIE, IN_THREE, " 1") + ATTAINED.replace("o 3", "o 2"),
+    "torn.part": part("1 of 2", TIE, IN_THREE, " 1") + "o 3\ns SATISFIABLE\nv -x1 x2\n",
+    "others.part": part("1 of 2", TIE, IN_THREE, " 1 2") + ATTAINED,
+}
 FILES = {
-    "tie.opb": "* #variable= 3 #constraint= 2\nmin: 2 x1 3 x2 1 x3 ;\n1 x1 1 x2 >= 1 ;\n1 x2 1 x3 >= 1 ;\n",
+    "tie.opb": TIE,
     "none_feasible.opb": "1 x1 >= 1 ;\n1 x1 = 0 ;\n",
     "no_objective.opb": "* #variable= 3 #constraint= 1\n1 x2>=1;\n",
     "product.opb": "1 x1 x2 >= 1 ;\n",
@@ -52,11 +87,23 @@ FILES = {
     "reports/0.report": FIRST,
     "reports/1.report": SECOND,
     "reports/0.opb": "no report\n",
-    "reports/index": "no report\n",
-    "empty/index": "no report\n",
+    "empty/index.txt": "no report\n",
     "empty/2.opb": "no report\n",
     "empty/report": "no report\n",
     "empty/3.reports": "no report\n",
+    "cut/index": index_of(TIE, "opb", 3, 3),
+    "cut/0.report": FIRST,
+    "cut/1.report": SECOND,
+    "cut/2.report": "s UNSATISFIABLE\n",
+    "cut_in_two/index": index_of(TIE, "opb", 3, 2),
+    "edited/index": index_of(TIE + "* edited\n", "opb", 3, 1),
+    "edited/0.report": FIRST,
+    "broken/index": "no index\n",
+    "torn/index": index_of(TIE, "opb", 3, 1)[:30],
+    "longer/index": index_of(TIE, "opb", 3, 1) + "1.opb\n",
+    "too_many/index": index_of(TIE, "opb", 3, 1).replace("pieces 1", "pieces 1048577"),
+    "unread/0.report": FIRST,
+    **PARTS,
 }
 # names of reports, and the numbers of the pieces that they tell
 NUMBERS = {
@@ -70,7 +117,7 @@ NUMBERS = {
     "names/7/..out": None,
     "names/4294967296.out": None,
 }
-UNREADABLE = ("broken.opb", "broken.cubes")  # folders: opened, and then not read
+UNREADABLE = ("broken.opb", "broken.cubes", "unread/index")  # folders: opened, and then not read
 SOCKET = "7.out"  # neither a folder nor opened
 
 
@@ -192,21 +239,18 @@ PBCUBE = [
 ]
 
 
-TIE_WITH_CUBE = FILES["tie.opb"].replace("#constraint= 2", "#constraint= 3") + "1 x2 >= 1 ;\n"
-
-
-def index_of_own_cubes():
-    digest = hashlib.sha256(OWN_CUBES.encode()).hexdigest()
-    names = "".join(f"{number:02}.cnf\n" for number in range(11))
-    return f"pieces 11\nformat cnf\nvariables 20\nsha256 {digest}\n{names}"
-
-
+TIE_WITH_CUBE = TIE.replace("#constraint= 2", "#constraint= 3") + "1 x2 >= 1 ;\n"
 PIECES = [
-    Row("--out one/new tie.opb", files={"one/new/0.opb": FILES["tie.opb"]}),
-    Row("--split 3 --cubes good.cubes --out nine tie.opb"),
-    Row("--format icnf --out two own_cube.icnf"),
-    Row("--format icnf --cubes nine.cubes --out eleven own_cubes.icnf", files={"eleven/index": index_of_own_cubes()}),
-    Row("--cubes hundred.cubes --out hundred tie.opb", files={"hundred/007.opb": TIE_WITH_CUBE}),
+    Row("--out one/new tie.opb", "pieces 1\n", files={"one/new/0.opb": TIE}),
+    Row("--split 3 --cubes good.cubes --out ten tie.opb", "pieces 10\n"),
+    Row("--format icnf --out two own_cube.icnf", "pieces 2\n"),
+    Row(
+        "--format icnf --cubes nine.cubes --out eleven own_cubes.icnf",
+        "pieces 11\n",
+        files={"eleven/index": index_of(OWN_CUBES, "cnf", 20, 11)},
+    ),
+    Row("--cubes hundred.cubes --out hundred tie.opb", "pieces 101\n", files={"hundred/007.opb": TIE_WITH_CUBE}),
+    Row("--out untold tie.opb", err="pbcube_pieces: cannot write\n", status=1, out_to=FULL, files={"untold/0.opb": TIE}),
     Row("--out pieces none.opb", err="pbcube_pieces: cannot read none.opb\n", status=1),
     Row("--out pieces product.opb", err="pbcube_pieces: product.opb: NonLinear at line 1\n", status=1),
     Row(
@@ -236,10 +280,79 @@ PIECES = [
 ]
 
 
+def digest_of(name):
+    return hashlib.sha256(FILES[name].encode()).hexdigest()
+
+
+NOTE = f"pbcube note of instance {digest_of('tie.opb')}\ncost 3\nvalues 010\n"
+WITHOUT_NOTES = "pbcube_task: cannot use tie.opb, so no notes are exchanged: "
+TASK = [
+    Row("--task 0 --tasks 1 tie.opb", part("0 of 1", FILES["tie.opb"], "1 split 0 cubes none", " 0") + ATTAINED, status=10),
+    Row("--split 1 --task 1 --tasks 2 tie.opb", part("1 of 2", FILES["tie.opb"], "3 split 1 cubes none", " 1") + ATTAINED, status=10),
+    Row("--split 1 --task 2 --tasks 3 tie.opb", part("2 of 3", FILES["tie.opb"], "3 split 1 cubes none", " 2") + "s UNKNOWN\n"),
+    Row(
+        "--cubes good.cubes --workers 2 --task 1 --tasks 2 tie.opb",
+        part("1 of 2", FILES["tie.opb"], f"2 split 0 cubes {digest_of('good.cubes')}", " 1") + ATTAINED,
+        status=10,
+    ),
+    Row(
+        "--format icnf --task 0 --tasks 4294967295 own_cube.icnf",
+        part("0 of 4294967295", FILES["own_cube.icnf"], "2 split 0 cubes none", " 0") + "s SATISFIABLE\nv 1 -2 0\n",
+        status=10,
+    ),
+    Row("--task 0 --tasks 1 none_feasible.opb", part("0 of 1", FILES["none_feasible.opb"], "1 split 0 cubes none", " 0") + "s UNKNOWN\n"),
+    Row("--nodes 0 --task 0 --tasks 1 tie.opb", part("0 of 1", FILES["tie.opb"], "1 split 0 cubes none", "", " 0") + "s UNKNOWN\n"),
+    Row(
+        "--task 5 --tasks 9 --exchange unmade tie.opb",
+        part("5 of 9", FILES["tie.opb"], "1 split 0 cubes none", "") + "s UNKNOWN\n",
+        "pbcube_task: none of the 1 pieces is of task 5\n",
+    ),
+    # notes
+    Row(
+        "--task 0 --tasks 1 --exchange some/notes tie.opb",
+        part("0 of 1", FILES["tie.opb"], "1 split 0 cubes none", " 0") + ATTAINED,
+        status=10,
+        files={"some/notes/0.note": NOTE},
+    ),
+    Row(
+        "--task 0 --tasks 1 --exchange tie.opb tie.opb",
+        part("0 of 1", FILES["tie.opb"], "1 split 0 cubes none", " 0") + ATTAINED,
+        (WITHOUT_NOTES,),
+        10,
+    ),
+    # refused texts, and files that are not there or cannot be read
+    Row("--task 0 --tasks 1 product.opb", f"c refused: NonLinear at line 1\n{UNSUPPORTED}"),
+    Row("--cubes second_over.cubes --task 0 --tasks 1 tie.opb", f"c refused cubes: BadVariable at line 2\n{UNSUPPORTED}"),
+    Row("--split 4 --task 0 --tasks 1 tie.opb", f"c refused split: BadSplit\n{UNSUPPORTED}"),
+    Row("--format cnf --task 0 --tasks 1 tie.opb", f"c refused: BadHeader at line 1\n{UNSUPPORTED}"),
+    Row("--task 0 --tasks 1 none.opb", err="pbcube_task: cannot read none.opb\n", status=1),
+    Row("--task 0 --tasks 1 broken.opb", err="pbcube_task: cannot read broken.opb\n", status=1),
+    Row("--cubes none.cubes --task 0 --tasks 1 tie.opb", err="pbcube_task: cannot read none.cubes\n", status=1),
+    # outputs that fail
+    Row("--task 0 --tasks 1 tie.opb", err="pbcube_task: cannot write\n", status=1, out_to=FULL),
+    Row("--help", err="pbcube_task: cannot write\n", status=1, out_to=FULL),
+    Row("--task 0 --tasks 1 none.opb", status=1, err_to=FULL),
+    # refused words
+    refused("--task 0 tie.opb", "--tasks <T>"),
+    refused("--tasks 1 tie.opb", "--task <I>"),
+    refused("--task 0 --tasks 0 tie.opb", "0 is not in 1..=4294967295"),
+    refused("--task 0 --tasks 4294967296 tie.opb", "4294967296 is not in 1..=4294967295"),
+    refused("--task 1 --tasks 1 tie.opb", "the number of --task is below that of --tasks"),
+    refused("--format wcnf --task 0 --tasks 1 tie.opb", "opb, cnf and icnf"),
+    refused("--workers 65 --task 0 --tasks 1 tie.opb", "65 is not in 1..=64"),
+    *told_version("pbcube_task"),
+]
+
+
 def states(pieces, cut=()):
     """What is said of so many pieces of which these were cut and no other has a report."""
     said = {number: "was not solved to its end" if number in cut else "has no report" for number in pieces}
     return "".join(f"pbcube_join: piece {number} {it}\n" for number, it in said.items())
+
+
+def again(*tasks):
+    """What is said of tasks that have to be run again."""
+    return f"pbcube_join: run again: tasks {' '.join(map(str, tasks))}\n"
 
 
 def number_row(name, number):
@@ -267,6 +380,22 @@ JOIN = [
     Row("--pieces 3 tie.opb 2 reports", SECOND, status=30),
     Row("--pieces 1 tie.opb empty", "s UNKNOWN\n", states([0])),
     rejected("--pieces 1 tie.opb none", "cannot read none"),
+    # folders with an index
+    Row("tie.opb cut", SECOND, status=30),
+    Row("--pieces 3 tie.opb cut", SECOND, status=30),
+    Row("tie.opb cut_in_two out/0.out piece-001.out", SECOND, status=30),
+    rejected("--pieces 2 tie.opb cut", "cut/index: it is of 3 pieces, and not of 2"),
+    rejected("tie.opb cut cut_in_two", "cut_in_two/index: it is of 2 pieces, and not of 3"),
+    rejected("tie.opb edited", "edited/index: the instance is not the text that was cut: the digest at line 4 is another"),
+    rejected("tie.opb broken", "broken/index: line 1 tells no number of pieces"),
+    rejected("--pieces 1 tie.opb broken", "broken/index: line 1 tells no number of pieces"),
+    rejected("tie.opb with_index", "with_index/index: line 1 tells no number of pieces"),
+    rejected("tie.opb too_many", "too_many/index: line 1 tells no number of pieces"),
+    rejected("tie.opb torn", "torn/index: line 3 is not that of an index of the instance"),
+    rejected("tie.opb longer", "longer/index: line 6 is not that of an index of the instance"),
+    rejected("tie.opb unread", "unread/index: cannot be read"),
+    rejected("tie.opb reports", "the number of pieces is told neither by --pieces nor by an index"),
+    rejected("tie.opb", "the number of pieces is told neither by --pieces nor by an index"),
     # reports that are rejected
     rejected("--pieces 3 tie.opb out/0.out again-0.out", "again-0.out: there are two reports of this piece"),
     rejected("--pieces 3 tie.opb torn-1.out", "torn-1.out: Unfinished at line 3"),
@@ -274,16 +403,44 @@ JOIN = [
     rejected("--pieces 3 tie.opb report.out", "report.out: the name has no number of a piece before its last dot"),
     rejected(f"--pieces 3 tie.opb {SOCKET}", f"{SOCKET}: cannot be read"),
     rejected("--pieces 1 none.opb", "cannot read none.opb"),
+    # reports of tasks
+    Row("--tasks 2 tie.opb parts", SECOND, status=30),
+    Row("--tasks 2 tie.opb parts/second.report parts/first.report", SECOND, status=30),
+    Row("--tasks 2 tie.opb parts/first.report cut.part", "o 3\ns SATISFIABLE\nv x1 -x2 x3\n", again(1), 10),
+    Row("--tasks 2 tie.opb parts/second.report unnamed.part", ATTAINED, again(0), 10),
+    Row("--tasks 2 tie.opb parts/second.report", ATTAINED, again(0), 10),
+    Row("--tasks 2 tie.opb unnamed.part cut.part", ATTAINED, again(0, 1), 10),
+    Row("--tasks 5 tie.opb few.part", SECOND, status=30),
+    Row("--tasks 3 tie.opb", "s UNKNOWN\n", again(0, 1, 2)),
+    Row("--tasks 1 tie.opb empty", "s UNKNOWN\n", again(0)),
+    rejected("--tasks 2 tie.opb cut.part cut.part", "cut.part: there are two reports of this task"),
+    rejected("--tasks 2 tie.opb parts/first.report edited.part", "edited.part: the part is of another instance"),
+    rejected("--tasks 2 tie.opb no_pieces.part", "no_pieces.part: the part is of no pieces"),
+    rejected("--tasks 3 tie.opb cut.part", "cut.part: the part is of another number of tasks"),
+    rejected("--tasks 2 tie.opb unnamed.part divided.part", "divided.part: the first part is of other pieces"),
+    rejected("--tasks 2 tie.opb claims.part", "claims.part: a part has no such answer"),
+    rejected("--tasks 2 tie.opb costs.part", "costs.part: the o line is not the cost of the assignment"),
+    rejected("--tasks 2 tie.opb torn.part", "torn.part: Unfinished at line 7"),
+    rejected("--tasks 2 tie.opb others.part", "others.part: OtherTask at line 3"),
+    rejected("--tasks 1 tie.opb out/0.out", "out/0.out: Heading at line 1"),
+    rejected(f"--tasks 1 tie.opb {SOCKET}", f"{SOCKET}: cannot be read"),
+    rejected("--tasks 1 tie.opb none", "cannot read none"),
+    rejected("--tasks 1 none.opb", "cannot read none.opb"),
+    rejected("--tasks 1 product.opb", "product.opb: NonLinear at line 1"),
+    Row("--tasks 2 tie.opb parts", err="pbcube_join: cannot write\n", status=1, out_to=FULL),
+    Row("--tasks 1 tie.opb", "s UNKNOWN\n", err_to=FULL),
+    refused("--tasks 0 tie.opb", "0 is not in 1..=4294967295"),
+    refused("--tasks 4294967296 tie.opb", "4294967296 is not in 1..=4294967295"),
+    refused("--tasks 1 --pieces 1 tie.opb", "--pieces and --tasks cannot be used together"),
     rejected("--pieces 3 product.opb", "product.opb: NonLinear at line 1"),
     Row("--pieces 1 tie.opb", err="pbcube_join: cannot write\n", status=1, out_to=FULL),
     Row("--help", err="pbcube_join: cannot write\n", status=1, out_to=FULL),
-    refused("tie.opb", "--pieces <N>"),
     refused("--pieces 0 tie.opb", "0 is not in 1..="),
     refused("--format wcnf --pieces 1 tie.opb", "opb, cnf and icnf"),
     *(number_row(name, number) for name, number in NUMBERS.items()),
     *told_version("pbcube_join"),
 ]
-ROWS = {"pbcube": PBCUBE, "pbcube_pieces": PIECES, "pbcube_join": JOIN}
+ROWS = {"pbcube": PBCUBE, "pbcube_pieces": PIECES, "pbcube_task": TASK, "pbcube_join": JOIN}
 
 
 def name_of(program):

@@ -1,10 +1,11 @@
 #!/usr/bin/env python3
 """Runs the built program on the examples, on the commands that README.md and docs/COMMANDS.md show, on words that are no text and on
-those that ask for its version, and prints what differs, and which manifest or page has another version.
+those that ask for its version, and pbcube_task on its commands there, and prints what differs, and which manifest or page has
+another version.
 
     tests/examples.py [PROGRAM ..]
 
-Without a word it takes the programs that the merge gate built. An example is a file NAME.opb, NAME.cnf or NAME.icnf of
+Without a word it takes the programs that the merge gate built; with one pbcube_task is left out. An example is a file NAME.opb, NAME.cnf or NAME.icnf of
 examples/, and its ending is its format; NAME.expected is what the program writes on it, with 1, 2, 3 and 64 workers, with
 and without a split, and with the cubes of NAME.cubes where there is such a file. The `s` line tells the exit status.
 """
@@ -42,12 +43,11 @@ def example_rows():
             yield words, out, "", status
 
 
-def command_rows():
-    """The same for each row `command`, what it prints, status of the tables of README.md and docs/COMMANDS.md."""
-    pages = [(TOP / page).read_text() for page in ("README.md", "docs/COMMANDS.md")]
-    tables = [re.findall(r"^\| `pbcube (.+?)` \| (.+) \| (\d+) \|$", page, re.M) for page in pages]
+def command_rows(name, pages):
+    """The same for each row `command`, what it prints, status of the tables of these pages, of the program of this name."""
+    tables = [re.findall(rf"^\| `{name} (.+?)` \| (.+) \| (\d+) \|$", (TOP / page).read_text(), re.M) for page in pages]
     if not all(tables):
-        sys.exit("examples: README.md or docs/COMMANDS.md has no table of commands")
+        sys.exit(f"examples: one of {', '.join(pages)} has no table of commands of {name}")
     rows = dict.fromkeys(row for table in tables for row in table)
     for words, printed, status in rows:
         written, _, said = printed.partition("on standard error")
@@ -97,9 +97,11 @@ def differences(program, words, out, complaint, status, text=b""):
 
 
 def main(programs):
-    rows = [*example_rows(), *command_rows(), *word_rows(), *version_rows(), *piped_rows()]
+    commands = command_rows("pbcube", ("README.md", "docs/COMMANDS.md"))
+    rows = [*example_rows(), *commands, *word_rows(), *version_rows(), *piped_rows()]
     stale = list(other_versions())
-    runs = list(itertools.product(programs or built(), rows))
+    of_task = [] if programs else itertools.product(built(["pbcube_task"]), command_rows("pbcube_task", ["docs/COMMANDS.md"]))
+    runs = [*itertools.product(programs or built(), rows), *of_task]
     found = side_by_side(lambda run: differences(run[0], *run[1]), runs)
     for (program, row), lines in zip(runs, found):
         if lines:

@@ -7,7 +7,7 @@ Without a word it takes the programs that the merge gate built. The library faul
 counting on until some runs had no fault: each request for memory is refused, alone and with all that follow; each thread is
 refused; each open, read and write fails; each read and write moves one byte. A run must end as without the fault, or with
 exactly the report of want of memory, or with status 1 and its line on standard error. Of pbcube_pieces and pbcube_join, which
-end with status 1 and a line where memory is refused, only the requests for memory are tried. Without a C compiler nothing is run.
+end with status 1 and a line where memory is refused, and of pbcube_task only the requests for memory are tried. Without a C compiler nothing is run.
 """
 import os
 import subprocess
@@ -17,13 +17,12 @@ from dataclasses import dataclass
 from pathlib import Path
 
 sys.dont_write_bytecode = True
-from commands import ROWS, name_of
+from commands import ROWS, TIE, index_of, part, name_of
 from lib import SECONDS, Ended, built, preloaded, ran, side_by_side
 
 QUIET_RUNS = 3  # how many runs without a fault end the count, since the order of events is another in each run
 MOST_CALLS = 10_000
 
-TIE = "* #variable= 3 #constraint= 2\nmin: 2 x1 3 x2 1 x3 ;\n1 x1 1 x2 >= 1 ;\n1 x2 1 x3 >= 1 ;\n"
 FILES = {
     "tie.opb": TIE,
     "negative.opb": "min: -2 x1 -2 x2 ;\n1 x1 1 x2 <= 1 ;\n",
@@ -40,6 +39,10 @@ FILES = {
     "long.cubes": "c a note\na " + "1 " * 16 + "-2 0\na 0\n",
     "over.cubes": "a 4 0\n",
     "tie-0.out": "o 3\ns OPTIMUM FOUND\nv -x1 x2 -x3\n",
+    # a folder with its index
+    "cut/0.report": "o 3\ns OPTIMUM FOUND\nv -x1 x2 -x3\n",
+    "cut/index": index_of(TIE, "opb", 3, 1),
+    "parts/0.report": part("0 of 1", TIE, "1 split 0 cubes none", " 0") + "o 3\ns SATISFIABLE\nv -x1 x2 -x3\n",
 }
 
 
@@ -47,6 +50,7 @@ FILES = {
 NO_MEMORY = {
     "pbcube": Ended("c refused: Memory\ns UNKNOWN\n", "", 0),
     "pbcube_pieces": Ended("", "pbcube_pieces: out of memory\n", 1),
+    "pbcube_task": Ended("c refused: Memory\ns UNKNOWN\n", "", 0),
     "pbcube_join": Ended("", "pbcube_join: out of memory\n", 1),
 }
 CANNOT_WRITE = "pbcube: cannot write\n"
@@ -95,7 +99,8 @@ CASES = [
 COMMAND_LINES = {
     "pbcube": {"--help": 0, "--split 13 tie.opb": 2},
     "pbcube_pieces": {"--help": 0, "tie.opb": 2, "--out pieces product.opb": 1},
-    "pbcube_join": {"--help": 0, "--pieces 0 tie.opb": 2, "--pieces 1 tie.opb": 0, "--pieces 1 tie.opb tie-0.out": 30},
+    "pbcube_task": {"--help": 0, "--task 1 --tasks 1 tie.opb": 2, "--workers 2 --split 1 --task 0 --tasks 2 tie.opb": 10},
+    "pbcube_join": {"--help": 0, "--pieces 0 tie.opb": 2, "--pieces 1 tie.opb": 0, "--pieces 1 tie.opb tie-0.out": 30, "tie.opb cut": 30, "--tasks 1 tie.opb parts": 30},
 }
 
 
@@ -240,6 +245,7 @@ def main(programs):
             print("faults: left out, since there is no C compiler (cc) here")
             return 0
         for name, text in FILES.items():
+            (folder / name).parent.mkdir(exist_ok=True)
             (folder / name).write_text(text)
         counts = [judge(Bench(Path(it).resolve(), library, folder)) for it in programs or built(ROWS)]
     passed, failed = sum(it[0] for it in counts), sum(it[1] for it in counts)

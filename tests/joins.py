@@ -1,12 +1,14 @@
 #!/usr/bin/env python3
-"""Cuts instances into pieces, solves each piece by itself, joins the reports, and compares the bytes with those of one run.
+"""Cuts instances into pieces, solves each piece by itself or has tasks search them, joins the reports, and compares the bytes with
+those of one run.
 
     tests/joins.py
 
 It takes the programs that the merge gate built. The instances are the examples and fifty random ones, cut by splits, by cubes
-and by both. Then a report is left out, unknown, given twice, cut short or changed: a join must say so and claim no more than is so.
+and by both, and dealt among two of one, two, three and five tasks. Then a report is left out, unknown, given twice, cut short or changed,
+or is one of another instance or another division: a join must say so and claim no more than is so.
 Last the recipes of examples/cluster/ are run on this machine: the one for GNU parallel where that is here or can be fetched, the
-one for Slurm task by task, without Slurm.
+one for Slurm task by task, without Slurm. Reports are lost in them, a solver is killed, and once there is no solver at all.
 """
 import itertools
 import os
@@ -23,7 +25,9 @@ from budgets import instances
 from lib import FORMATS, PROCESSORS, TOP, Ended, examples, program, ran
 
 RANDOM = 50
-PROGRAMS = {name: program(name) for name in ("pbcube", "pbcube_pieces", "pbcube_join")}
+TASKS = (1, 2, 3, 5)
+HEADING = 4  # lines before what a task claims
+PROGRAMS = {name: program(name) for name in ("pbcube", "pbcube_pieces", "pbcube_task", "pbcube_join")}
 
 
 def run(name, *words):
@@ -82,7 +86,7 @@ def complaints(file, kind, variables, room):
         folder = room / f"{number}"
         name = f"{file.name} {' '.join(map(str, words))}"
         said = run("pbcube_pieces", file, "--format", kind, *words, "--out", folder)
-        if said != Ended("", "", 0):
+        if said != Ended(f"pieces {len(pieces_of(folder))}\n", "", 0):
             yield f"{name}: pieces: {said}"
             continue
         reports = solved(pieces_of(folder), room / f"{number}.reports")
@@ -91,7 +95,24 @@ def complaints(file, kind, variables, room):
             said = run(*joined, *operands)
             if said != Ended(whole.out, "", whole.status):
                 yield f"{name}: join: {said}"
+        yield from indexed(name, file, kind, folder, reports, whole)
         yield from spoiled(name, joined, reports)
+        for tasks in random.Random(name).sample(TASKS, 2):
+            yield from of_tasks(file, kind, words, tasks, whole, room / f"{number}.{tasks}")
+
+
+def indexed(name, file, kind, folder, reports, whole):
+    """What is wrong with joins of these reports where the folder's index tells how many there are."""
+    joined = ("pbcube_join", "--format", kind)
+    for report in reports:
+        shutil.copy(report, folder)
+    for words in ((), ("--pieces", len(reports))):
+        if (said := run(*joined, *words, file, folder)) != Ended(whole.out, "", whole.status):
+            yield f"{name}: join by the index: {said}"
+    edited = folder.with_name(f"{folder.name}.edited{file.suffix}")
+    edited.write_text(file.read_text() + "\n")
+    for words in ((edited, folder), ("--pieces", len(reports) + 1, file, folder)):
+        refuses(said := run(*joined, *words)) or (yield f"{name}: join against the index of {words}: {said}")
 
 
 def spoiled(name, joined, reports):
@@ -120,6 +141,72 @@ def spoiled(name, joined, reports):
     chosen.write_text(text)
 
 
+def tasks_ran(file, kind, words, tasks, folder):
+    """Reports, one of each of so many tasks, in order."""
+    folder.mkdir()
+    for task in range(tasks):
+        ended = run("pbcube_task", "--format", kind, *words, "--task", task, "--tasks", tasks, file)
+        (folder / f"{task}.report").write_text(ended.out)
+    return sorted(folder.iterdir())
+
+
+def of_tasks(file, kind, words, tasks, whole, folder):
+    """What is wrong with joins of the reports of so many tasks."""
+    name = f"{file.name} {' '.join(map(str, words))}, {tasks} tasks"
+    reports = tasks_ran(file, kind, words, tasks, folder)
+    joined = ("pbcube_join", file, "--format", kind, "--tasks", tasks)
+    for operands in (reports, reports[::-1], [folder]):
+        if (said := run(*joined, *operands)) != Ended(whole.out, "", whole.status):
+            yield f"{name}: join: {said}"
+    yield from lost_task(name, joined, reports, whole)
+    yield from spoiled_task(name, joined, reports, whole)
+
+
+def lost_task(name, joined, reports, whole):
+    """What is wrong with joins where the report of one task is not there."""
+    pieces = int(reports[0].read_text().splitlines()[1].split()[2])
+    for task, report in enumerate(reports):
+        said = run(*joined, *(it for it in reports if it != report))
+        if len(reports) > 1 and task >= pieces:
+            is_right = said == Ended(whole.out, "", whole.status)
+        else:
+            is_known = "SATISFIABLE" in said.out and "UNSATISFIABLE" not in said.out and said.status == 10
+            is_unknown = said.out == "s UNKNOWN\n" and said.status == 0
+            is_right = (is_known or is_unknown) and said.err == f"pbcube_join: run again: tasks {task}\n"
+        if not is_right:
+            yield f"{name}: without {report.name}: {said}"
+
+
+def spoiled_task(name, joined, reports, whole):
+    """What is wrong with joins where a report of a task was doubled or changed."""
+    chosen = random.Random(name).choice(reports)
+    text = chosen.read_text()
+    heading = text.splitlines(keepends=True)[:HEADING]
+    part, pieces = heading[0].split(), heading[1].split()
+    digest = f"{int(part[-1][0], 16) ^ 1:x}{part[-1][1:]}"
+    changes = [
+        text.replace(part[-1], digest, 1),
+        text.replace(f" of {part[4]} of ", f" of {int(part[4]) + 1} of ", 1),
+        "".join(heading) + whole.out.replace("s SATISFIABLE", "s OPTIMUM FOUND"),
+        text + "s UNKNOWN\n",
+        text.replace("c part", "c  part", 1),
+        text.split("\n", 1)[1],
+    ]
+    if len(reports) > 1:
+        changes.append(text.replace(f"split {pieces[4]}", f"split {int(pieces[4]) + 1}", 1))
+    if "\no " in text:
+        cost = text.split("\no ")[-1].split()[0]
+        changes.append(text.replace(f"\no {cost}\n", f"\no 1{cost.lstrip('-')}\n"))
+    twice = chosen.with_name("again.report")
+    twice.write_text(text)
+    refuses(said := run(*joined, *reports, twice)) or (yield f"{name}: {chosen.name} twice: {said}")
+    twice.unlink()
+    for changed in changes:
+        chosen.write_text(changed)
+        refuses(said := run(*joined, *reports)) or (yield f"{name}: {chosen.name} is {changed!r}: {said}")
+    chosen.write_text(text)
+
+
 def refuses(said):
     """Whether a join wrote nothing, told why, and ended with status 1."""
     return said.out == "" and said.err != "" and said.status == 1
@@ -133,38 +220,118 @@ def has_parallel():
     return shutil.which("parallel") is not None
 
 
-def recipes(room, has_parallel):
-    """What is wrong with the recipes for GNU parallel, where that is here, and for Slurm, run here."""
-    cluster = TOP / "examples/cluster"
-    path = os.pathsep.join([*(str(it.parent) for it in PROGRAMS.values()), os.environ["PATH"]])
-    quiet = {"env": {**os.environ, "PATH": path}, "stdin": subprocess.DEVNULL, "capture_output": True, "timeout": 300}
-    file = TOP / "examples/repairs.opb"
-    whole = run("pbcube", file)
-    if has_parallel:
-        folder = room / "recipe"
-        words = [cluster / "parallel.sh", file, "opb", "3", folder]
-        for lost in (None, "3.report", "0.report"):
-            if lost:
-                (folder / lost).unlink()
-            old = {it.name: it.stat().st_mtime_ns for it in folder.glob("*.report")}
-            ended = subprocess.run(words, **quiet)
-            if (ended.stdout.decode(), ended.returncode) != (whole.out, whole.status):
+class Recipes:
+    """The recipes of examples/cluster/, with a folder to run them in."""
+
+    CLUSTER = TOP / "examples/cluster"
+    FILE = TOP / "examples/repairs.opb"
+    DIVIDERS = ("pbcube_pieces", "pbcube_join")
+
+    def __init__(self, room):
+        self.room = room
+        self.whole = run("pbcube", self.FILE)
+        self.paths = {
+            "all": self.programs("all", PROGRAMS),
+            "no solver": self.programs("unsolved", self.DIVIDERS),
+            "a killed solver": self.programs("killed", self.DIVIDERS),
+        }
+        # it ends by a signal on one piece, and writes a part of a report before
+        killed = self.paths["a killed solver"] / "pbcube"
+        killed.write_text(f'#!/bin/sh\ncase "$*" in *4.opb) echo "o 3"; kill -9 $$ ;; esac\nexec {PROGRAMS["pbcube"]} "$@"\n')
+        killed.chmod(0o755)
+
+    def programs(self, name, programs):
+        """A folder of that name with these programs."""
+        folder = self.room / f"path {name}"
+        folder.mkdir()
+        for it in programs:
+            (folder / it).symlink_to(PROGRAMS[it])
+        return folder
+
+    def ran(self, script, *words, path="all", **more):
+        """How the recipe ends on these words, with the programs of one of the paths before the others."""
+        others = [it for it in os.environ["PATH"].split(os.pathsep) if not (Path(it) / "pbcube").exists()]
+        told = {**os.environ, "PATH": os.pathsep.join([str(self.paths[path]), *others]), **more}
+        return ran([self.CLUSTER / script, *map(str, words)], env=told, timeout=300)
+
+    def is_answer(self, ended):
+        return (ended.out, ended.status) == (self.whole.out, self.whole.status)
+
+    def complaints(self, has_parallel):
+        """What is wrong with them, one line for each."""
+        for script in sorted(self.CLUSTER.iterdir()):
+            if (checked := ran(["bash", "-n", script])).status:
+                yield f"{script.name}: {checked}"
+        if has_parallel:
+            yield from self.of_parallel()
+        else:
+            print("joins: the recipe for GNU parallel is left out, since it is not here")
+        yield from self.of_slurm()
+
+    def of_parallel(self):
+        folder = self.room / "recipe"
+        words = ["parallel.sh", self.FILE, "opb", "3", folder]
+        for path in ("no solver", "a killed solver"):
+            if self.is_answer(ended := self.ran(*words, path=path)) or "has no report" not in ended.err:
+                yield f"parallel.sh, {path}: {ended}"
+        if sorted(it.name for it in folder.glob("*.report")) != [f"{number}.report" for number in range(9) if number != 4]:
+            yield f"parallel.sh, a killed solver: {sorted(folder.iterdir())}"
+        for lost in ("4.report", "3.report", "0.report"):
+            if lost == "0.report":
+                (folder / lost).write_text("")
+            else:
+                (folder / lost).unlink(missing_ok=True)
+            old = {it: it.stat().st_mtime_ns for it in folder.glob("*.report") if it.name != lost}
+            if not self.is_answer(ended := self.ran(*words)):
                 yield f"parallel.sh, without {lost}: {ended}"
-            if any((folder / name).stat().st_mtime_ns != time for name, time in old.items()):
+            if any(it.stat().st_mtime_ns != time for it, time in old.items()):
                 yield f"parallel.sh, without {lost}: other pieces were solved again"
-    else:
-        print("joins: the recipe for GNU parallel is left out, since it is not here")
-    script = cluster / "slurm.sh"
-    if (checked := subprocess.run(["bash", "-n", script], **quiet)).returncode:
-        yield f"slurm.sh: {checked}"
-    folder = room / "tasks"
-    run("pbcube_pieces", "--split", 2, "--out", folder, file)
-    for number in range(len(pieces_of(folder))):
-        task = {**quiet, "env": {**quiet["env"], "SLURM_ARRAY_TASK_ID": str(number)}}
-        if (ended := subprocess.run([script, folder], **task)).returncode:
-            yield f"slurm.sh, task {number}: {ended}"
-    if (said := run("pbcube_join", "--pieces", len(pieces_of(folder)), file, folder)) != Ended(whole.out, "", whole.status):
-        yield f"slurm.sh: join: {said}"
+        other = self.room / "other.opb"
+        other.write_text(self.FILE.read_text() + "* another text\n")
+        for file, split in ((other, 3), (self.FILE, 2), (self.FILE, 0)):
+            ended = self.ran("parallel.sh", file, "opb", split, folder)
+            if (ended.out, ended.err.count("\n"), ended.status) != ("", 1, 2):
+                yield f"parallel.sh, {file.name} and split {split} in an old folder: {ended}"
+        own_cubes = ["parallel.sh", TOP / "examples/colouring.icnf", "icnf", "1", self.room / "own"]
+        for ended in (self.ran(*own_cubes), self.ran(*own_cubes)):
+            if ended.status != 10:
+                yield f"parallel.sh, own cubes: {ended}"
+
+    def of_slurm(self):
+        folder = self.room / "tasks"
+        run("pbcube_pieces", "--split", 3, "--out", folder, self.FILE)
+        (folder / "8.report").write_text("")
+
+        def task(number, *words, path="all"):
+            return self.ran("slurm.sh", folder, *words, path=path, SLURM_ARRAY_TASK_ID=str(number))
+
+        def log(number):
+            file = folder / f"task-{number}.log"
+            return file.read_text() if file.exists() else ""
+
+        def joined():
+            return self.ran("slurm-join.sh", self.FILE, "opb", folder)
+
+        if (ended := task(0, path="no solver")).status != 1 or "ended with status 127" not in log(0) or (folder / "0.report").exists():
+            yield f"slurm.sh, no solver: {ended} {log(0)!r}"
+        # pieces 3 to 5: the two beside the one whose solver is killed are solved
+        if (ended := task(1, 3, path="a killed solver")).status != 1 or "ended with status 137" not in log(1):
+            yield f"slurm.sh, a killed solver: {ended} {log(1)!r}"
+        if [it.name for it in sorted(folder.glob("*.report"))] != ["3.report", "5.report", "8.report"]:
+            yield f"slurm.sh, a killed solver: {sorted(folder.iterdir())}"
+        for number in range(5):
+            if (ended := task(number, 2)).status or log(number):
+                yield f"slurm.sh, task {number}: {ended} {log(number)!r}"
+        for number in (5, 400):
+            if (ended := task(number, 2)).status or "there is no piece" not in log(number):
+                yield f"slurm.sh, task {number}: {ended} {log(number)!r}"
+        said = (joined(), (folder / "joined").read_text(), (folder / "joined.log").read_text())
+        if said != (Ended("", "", 0), self.whole.out, ""):
+            yield f"slurm-join.sh: {said}"
+        for file in folder.glob("*.report"):
+            file.unlink()
+        if (ended := joined()).status != 1 or (folder / "joined").read_text() != "s UNKNOWN\n":
+            yield f"slurm-join.sh, without reports: {ended}"
 
 
 def main():
@@ -172,7 +339,7 @@ def main():
         room, fetching = Path(folder), pool.submit(has_parallel)
         files = list(texts(room))
         wrong = [it for lines in pool.map(lambda it: list(complaints(*it, room / f"{it[0].name}.cut")), files) for it in lines]
-        wrong += recipes(room, fetching.result())
+        wrong += Recipes(room).complaints(fetching.result())
     print(*[f"joins: {line}" for line in wrong], f"joins: {len(files)} instances, {len(wrong)} complaints", sep="\n")
     return 1 if wrong else 0
 

@@ -39,10 +39,12 @@ def divisions(pbcube, instance):
 def faults_of(pbcube, splitter, instance, words, folder):
     """What is wrong with the pieces of one instance."""
     split = ran([splitter, "--format", instance.suffix[1:], *words, "--out", str(folder), str(instance)])
-    if split != Ended("", "", 0):
+    if split.err or split.status:
         yield f"{split}"
         return
     index = (folder / "index").read_text().splitlines()
+    if split.out != f"{index[0]}\n":
+        yield f"what is told is not the index's first line: {split}"
     told = dict(line.split(" ", 1) for line in index[:4])
     names = index[4:]
     if told["sha256"] != hashlib.sha256(instance.read_bytes()).hexdigest():
