@@ -1,5 +1,5 @@
 //! One worker's side of the exchange of notes.
-ghost use Rattle.std.specs.Prelude.{◌≡◌, length, IfOk, IfSome};
+ghost use Rattle.std.specs.Prelude.{◌≡◌, ◌≤◌, length, IfOk, IfSome};
 
 use crate::notes::Notes;
 use crate::reading::{Note, read_note};
@@ -10,18 +10,19 @@ use std::alloc::Global;
 use std::io;
 use std::marker::Model;
 
-/// Of so many calls of `borrow` the first one looks at the notes, and the others do not.
-pub const LOOKS_APART: u32 = 8;
+/// At most so many calls of `borrow` pass from one look to the next.
+const MOST_APART: u32 = 8;
 
-/// What the assignment is kept for.
-#[derive(Clone, Copy)]
-enum Kept {
-    /// For nothing.
-    Nothing,
-    /// It was lent with this told cost. The next call shows whether the search took it over.
-    Lent(Number),
-    /// It is to be written, with this cost.
-    Due(Number),
+/// Over so many variables each call looks.
+const VARIABLES_OF_ALL_LOOKS: u32 = 8192;
+
+/// Of so many calls of `borrow` the first one looks at the notes, and the others do not. The calls come after equally many
+/// decisions, which take the longer the more variables there are. So with more variables fewer of them pass, and some tens of
+/// milliseconds lie between two looks.
+pub fn looks_apart(vars: u32) -> u32
+    ensures in_range { (1 ≤ result) × (result ≤ 8) }
+{
+    (VARIABLES_OF_ALL_LOOKS / vars.max(1)).clamp(1, MOST_APART)
 }
 
 /// What came of a look at the note of one task.
@@ -47,11 +48,15 @@ pub struct Exchange<'n, N> {
     task: u32,
     tasks: u32,
     worker: u32,
-    kept: Kept,
+    /// What is to be written, where something is, or what was lent.
     values: Assignment,
+    /// The cost of what is to be written.
+    due: Option<Number>,
+    /// The cost that was told of what was lent. The next call shows whether the search took it over.
+    lent: Option<Number>,
     /// The least cost that the task's note is known to tell.
     written: Option<Number>,
-    /// Whether the task's own note, as it lay there at the first look, was not what it told.
+    /// Whether the task's own note, when it was looked at, was not what it told.
     own_was_wrong: bool,
     /// The task whose note was looked at last.
     last: u32,
@@ -96,8 +101,9 @@ impl<'n, N: Notes> Exchange<'n, N> {
             task,
             tasks,
             worker,
-            kept: Kept::Nothing,
             values,
+            due: None,
+            lent: None,
             written: None,
             own_was_wrong: false,
             last: task,
@@ -117,24 +123,21 @@ impl<'n, N: Notes> Exchange<'n, N> {
             return;
         }
         self.values.copy_from(assignment);
-        self.kept = Kept::Due(cost);
+        self.due = Some(cost);
     }
 
     /// Whether a cost is below the one that is written, and the one that is to be written.
     fn is_news(&self, cost: Number) -> bool {
-        let due = match self.kept {
-            Kept::Due(due) => Some(due),
-            Kept::Nothing | Kept::Lent(_) => None,
-        };
-        is_below(cost, self.written) && is_below(cost, due)
+        is_below(cost, self.written) && is_below(cost, self.due)
     }
 
-    /// Looks, at the first call and then at each `LOOKS_APART`-th one: writes what is to be written, and reads one note, at the
+    /// Looks, at the first call and then at each `looks_apart`-th one: writes what is to be written, and reads one note, at the
     /// first look the task's own, or, where there is none, that of the next task that has one, and later that of the next other
-    /// task in turn. Where the note tells a cost below the given one, which is that of the best assignment of the search,
-    /// answers true and copies its values into the assignment. Nothing says that they cost what the note tells, or are
-    /// feasible. Where the search takes them over, which the next call's cost shows, they are to be written as the task's own
-    /// note, so that news spreads.
+    /// task in turn. Where the task's own note turns out to tell less than what is to be written, that one is read.
+    ///
+    /// Where the note tells a cost below the given one, which is that of the best assignment of the search, answers true and
+    /// copies its values into the assignment. Nothing says that they cost what the note tells, or are feasible. Where the search
+    /// takes them over, which the next call's cost shows, they are to be written as the task's own note, so that news spreads.
     ///
     /// For an assignment of another number of variables it does nothing.
     pub fn borrow(&mut self, below: Number, into: &mut Assignment) -> bool
@@ -161,19 +164,30 @@ impl<'n, N: Notes> Exchange<'n, N> {
         self.write_due();
     }
 
-    /// What was lent is to be written where the search took it over: its best assignment then costs no more. A note that was
-    /// not what it told goes no further.
+    /// What was lent is to be written where the search took it over and has found nothing since: its best assignment then costs
+    /// no more. A note that was not what it told goes no further, and the task's own note is written already. What is dearer than
+    /// the best assignment is not to be written any more.
     fn settle(&mut self, best: Number)
         ensures { self.new ≡ self.old }
     {
-        let Kept::Lent(cost) = self.kept else {
-            return;
-        };
-        self.kept = Kept::Nothing;
+        if let Some(cost) = self.lent {
+            self.lent = None;
+            self.settle_lent(cost, best);
+        }
+        if is_below(best, self.due) {
+            self.due = None;
+        }
+    }
+
+    /// The same of a note that told this cost.
+    fn settle_lent(&mut self, cost: Number, best: Number)
+        ensures { self.new ≡ self.old }
+    {
+        let is_own = self.last == self.task;
         if best > cost {
-            self.own_was_wrong |= self.last == self.task;
-        } else if is_below(cost, self.written) {
-            self.kept = Kept::Due(cost);
+            self.own_was_wrong |= is_own;
+        } else if !is_own && self.due.is_none() && is_below(cost, self.written) {
+            self.due = Some(cost);
         }
     }
 
@@ -185,32 +199,46 @@ impl<'n, N: Notes> Exchange<'n, N> {
             self.pause -= 1;
             return false;
         }
-        self.pause = LOOKS_APART - 1;
+        self.pause = looks_apart(self.values.len()) - 1;
         true
     }
 
-    /// Writes what is to be written as the task's note. One that tells no higher cost stays there: another worker of the task
-    /// may have written it, or the task before it was started again.
+    /// Writes what is to be written as the task's note. One that tells less stays there until it was looked at, which is next:
+    /// another worker of the task may have written it, or the task before it was started again, or it is wrong.
     fn write_due(&mut self)
         ensures { self.new ≡ self.old }
     {
-        let Kept::Due(cost) = self.kept else {
+        let Some(cost) = self.due else {
             return;
         };
-        let own = self.own_cost();
-        if !is_below(cost, own) {
-            self.written = own;
-            self.kept = Kept::Nothing;
-            return;
+        match self.own_cost() {
+            Some(own) if own < cost => {
+                self.last = self.task;
+                self.has_looked = false;
+            }
+            Some(own) if own == cost => self.is_written(cost),
+            _ => self.write(cost),
         }
+    }
+
+    /// Writes what is to be written, with this cost, as the task's note.
+    fn write(&mut self, cost: Number)
+        ensures { self.new ≡ self.old }
+    {
         write_note(&mut self.text, &self.digest, cost, &self.values);
         match self.notes.write(self.worker, &self.text) {
-            Ok(()) => {
-                self.written = Some(cost);
-                self.kept = Kept::Nothing;
-            }
+            Ok(()) => self.is_written(cost),
             Err(fault) => self.notes.tell(&fault),
         }
+    }
+
+    /// The task's note tells this cost.
+    fn is_written(&mut self, cost: Number)
+        ensures { self.new ≡ self.old }
+    {
+        self.written = Some(cost);
+        self.due = None;
+        self.own_was_wrong = false;
     }
 
     /// The cost that the task's own note tells, if there is one that can be relied on.
@@ -278,8 +306,11 @@ impl<'n, N: Notes> Exchange<'n, N> {
             return Look::Declined;
         }
         note.copy_into(into);
-        self.values.copy_from(into);
-        self.kept = Kept::Lent(note.cost());
+        self.lent = Some(note.cost());
+        if task != self.task {
+            self.values.copy_from(into);
+            self.due = None;
+        }
         Look::Lent
     }
 }

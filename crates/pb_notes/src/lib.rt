@@ -9,7 +9,7 @@ mod reading;
 mod turns;
 mod writing;
 
-pub use exchange::{Exchange, LOOKS_APART};
+pub use exchange::{Exchange, looks_apart};
 pub use folder::Folder;
 pub use notes::Notes;
 pub use reading::{Note, read_note};

@@ -3,7 +3,7 @@ ghost use Rattle.std.specs.Prelude.{◌≤◌, length};
 
 use crate::tests::note_texts::{DIGEST, assignment, below_first_line, bits_of, note};
 use pb_inst::{Assignment, Memory, Number};
-use pb_notes::{Exchange, LOOKS_APART, Notes};
+use pb_notes::{Exchange, Notes, looks_apart};
 use std::alloc::Global;
 use std::cell::{Cell, RefCell};
 use std::io::{self, Error, ErrorKind};
@@ -161,7 +161,7 @@ fn is_quiet(
     below: Number,
 ) -> Result<bool, Memory> {
     let mut is_quiet = true;
-    for _ in 1..LOOKS_APART {
+    for _ in 1..looks_apart(VARS) {
         is_quiet &= lent(alloc, exchange, below)?.is_none();
     }
     Ok(is_quiet)
@@ -232,7 +232,7 @@ const SCENES: &[(&str, u32, &[Move])] = &[
             Move::Calls(b"r1"),
             Move::Pause(5),
             Move::Borrow(5, Some(0b0010)),
-            Move::Calls(b"r1r2"),
+            Move::Calls(b"r2"),
         ],
     ),
     (
@@ -335,11 +335,46 @@ const SCENES: &[(&str, u32, &[Move])] = &[
             Move::Note(1, 3, 0b0011),
             Move::Offer(4, 0b0001),
             Move::Close,
-            Move::Calls(b""),
+            Move::Calls(b"r1"),
+            Move::Note(1, 3, 0b0011),
             Move::Offer(2, 0b0001),
             Move::Close,
             Move::Calls(b"r1w"),
             Move::Note(1, 2, 0b0001),
+        ],
+    ),
+    (
+        "a better own note is looked at before it is written over",
+        3,
+        &[
+            Move::Borrow(100, None),
+            Move::Calls(b"r1r2r0"),
+            Move::Put(1, 3, 0b0011),
+            Move::Offer(7, 0b0001),
+            Move::Pause(7),
+            Move::Borrow(7, Some(0b0011)),
+            Move::Calls(b"r1r1"),
+            Move::Pause(3),
+            Move::Borrow(3, None),
+            Move::Calls(b"r2"),
+            Move::Note(1, 3, 0b0011),
+        ],
+    ),
+    (
+        "an own note that came to tell what is not so is written over",
+        3,
+        &[
+            Move::Borrow(100, None),
+            Move::Calls(b"r1r2r0"),
+            Move::Put(1, -99, 0b1010),
+            Move::Offer(7, 0b0001),
+            Move::Pause(7),
+            Move::Borrow(7, Some(0b1010)),
+            Move::Calls(b"r1r1"),
+            Move::Pause(7),
+            Move::Borrow(7, None),
+            Move::Calls(b"wr2"),
+            Move::Note(1, 7, 0b0001),
         ],
     ),
     (
@@ -389,7 +424,7 @@ const SCENES: &[(&str, u32, &[Move])] = &[
             Move::Offer(3, 0b0001),
             Move::Pause(3),
             Move::Borrow(3, None),
-            Move::Calls(b"r1r1r1w"),
+            Move::Calls(b"r1r1w"),
             Move::Note(1, 3, 0b0001),
         ],
     ),
@@ -420,5 +455,22 @@ fn other_lengths_are_passed_over(rt: HostRuntime) -> Result<(), Fail> {
     exchange.offer(3, &other);
     exchange.close();
     assert!(rt; shelf.had_calls(b""));
+    Ok(())
+}
+
+#[test]
+fn more_variables_are_looked_for_more_often(rt: HostRuntime) -> Result<(), Fail> {
+    let moves: &[(u32, u32)] = &[
+        (0, 8),
+        (1024, 8),
+        (1025, 7),
+        (3000, 2),
+        (8192, 1),
+        (100_000, 1),
+    ];
+    for (vars, want) in moves {
+        let apart = looks_apart(*vars);
+        assert!(rt; apart == *want, "{vars}: {apart}");
+    }
     Ok(())
 }
