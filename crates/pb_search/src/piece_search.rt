@@ -113,7 +113,7 @@ impl<'a, C: Count> Drop for PieceSearch<'a, C> {
 }
 
 impl<'a, C: Count> PieceSearch<'a, C> {
-    ghost use Rattle.pb_search.specs.Done.{IsDone};
+    ghost use Rattle.pb_search.specs.Done.{IsDone, IsDoneUnder, LiesInUnder};
 
     /// Makes all that the searches of the pieces need, over a normal form of the instance. Fails where memory is refused.
     pub fn new(
@@ -182,7 +182,31 @@ impl<'a, C: Count> PieceSearch<'a, C> {
                 };
                 search_under(state, cube.lits(), best, share, left)
             }
-            Piece::Rest(_) => search_under(&mut self.rest, &[], best, share, left),
+            Piece::Rest(_) => self.search_rest(&[], best, share, left),
         }
+    }
+
+    /// Searches the part of the remainder in which a cube is true, or stops where it would need one decision more than are
+    /// left.
+    pub fn search_rest<S: Share>(
+        &mut self,
+        cube: &[Lit],
+        best: &mut Best<'_>,
+        share: &mut S,
+        left: &mut Option<u64>,
+    ) -> Outcome
+        requires variables { All (λ l. l.var ≤ self.old.problem.vars) cube.now }
+        requires same_instance { best.old.problem ≡ self.old.problem }
+        ensures done { result ≡ Outcome.Whole → IsDoneUnder self.old (length self.old.cubes) cube.now best.new.held }
+        ensures used_up { result ≡ Outcome.Cut → left.new ≡ Some 0 }
+        ensures budget { IsLeftOf left.old left.new }
+        ensures not_after { IsNotAfter self.old.problem best.old.held best.new.held }
+        ensures own { S.lends share.old ≡ false → (best.new ≡ best.old) ⊎ IsSomeAnd best.new.held (λ s. LiesInUnder self.old.cubes (length self.old.cubes) cube.now s.assignment) }
+        ensures kept { S.keeps share.old share.new }
+        ensures same_lending { S.lends share.new ≡ S.lends share.old }
+        ensures same_instance { best.new.problem ≡ best.old.problem }
+        ensures unchanged { self.new ≡ self.old }
+    {
+        search_under(&mut self.rest, cube, best, share, left)
     }
 }

@@ -8,6 +8,7 @@ mod lenders;
 mod listing;
 mod order;
 mod pieces;
+mod questions;
 mod shares;
 mod unconstrained;
 mod widths;

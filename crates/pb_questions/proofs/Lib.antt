@@ -1,0 +1,3 @@
+pub mod UnderLemmas
+pub mod ExplainLemmas
+pub mod FixedLemmas

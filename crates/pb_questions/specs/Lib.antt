@@ -1,0 +1,4 @@
+pub mod Under
+pub mod Sought
+pub mod Explained
+pub mod Fixed

@@ -1,0 +1,13 @@
+//! Questions on one instance, each under assumptions: the least assignment that makes some literals true (`questions`), why
+//! there is none (`explaining`), and which variables have one value in all that are left (`fixing`). One search answers all
+//! of them, so what it learned in one is there for the next.
+#![tactic(auto)]
+
+mod explaining;
+mod fixing;
+mod questions;
+mod seeking;
+
+pub use explaining::{Core, Explanation};
+pub use fixing::{Among, Fixed, VariableStatus};
+pub use questions::{Answer, Questions};

@@ -1,0 +1,205 @@
+//! Questions on one instance beside the listing of all assignments.
+
+use super::instances::{lit, tied};
+use super::listing::Random;
+use pb_cubes::Pieces;
+use pb_inst::{Assignment, Instance, Lit, Number};
+use pb_normal::normalise;
+use pb_questions::{Among, Explanation, Fixed, Questions, VariableStatus};
+use std::alloc::Global;
+use std::process::Abort;
+
+/// The literals of these numbers.
+fn lits(rt: &impl Abort, alloc: Global, numbers: &[i32]) -> Vec<Lit> {
+    let mut lits = Vec::new(alloc);
+    for number in numbers {
+        lits.push(lit(rt, *number)).expect(rt, "memory");
+    }
+    lits
+}
+
+/// The assignments that are feasible under the literals, each as its cost and its bits, that of variable 1 highest: the first of
+/// them is the least.
+fn listed(
+    rt: &impl Abort,
+    alloc: Global,
+    instance: &Instance,
+    assumed: &[Lit],
+) -> Vec<(Number, u64)> {
+    let vars = instance.vars();
+    let mut candidate = Assignment::new(alloc, vars).expect(rt, "memory");
+    let mut listed = Vec::new(alloc);
+    assert!(rt; 0 < vars && vars < 20);
+    for number in 0..1u64 << vars {
+        assert!(rt; candidate.len() == vars);
+        candidate.set_word(0, number);
+        let holds = assumed.iter().all(|lit| lit.var() > vars
+            || (number >> (lit.var() - 1) & 1 == 1) == lit.positive());
+        if let Some(cost) = instance.check(&candidate)
+            && holds
+        {
+            listed
+                .push((cost, number.reverse_bits()))
+                .expect(rt, "memory");
+        }
+    }
+    listed.sort().expect(rt, "memory");
+    listed
+}
+
+/// The least assignment is that of the listing.
+fn expect_least(
+    rt: &impl Abort,
+    questions: &mut Questions<'_>,
+    assumed: &[Lit],
+    listed: &[(Number, u64)],
+) {
+    let answer = questions.solve_under(assumed, None).expect(rt, "memory");
+    let mut found = None;
+    if let (Some(cost), Some(held)) = (answer.best.cost(), answer.best.assignment()) {
+        assert!(rt; 0 < held.len());
+        found = Some((cost, held.word(0).reverse_bits()));
+    }
+    assert!(rt; !answer.cut);
+    assert!(rt; found == listed.first().copied());
+}
+
+/// Nothing is feasible under a core, and something is without any one of its literals.
+fn expect_core(rt: &impl Abort, alloc: Global, instance: &Instance, core: &[Lit]) {
+    assert!(rt; listed(rt, alloc, instance, core).is_empty());
+    for (place, _) in core.iter().enumerate() {
+        let mut others = Vec::new(alloc);
+        for (other, lit) in core.iter().enumerate() {
+            if other != place {
+                others.push(*lit).expect(rt, "memory");
+            }
+        }
+        assert!(rt; !listed(rt, alloc, instance, &others).is_empty());
+    }
+}
+
+/// The explanation is right by the listing.
+fn expect_explained(
+    rt: &impl Abort,
+    alloc: Global,
+    instance: &Instance,
+    questions: &mut Questions<'_>,
+    assumed: &[Lit],
+    is_feasible: bool,
+) {
+    match questions.explain(assumed, None).expect(rt, "memory") {
+        Explanation::Feasible => assert!(rt; is_feasible),
+        Explanation::Core(core) => {
+            assert!(rt; core.is_minimal && !is_feasible);
+            expect_core(rt, alloc, instance, &core.literals);
+        }
+        Explanation::Cut => assert!(rt; false),
+    }
+}
+
+/// The status of the variable at the place in these assignments, of which there is one.
+fn status(bits: &[(Number, u64)], place: u32) -> VariableStatus {
+    let is_true = |entry: &(Number, u64)| entry.1 >> (63 - place % 64) & 1 == 1;
+    if bits.iter().all(is_true) {
+        return VariableStatus::FixedTrue;
+    }
+    if bits.iter().any(is_true) {
+        return VariableStatus::Free;
+    }
+    VariableStatus::FixedFalse
+}
+
+/// The statuses of all variables are those of the listing.
+fn expect_fixed(
+    rt: &impl Abort,
+    alloc: Global,
+    questions: &mut Questions<'_>,
+    assumed: &[Lit],
+    among: Among,
+    listed: &[(Number, u64)],
+) {
+    let mut asked = Vec::new(alloc);
+    for entry in listed {
+        let is_least = listed.first().is_some_and(|first| first.0 == entry.0);
+        if among == Among::Feasible || is_least {
+            asked.push(*entry).expect(rt, "memory");
+        }
+    }
+    match questions.fixed(assumed, among, None).expect(rt, "memory") {
+        Fixed::Infeasible => assert!(rt; asked.is_empty()),
+        Fixed::Variables(statuses) => {
+            assert!(rt; !asked.is_empty());
+            let mut place = 0u32;
+            for got in &statuses {
+                assert!(rt; *got == status(&asked, place));
+                place = place.wrapping_add(1);
+            }
+        }
+    }
+}
+
+/// Each question's answers are those of the listing.
+fn expect_all(
+    rt: &impl Abort,
+    alloc: Global,
+    instance: &Instance,
+    questions: &mut Questions<'_>,
+    assumed: &[Lit],
+) {
+    let listed = listed(rt, alloc, instance, assumed);
+    expect_least(rt, questions, assumed, &listed);
+    let is_feasible = !listed.is_empty();
+    expect_explained(rt, alloc, instance, questions, assumed, is_feasible);
+    expect_fixed(rt, alloc, questions, assumed, Among::Feasible, &listed);
+    expect_fixed(rt, alloc, questions, assumed, Among::Least, &listed);
+}
+
+/// Asks under so many random literals, some of them of variables over the instance's.
+fn expect_questions(
+    rt: &impl Abort,
+    alloc: Global,
+    instance: &Instance,
+    random: &mut Random,
+    count: u32,
+) {
+    let vars = instance.vars();
+    let pieces = Pieces::new(vars, Vec::new(alloc)).expect(rt, "pieces");
+    let normal = normalise(alloc, instance).expect(rt, "memory");
+    let mut questions = Questions::new(alloc, instance, &normal, &pieces).expect(rt, "memory");
+    for _ in 0..count {
+        let mut numbers = Vec::new(alloc);
+        for _ in 0..random.below(5) {
+            let number = random.literal(vars.saturating_add(1));
+            numbers.push(number).expect(rt, "memory");
+        }
+        let assumed = lits(rt, alloc, &numbers);
+        expect_all(rt, alloc, instance, &mut questions, &assumed);
+    }
+}
+
+#[test]
+fn questions_are_answered_as_the_listing_does(rt: HostRuntime) {
+    let alloc = rt.alloc();
+    let mut random = Random { state: 5 };
+    for _ in 0..40 {
+        let vars = random.below(10).saturating_add(1);
+        let instance = random.instance(&rt, alloc, vars);
+        expect_questions(&rt, alloc, &instance, &mut random, 20);
+    }
+}
+
+/// Without a decision a question that needs one is cut, and the next one is answered in full.
+#[test]
+fn a_cut_question_spoils_none(rt: HostRuntime) {
+    let alloc = rt.alloc();
+    let tied = tied(&rt, alloc);
+    let pieces = Pieces::new(tied.vars(), Vec::new(alloc)).expect(&rt, "pieces");
+    let normal = normalise(alloc, &tied).expect(&rt, "memory");
+    let mut questions = Questions::new(alloc, &tied, &normal, &pieces).expect(&rt, "memory");
+    let cut = questions.solve_under(&[], Some(0)).expect(&rt, "memory");
+    assert!(rt; cut.cut);
+    for numbers in [&[][..], &[-2], &[-1, -2], &[1, -1], &[9, -9]] {
+        let assumed = lits(&rt, alloc, numbers);
+        expect_all(&rt, alloc, &tied, &mut questions, &assumed);
+    }
+}
