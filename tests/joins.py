@@ -5,24 +5,19 @@ those of one run.
     tests/joins.py
 
 It takes the programs that the merge gate built. The instances are the examples and fifty random ones, cut by splits, by cubes
-and by both, and dealt among two of one, two, three and five tasks. Then a report is left out, unknown, given twice, cut short or changed,
-or is one of another instance or another division: a join must say so and claim no more than is so.
-Last the recipes of examples/cluster/ are run on this machine: the one for GNU parallel where that is here or can be fetched, the
-one for Slurm task by task, without Slurm. Reports are lost in them, a solver is killed, and once there is no solver at all.
+and by both, and dealt among two of one, two, three and five tasks. Then a report is left out, unknown, given twice, cut short or
+changed, or is one of another instance or another division: a join must say so and claim no more than is so.
 """
 import itertools
-import os
 import random
 import shutil
-import subprocess
 import sys
 import tempfile
-from concurrent.futures import ThreadPoolExecutor
 from pathlib import Path
 
 sys.dont_write_bytecode = True
 from budgets import instances
-from lib import FORMATS, PROCESSORS, TOP, Ended, examples, program, ran
+from lib import FORMATS, Ended, examples, program, ran, side_by_side
 
 RANDOM = 50
 TASKS = (1, 2, 3, 5)
@@ -212,134 +207,12 @@ def refuses(said):
     return said.out == "" and said.err != "" and said.status == 1
 
 
-def has_parallel():
-    """Whether GNU parallel is here, or can be fetched from Debian's packages."""
-    if not shutil.which("parallel") and shutil.which("apt-get") and os.geteuid() == 0:
-        for words in (["update"], ["install", "--yes", "--no-install-recommends", "parallel"]):
-            subprocess.run(["apt-get", "--quiet", *words], stdin=subprocess.DEVNULL, capture_output=True, timeout=300)
-    return shutil.which("parallel") is not None
-
-
-class Recipes:
-    """The recipes of examples/cluster/, with a folder to run them in."""
-
-    CLUSTER = TOP / "examples/cluster"
-    FILE = TOP / "examples/repairs.opb"
-    DIVIDERS = ("pbcube_pieces", "pbcube_join")
-
-    def __init__(self, room):
-        self.room = room
-        self.whole = run("pbcube", self.FILE)
-        self.paths = {
-            "all": self.programs("all", PROGRAMS),
-            "no solver": self.programs("unsolved", self.DIVIDERS),
-            "a killed solver": self.programs("killed", self.DIVIDERS),
-        }
-        # it ends by a signal on one piece, and writes a part of a report before
-        killed = self.paths["a killed solver"] / "pbcube"
-        killed.write_text(f'#!/bin/sh\ncase "$*" in *4.opb) echo "o 3"; kill -9 $$ ;; esac\nexec {PROGRAMS["pbcube"]} "$@"\n')
-        killed.chmod(0o755)
-
-    def programs(self, name, programs):
-        """A folder of that name with these programs."""
-        folder = self.room / f"path {name}"
-        folder.mkdir()
-        for it in programs:
-            (folder / it).symlink_to(PROGRAMS[it])
-        return folder
-
-    def ran(self, script, *words, path="all", **more):
-        """How the recipe ends on these words, with the programs of one of the paths before the others."""
-        others = [it for it in os.environ["PATH"].split(os.pathsep) if not (Path(it) / "pbcube").exists()]
-        told = {**os.environ, "PATH": os.pathsep.join([str(self.paths[path]), *others]), **more}
-        return ran([self.CLUSTER / script, *map(str, words)], env=told, timeout=300)
-
-    def is_answer(self, ended):
-        return (ended.out, ended.status) == (self.whole.out, self.whole.status)
-
-    def complaints(self, has_parallel):
-        """What is wrong with them, one line for each."""
-        for script in sorted(self.CLUSTER.iterdir()):
-            if (checked := ran(["bash", "-n", script])).status:
-                yield f"{script.name}: {checked}"
-        if has_parallel:
-            yield from self.of_parallel()
-        else:
-            print("joins: the recipe for GNU parallel is left out, since it is not here")
-        yield from self.of_slurm()
-
-    def of_parallel(self):
-        folder = self.room / "recipe"
-        words = ["parallel.sh", self.FILE, "opb", "3", folder]
-        for path in ("no solver", "a killed solver"):
-            if self.is_answer(ended := self.ran(*words, path=path)) or "has no report" not in ended.err:
-                yield f"parallel.sh, {path}: {ended}"
-        if sorted(it.name for it in folder.glob("*.report")) != [f"{number}.report" for number in range(9) if number != 4]:
-            yield f"parallel.sh, a killed solver: {sorted(folder.iterdir())}"
-        for lost in ("4.report", "3.report", "0.report"):
-            if lost == "0.report":
-                (folder / lost).write_text("")
-            else:
-                (folder / lost).unlink(missing_ok=True)
-            old = {it: it.stat().st_mtime_ns for it in folder.glob("*.report") if it.name != lost}
-            if not self.is_answer(ended := self.ran(*words)):
-                yield f"parallel.sh, without {lost}: {ended}"
-            if any(it.stat().st_mtime_ns != time for it, time in old.items()):
-                yield f"parallel.sh, without {lost}: other pieces were solved again"
-        other = self.room / "other.opb"
-        other.write_text(self.FILE.read_text() + "* another text\n")
-        for file, split in ((other, 3), (self.FILE, 2), (self.FILE, 0)):
-            ended = self.ran("parallel.sh", file, "opb", split, folder)
-            if (ended.out, ended.err.count("\n"), ended.status) != ("", 1, 2):
-                yield f"parallel.sh, {file.name} and split {split} in an old folder: {ended}"
-        own_cubes = ["parallel.sh", TOP / "examples/colouring.icnf", "icnf", "1", self.room / "own"]
-        for ended in (self.ran(*own_cubes), self.ran(*own_cubes)):
-            if ended.status != 10:
-                yield f"parallel.sh, own cubes: {ended}"
-
-    def of_slurm(self):
-        folder = self.room / "tasks"
-        run("pbcube_pieces", "--split", 3, "--out", folder, self.FILE)
-        (folder / "8.report").write_text("")
-
-        def task(number, *words, path="all"):
-            return self.ran("slurm.sh", folder, *words, path=path, SLURM_ARRAY_TASK_ID=str(number))
-
-        def log(number):
-            file = folder / f"task-{number}.log"
-            return file.read_text() if file.exists() else ""
-
-        def joined():
-            return self.ran("slurm-join.sh", self.FILE, "opb", folder)
-
-        if (ended := task(0, path="no solver")).status != 1 or "ended with status 127" not in log(0) or (folder / "0.report").exists():
-            yield f"slurm.sh, no solver: {ended} {log(0)!r}"
-        # pieces 3 to 5: the two beside the one whose solver is killed are solved
-        if (ended := task(1, 3, path="a killed solver")).status != 1 or "ended with status 137" not in log(1):
-            yield f"slurm.sh, a killed solver: {ended} {log(1)!r}"
-        if [it.name for it in sorted(folder.glob("*.report"))] != ["3.report", "5.report", "8.report"]:
-            yield f"slurm.sh, a killed solver: {sorted(folder.iterdir())}"
-        for number in range(5):
-            if (ended := task(number, 2)).status or log(number):
-                yield f"slurm.sh, task {number}: {ended} {log(number)!r}"
-        for number in (5, 400):
-            if (ended := task(number, 2)).status or "there is no piece" not in log(number):
-                yield f"slurm.sh, task {number}: {ended} {log(number)!r}"
-        said = (joined(), (folder / "joined").read_text(), (folder / "joined.log").read_text())
-        if said != (Ended("", "", 0), self.whole.out, ""):
-            yield f"slurm-join.sh: {said}"
-        for file in folder.glob("*.report"):
-            file.unlink()
-        if (ended := joined()).status != 1 or (folder / "joined").read_text() != "s UNKNOWN\n":
-            yield f"slurm-join.sh, without reports: {ended}"
-
-
 def main():
-    with tempfile.TemporaryDirectory(prefix="pbcube-joins-") as folder, ThreadPoolExecutor(PROCESSORS + 1) as pool:
-        room, fetching = Path(folder), pool.submit(has_parallel)
+    with tempfile.TemporaryDirectory(prefix="pbcube-joins-") as folder:
+        room = Path(folder)
         files = list(texts(room))
-        wrong = [it for lines in pool.map(lambda it: list(complaints(*it, room / f"{it[0].name}.cut")), files) for it in lines]
-        wrong += Recipes(room).complaints(fetching.result())
+        lists = side_by_side(lambda it: list(complaints(*it, room / f"{it[0].name}.cut")), files)
+    wrong = [line for lines in lists for line in lines]
     print(*[f"joins: {line}" for line in wrong], f"joins: {len(files)} instances, {len(wrong)} complaints", sep="\n")
     return 1 if wrong else 0
 

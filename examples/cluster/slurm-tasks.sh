@@ -1,0 +1,33 @@
+#!/usr/bin/env bash
+#SBATCH --job-name=pbcube-task --cpus-per-task=1 --requeue --output=/dev/null
+#SBATCH --time=24:00:00 --mem=2G
+# Searches an instance by tasks that tell each other what they find, as an array job of Slurm. Time, memory and processors above are
+# examples; a task has as many workers as processors. With 16 tasks for the 65 pieces of split 6:
+#
+#   job=$(sbatch --parsable --array=0-15 slurm-tasks.sh FILE opb 6 16 FOLDER)
+#   sbatch --dependency=afterany:$job slurm-join.sh FILE opb FOLDER 16
+#
+# All nodes see FILE and FOLDER, which gets the reports, and FOLDER/notes the notes of the tasks. What was lost or killed has no
+# report: the same lines once more run those tasks, and those whose reports have a piece that was cut, and pass over all others.
+# What a task says on standard error is FOLDER/task-NUMBER.log, where it says anything.
+set -euo pipefail
+file=$(realpath "$1") format=$2 split=$3 tasks=$4 task=$SLURM_ARRAY_TASK_ID status=0
+mkdir -p "$5"
+cd "$5"
+log=task-$task.log
+exec 2> "$log"
+trap '[ -s "$log" ] || rm -f "$log"' EXIT
+! grep -qsx 'c cut' "$task.report" || exit 0
+
+# With the statuses 0 and 10 what begins as a part is one. It has the report's name only once it is whole, and another name before
+# in each process, so that the same task may be run twice at a time. What else a task writes is told.
+part=$task.$(uname -n).$$.part
+pbcube_task --format "$format" --split "$split" --workers "${SLURM_CPUS_PER_TASK:-1}" --task "$task" --tasks "$tasks" \
+  --exchange notes "$file" > "$part" || status=$?
+if [[ $status =~ ^(0|10)$ ]] && grep -q '^c part ' "$part"; then
+  mv "$part" "$task.report"
+else
+  echo "slurm-tasks.sh: task $task ended with status $status" >&2
+  cat "$part" >&2
+  exit 1
+fi
