@@ -132,3 +132,8 @@ const char *pbcube_name(int number)
     default: return "unnamed";
     }
 }
+
+const char *pbcube_version(void)
+{
+    return PBCUBE_VERSION;
+}

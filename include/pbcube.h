@@ -52,6 +52,7 @@ enum pbcube_relation { PBCUBE_AT_LEAST = 0, PBCUBE_AT_MOST = 1, PBCUBE_EQUAL = 2
 enum pbcube_format { PBCUBE_OPB = 0, PBCUBE_CNF = 1, PBCUBE_ICNF = 2 };
 
 #define PBCUBE_NO_LIMIT UINT64_MAX
+#define PBCUBE_VERSION "1.0.0"
 
 /* Making and freeing. A null pointer is made where memory is refused, and may be freed. */
 pbcube *pbcube_new(void);
@@ -86,6 +87,9 @@ size_t pbcube_report(pbcube *solver, char *text, size_t size);
 
 /* The name of an answer or a code, as "BadVariable"; never null, and never freed. */
 const char *pbcube_name(int number);
+
+/* The version of the library: the PBCUBE_VERSION of the header that it was built with; never null, and never freed. */
+const char *pbcube_version(void);
 
 #ifdef __cplusplus
 }

@@ -129,5 +129,6 @@ int main(int count, char **words)
     texts(pbcube_new());
     for (int number = -11; number < 42; number++)
         EXPECT(pbcube_name(number)[0] != '\0');
+    EXPECT(strcmp(pbcube_version(), PBCUBE_VERSION) == 0);
     return 0;
 }

@@ -7,8 +7,7 @@ With --as-built it takes the library that stands in c/out/. The header must comp
 calls of tests/calls.c and the planner of examples/c must run clean under AddressSanitizer and under valgrind, where there is one,
 with no memory left. With each request for memory refused (tests/refusing.c) so must both under AddressSanitizer, also with all
 that follow, and the planner under valgrind. The examples must print what stands beside them, the blocks of docs/EMBEDDING.md one answer,
-and the documentation of the bindings what it shows. What ./install puts in place must serve a caller, and be taken away again.
-What has no compiler here is left out, with a word.
+and the documentation of the bindings what it shows. What has no compiler here is left out, with a word.
 """
 import os
 import re
@@ -32,6 +31,7 @@ WATCH = ["valgrind", "--quiet", "--error-exitcode=9", "--leak-check=full", "--er
 ALONE, AND_ALL_THAT_FOLLOW = {}, {"REFUSE_ON": "1"}
 C_AROUND = '#include "pbcube.h"\n#include <inttypes.h>\n#include <stdio.h>\nint main(void)\n{\n%sreturn 0;\n}\n'
 RUST_AROUND = "use pbcube::Solver;\nfn main() -> Result<(), pbcube::Error> {\n%sOk(())\n}\n"
+DOCUMENTATION = "import doctest, pbcube, sys; sys.exit(doctest.testmod(pbcube).failed)"
 CARGO = '[package]\nname = "shown"\nversion = "0.1.0"\nedition = "2021"\n\n[dependencies]\npbcube = { path = "%s" }\n'
 
 
@@ -129,7 +129,7 @@ def under_valgrind(folder):
 def from_python(_):
     configurator = TOP / "examples" / "python" / "configurator.py"
     bad = differs([sys.executable, configurator], expected_of("python/configurator"))
-    bad += differs([sys.executable, "-m", "doctest", PYTHON / "pbcube.py"], "")
+    bad += differs([sys.executable, "-c", DOCUMENTATION], "")
     say("the configurator and the documentation of the module, from Python")
     return bad
 
@@ -169,24 +169,6 @@ def shown_ways(folder):
     return bad
 
 
-def installed(folder):
-    """What ./install puts in place is enough for a caller, and ./install --remove leaves no file."""
-    prefix = folder / "a prefix"
-    said = run([TOP / "install", "--as-built", prefix])
-    names = {"bin/pbcube", "share/man/man1/pbcube.1", "lib/libpbcube.a", "lib/libpbcube.so", "include/pbcube.h"}
-    placed = {str(prefix / name) for name in names}
-    bad = [] if set(said.stdout.splitlines()) == placed else [f"install: {said.stdout}{said.stderr}"]
-    planner = folder / "planner_installed"
-    words = [TOP / "examples" / "c" / "planner.c", "-I", prefix / "include", "-L", prefix / "lib", "-lpbcube", "-o", planner]
-    subprocess.run(["cc", "-std=c11", *words], check=True)
-    bad += differs([planner], expected_of("c/planner"), LD_LIBRARY_PATH=str(prefix / "lib"))
-    bad += differs([TOP / "install", "--take-away", prefix], "", status=2)
-    run([TOP / "install", "--remove", prefix])
-    left = [str(it) for it in prefix.rglob("*") if it.is_file()]
-    say("./install, a caller of what it put in place, and ./install --remove")
-    return bad + [f"install --remove leaves {name}" for name in left]
-
-
 def main():
     if not shutil.which("cc"):
         say("no C compiler here, so there is no library")
@@ -196,7 +178,7 @@ def main():
     with tempfile.TemporaryDirectory(prefix="pbcube-embedding-") as name:
         folder = Path(name)
         compile_header(folder)
-        parts = (under_valgrind, under_sanitizer, from_rust, shown_ways, from_python, installed)
+        parts = (under_valgrind, under_sanitizer, from_rust, shown_ways, from_python)
         bad = [text for texts in side_by_side(lambda part: part(folder), parts) for text in texts]
     if bad:
         sys.exit("\n".join(bad))

@@ -1,7 +1,7 @@
 #!/usr/bin/env python3
 """Runs the built program on the examples, on the commands that README.md and docs/COMMANDS.md show, on words that are no text and on
-those that ask for its version, and pbcube_task on its commands there, and prints what differs, and which manifest or page has
-another version.
+those that ask for its version, and pbcube_task on its commands there, and prints what differs, which manifest or page has another
+version than the file VERSION, and which manual page other options than the help of its program.
 
     tests/examples.py [PROGRAM ..]
 
@@ -15,7 +15,7 @@ import re
 import sys
 
 sys.dont_write_bytecode = True
-from lib import STATUSES, TOP, built, examples, ran, side_by_side, version
+from lib import PROGRAMS, STATUSES, TOP, built, examples, program, ran, side_by_side, version
 
 WORKERS = (1, 2, 3, 64)
 
@@ -68,14 +68,31 @@ def version_rows():
 
 
 def other_versions():
-    """The files that tell another version, each with the line that it should have."""
+    """The files that tell another version than VERSION, each with the line that it should have."""
     for file, line in (
+        ("crates/pb_line/src/version.rt", f'pub const VERSION: &str = "{version()}";'),
+        ("include/pbcube.h", f'#define PBCUBE_VERSION "{version()}"'),
         ("bindings/rust/Cargo.toml", f'version = "{version()}"'),
-        ("bindings/python/pyproject.toml", f'version = "{version()}"'),
-        ("docs/pbcube.1", f".Ql pbcube {version()}"),
+        ("bindings/python/pbcube/__init__.py", f'__version__ = "{version()}"'),
+        ("bindings/python/pbcube/__init__.py", f'_LIBRARY = "libpbcube.so.{version().split(".")[0]}"'),
+        ("packaging/changelog", f"pbcube ({version()}) unstable; urgency=low"),
+        ("examples/clients/pbcube.msc", f'  "version": "{version()}",'),
+        *((f"docs/{name}.1", f".Ql {name} {version()}") for name in PROGRAMS),
     ):
         if line not in (TOP / file).read_text().splitlines():
             yield f"{file}: no line {line}"
+
+
+def other_options():
+    """The manual pages that have other options in their synopsis or their list than the help of their program."""
+    for name in PROGRAMS:
+        page = (TOP / f"docs/{name}.1").read_text()
+        synopsis, listed = re.split(r"^\.Sh (?:DESCRIPTION|OPTIONS)$", page, flags=re.M)[::2]
+        helped = re.findall(r"^ +(?:-\w, )?--(\w+)", ran([program(name), "--help"]).out, re.M)
+        if helped != re.findall(r"^\.It Fl (?:\w , Fl )?\\-(\w+)", listed, re.M):
+            yield f"docs/{name}.1: other options than --help tells, which are {' '.join(helped)}"
+        if {*helped} != {*re.findall(r"\\-(\w+)", synopsis)}:
+            yield f"docs/{name}.1: other options in the synopsis than {' '.join(helped)}"
 
 
 def piped_rows():
@@ -99,7 +116,7 @@ def differences(program, words, out, complaint, status, text=b""):
 def main(programs):
     commands = command_rows("pbcube", ("README.md", "docs/COMMANDS.md"))
     rows = [*example_rows(), *commands, *word_rows(), *version_rows(), *piped_rows()]
-    stale = list(other_versions())
+    stale = [*other_versions(), *other_options()]
     of_task = [] if programs else itertools.product(built(["pbcube_task"]), command_rows("pbcube_task", ["docs/COMMANDS.md"]))
     runs = [*itertools.product(programs or built(), rows), *of_task]
     found = side_by_side(lambda run: differences(run[0], *run[1]), runs)

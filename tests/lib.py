@@ -1,6 +1,5 @@
 """What the scripts of tests/ have in common."""
 import os
-import re
 import shutil
 import subprocess
 from concurrent.futures import ThreadPoolExecutor
@@ -8,6 +7,7 @@ from dataclasses import dataclass
 from pathlib import Path
 
 TOP = Path(__file__).resolve().parent.parent
+PROGRAMS = ("pbcube", "pbcube_pieces", "pbcube_task", "pbcube_join")
 FORMATS = ("opb", "cnf", "icnf")
 STATUSES = {"s SATISFIABLE": 10, "s UNSATISFIABLE": 20, "s OPTIMUM FOUND": 30}
 PROCESSORS = len(os.sched_getaffinity(0))
@@ -43,8 +43,8 @@ def built(names=("pbcube",)):
 
 
 def version():
-    """The version of the programs, as their sources have it."""
-    return re.search(r'VERSION: &str = "(.+)";', (TOP / "crates/pb_line/src/version.rt").read_text())[1]
+    """The version of all that the repository makes."""
+    return (TOP / "VERSION").read_text().strip()
 
 
 def examples():

@@ -16,9 +16,10 @@ or tell the rules one by one:
     (Status.OPTIMUM, 2, False, True)
 
 Among the assignments of the least cost the answer is the first one: at the first variable where two differ, the one with
-False comes first. The module needs the shared object libpbcube.so, which `c/build` builds and `./install` puts in place: under the
-name in the environment variable PBCUBE_LIBRARY, or else beside this file, in c/out of the repository, in ~/.local/lib, or where
-the system's loader looks. A search ends by itself or by its budget: while one runs, Ctrl-C waits.
+False comes first. The package calls the shared object libpbcube.so.1. That is the file that the environment variable
+PBCUBE_LIBRARY names, or else the first that is there: beside this file, where a wheel puts it; in PREFIX/lib, where this file is in
+PREFIX/lib/pythonX/site-packages/pbcube; in c/out of the repository; in ~/.local/lib; or where the system's loader looks. A search
+ends by itself or by its budget: while one runs, Ctrl-C waits.
 """
 
 from __future__ import annotations
@@ -34,7 +35,9 @@ from pathlib import Path
 from typing import Callable, Iterable, Sequence
 
 __all__ = ["Answer", "Constraint", "Error", "Literal", "Model", "Refused", "Status", "Sum", "solve", "total"]
+__version__ = "1.0.0"
 
+_LIBRARY = "libpbcube.so.1"
 _NO_LIMIT = 2**64 - 1
 _FORMATS = {"opb": 0, "cnf": 1, "icnf": 2}
 _RELATIONS = {">=": 0, "<=": 1, "==": 2}
@@ -81,16 +84,17 @@ class Refused(Error):
 
 def _find_library() -> str:
     here = Path(__file__).resolve().parent
-    places = [here, here.parent.parent / "c" / "out", Path(os.path.expanduser("~/.local/lib"))]
-    built = [str(place / "libpbcube.so") for place in places if (place / "libpbcube.so").exists()]
-    return os.environ.get("PBCUBE_LIBRARY") or next(iter(built), "libpbcube.so")
+    above = here.parent.parent.parent  # PREFIX/lib where it is installed, and else the repository
+    places = [here, above, above / "c" / "out", Path(os.path.expanduser("~/.local/lib"))]
+    built = [str(place / _LIBRARY) for place in places if (place / _LIBRARY).exists()]
+    return os.environ.get("PBCUBE_LIBRARY", "") or next(iter(built), _LIBRARY)
 
 
 def _load() -> ctypes.CDLL:
     try:
         library = ctypes.CDLL(_find_library())
     except OSError as fault:
-        raise ImportError(f"{fault}: build libpbcube.so by c/build, or name it in PBCUBE_LIBRARY") from fault
+        raise ImportError(f"{fault}: build it by c/build, or name it in PBCUBE_LIBRARY") from fault
     pointer, integer, size = ctypes.c_void_p, ctypes.c_int, ctypes.c_size_t
     signatures = {
         "new": (pointer, []),
@@ -144,7 +148,7 @@ def _checked(code: int) -> int:
     if code >= 0:
         return code
     name = _library.pbcube_name(code).decode("ascii")
-    raise MemoryError if name == "Memory" else Error(name)
+    raise MemoryError() if name == "Memory" else Error(name)
 
 
 def _budget(nodes: int | None) -> int:
