@@ -36,26 +36,26 @@ SOME_CLAUSES = "".join(f"1 x{1 + place} 1 ~x{2 + place} >= 1 ;\n" for place in r
 
 # What one worker asks for on each instance of tests/work/ today.
 REQUESTS = {
-    "aside": 127,
-    "assignment": 147,
-    "chain": 126,
-    "clauses": 122,
-    "colours": 129,
-    "cubes": 349,
+    "aside": 130,
+    "assignment": 151,
+    "chain": 130,
+    "clauses": 126,
+    "colours": 133,
+    "cubes": 353,
     "cubes_of_a_contradiction": 371,
-    "cubes_of_last_variables": 189,
-    "descent": 145,
-    "garden": 151,
-    "groups": 146,
-    "knapsack": 134,
-    "long_row": 136,
-    "machines": 150,
-    "met_rows": 149,
-    "packages": 146,
-    "short_knapsack": 134,
-    "two_sides": 147,
-    "unconstrained": 111,
-    "wide_knapsack": 138,
+    "cubes_of_last_variables": 193,
+    "descent": 148,
+    "garden": 155,
+    "groups": 150,
+    "knapsack": 138,
+    "long_row": 140,
+    "machines": 154,
+    "met_rows": 152,
+    "packages": 150,
+    "short_knapsack": 138,
+    "two_sides": 151,
+    "unconstrained": 114,
+    "wide_knapsack": 142,
 }
 
 
@@ -80,9 +80,9 @@ def runs(room):
     for name, text in (("long.opb", LONG_TEXT), ("wide.opb", WIDE_TEXT), ("some.opb", SOME_CLAUSES), ("some.cubes", CUBES)):
         (room / name).write_text(text)
     cubes = ("--cubes", room / "some.cubes", room / "some.opb")
-    yield Run("a long text", (room / "long.opb",), 10, 84, 128.0)
-    yield Run("long rows", ("--nodes", "0", room / "wide.opb"), 0, 203, 15.7)
-    yield Run("many cubes", cubes, 10, 16_195, 1.6)
+    yield Run("a long text", (room / "long.opb",), 10, 88, 128.0)
+    yield Run("long rows", ("--nodes", "0", room / "wide.opb"), 0, 207, 15.7)
+    yield Run("many cubes", cubes, 10, 16_199, 1.6)
     yield Run("many cubes, two workers", ("--workers", "2", *cubes), 10, 16_263, 1.6)
     for name, requests in REQUESTS.items():
         text = (TOP / "tests/work" / name).read_text()

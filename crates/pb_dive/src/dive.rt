@@ -42,7 +42,7 @@ pub struct Descent {
 /// not planned as 0, and where that ends in a conflict the last decision is turned. What was assumed is left on the trail. Each
 /// decision is taken off what is left of a budget; where none is left the dive is over.
 pub fn descend<C: Count>(
-    engine: &mut EngineAt<'_, C>,
+    engine: &mut EngineAt<C>,
     path: &mut DivePath,
     most: u64,
     left: &mut Option<u64>,
@@ -89,7 +89,7 @@ fn ended(is_full: bool, decisions: u64) -> Descent
 /// Makes the decision, and takes it off what is left. Answers how the dive goes on: by the next one, or after a conflict by
 /// turning the last that can be.
 fn advance<C: Count>(
-    engine: &mut EngineAt<'_, C>,
+    engine: &mut EngineAt<C>,
     path: &mut DivePath,
     branch: DiveBranch,
     floor: u32,
@@ -121,7 +121,7 @@ fn advance<C: Count>(
 }
 
 /// After a conflict: how the dive goes on.
-fn turned_back<C: Count>(engine: &mut EngineAt<'_, C>, path: &mut DivePath, floor: u32) -> Progress
+fn turned_back<C: Count>(engine: &mut EngineAt<C>, path: &mut DivePath, floor: u32) -> Progress
     requires sound { IsSoundTrail engine.old }
     ensures back { (start : EngineState) → length start.levels ≡ floor → LeadsBack start engine.old → LeadsBack start engine.new }
     ensures sound { IsSoundTrail engine.new }

@@ -17,7 +17,7 @@ use pb_inst::Lit;
 const STEPS: u32 = 50;
 
 /// Assumes the literal, which takes one decision off what is left, and adds what follows.
-pub fn plunge<C: Count>(engine: &mut EngineAt<'_, C>, lit: Lit, left: &mut Option<u64>) -> Step
+pub fn plunge<C: Count>(engine: &mut EngineAt<C>, lit: Lit, left: &mut Option<u64>) -> Step
     requires sound { IsSoundTrail engine.old }
     requires free { IsFree engine.old lit }
     requires some_left { left.old ≢ Some 0 }
@@ -37,7 +37,7 @@ pub fn plunge<C: Count>(engine: &mut EngineAt<'_, C>, lit: Lit, left: &mut Optio
 /// Takes decisions back to the last one that was not turned yet, and gives its other value as the next decision; none where
 /// there is no such decision, or the dive took too long.
 pub fn turn<C: Count>(
-    engine: &mut EngineAt<'_, C>,
+    engine: &mut EngineAt<C>,
     path: &mut DivePath,
     floor: u32,
 ) -> Option<DiveBranch>
@@ -74,7 +74,7 @@ fn turned(branch: DiveBranch) -> DiveBranch
 }
 
 /// Takes back the last assumption, where it is above the level. Answers whether it was.
-fn take_back_last<C: Count>(engine: &mut EngineAt<'_, C>, floor: u32) -> bool
+fn take_back_last<C: Count>(engine: &mut EngineAt<C>, floor: u32) -> bool
     requires sound { IsSoundTrail engine.old }
     ensures back { (start : EngineState) → length start.levels ≡ floor → LeadsBack start engine.old → LeadsBack start engine.new }
     ensures sound { IsSoundTrail engine.new }
@@ -91,7 +91,7 @@ fn take_back_last<C: Count>(engine: &mut EngineAt<'_, C>, floor: u32) -> bool
 }
 
 /// Plans anew where that is due.
-pub fn plan_again<C: Count>(engine: &mut EngineAt<'_, C>, path: &mut DivePath)
+pub fn plan_again<C: Count>(engine: &mut EngineAt<C>, path: &mut DivePath)
     ensures { engine.new ≡ engine.old }
 {
     if path.take_plan(free_variables(engine)) {
@@ -100,14 +100,14 @@ pub fn plan_again<C: Count>(engine: &mut EngineAt<'_, C>, path: &mut DivePath)
 }
 
 /// How many variables have no value.
-pub fn free_variables<C: Count>(engine: &EngineAt<'_, C>) -> usize {
+pub fn free_variables<C: Count>(engine: &EngineAt<C>) -> usize {
     (engine.vars() as usize).saturating_sub(engine.trail_len())
 }
 
 /// The first literal of the plan, from the place on, whose variable has no value, as the next decision; else the lowest
 /// variable without one, as 0; or none where each has one.
 pub fn next_planned<C: Count>(
-    engine: &EngineAt<'_, C>,
+    engine: &EngineAt<C>,
     path: &DivePath,
     from: usize,
 ) -> Option<DiveBranch>
@@ -129,11 +129,7 @@ pub fn next_planned<C: Count>(
 }
 
 /// The first literal of the plan alone.
-fn first_planned<C: Count>(
-    engine: &EngineAt<'_, C>,
-    path: &DivePath,
-    from: usize,
-) -> Option<DiveBranch>
+fn first_planned<C: Count>(engine: &EngineAt<C>, path: &DivePath, from: usize) -> Option<DiveBranch>
     requires no_conflict { engine.now.conflict ≡ false }
     ensures free { IfSome result (λ b. IsFree engine.now b.lit) }
 {

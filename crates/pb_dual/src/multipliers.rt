@@ -23,8 +23,8 @@ use std::marker::Model;
 
 /// A multiplier for each row of a normal form, a trail over its variables, and a lower bound of what the completions of the
 /// trail cost. All of them are numbers of the width of the form.
-pub struct Multipliers<'a, C: Count = u64> {
-    form: &'a Form<C>,
+pub struct Multipliers<C: Count = u64> {
+    form: Form<C>,
     scale: Tally<C>,
     /// The sum of all costs.
     total: Tally<C>,
@@ -46,7 +46,7 @@ pub struct Multipliers<'a, C: Count = u64> {
 }
 
 // By hand, so that whoever lets go of multipliers sees one call, and not each of their parts.
-impl<C: Count> Drop for Multipliers<'_, C> {
+impl<C: Count> Drop for Multipliers<C> {
     fn drop(self) {
         let Multipliers {
             form: _,
@@ -66,27 +66,23 @@ impl<C: Count> Drop for Multipliers<'_, C> {
     }
 }
 
-impl<'a, C: Count> Model for Multipliers<'a, C> {
+impl<C: Count> Model for Multipliers<C> {
     ghost use Rattle.std.specs.Vec.{vec_capacity};
     ghost use Rattle.pb_dual.specs.Multipliers.{MultipliersState, AreKept};
     ghost use Rattle.pb_dual.specs.Saturation.{counted_form, AreSaturations};
 
     ghost Value = { MultipliersState };
 
-    ghost view = { λ m. record { form = m.form.now; counted = counted_form m.saturations.items m.form.now; origin = C.origin; scale = m.scale; share = m.share; multipliers = m.multipliers.items; trail = m.lits.items; root = m.root; changes = m.changes.items; room = vec_capacity m.changes } };
+    ghost view = { λ m. record { form = m.form; counted = counted_form m.saturations.items m.form; origin = C.origin; scale = m.scale; share = m.share; multipliers = m.multipliers.items; trail = m.lits.items; root = m.root; changes = m.changes.items; room = vec_capacity m.changes } };
 
-    ghost invariant = { λ m. AreKept (counted_form m.saturations.items m.form.now) m.form.now m.multipliers.items m.lits.items m.changes.items C.origin m.scale m.total m.share m.costs.items m.values.items m.degrees m.sum (vec_capacity m.lits) × AreSaturations m.form.now m.saturations.items m.root m.lits.items };
+    ghost invariant = { λ m. AreKept (counted_form m.saturations.items m.form) m.form m.multipliers.items m.lits.items m.changes.items C.origin m.scale m.total m.share m.costs.items m.values.items m.degrees m.sum (vec_capacity m.lits) × AreSaturations m.form m.saturations.items m.root m.lits.items };
 }
 
-impl<'a, C: Count> Multipliers<'a, C> {
+impl<C: Count> Multipliers<C> {
     /// A multiplier of 0 for each row, the empty trail, and room for so many changes. Nothing after it takes memory. Costs
     /// are scaled up, so that multipliers are fractions of a cost. There are none where the sum of all costs leaves no room
     /// for a scale in the width of the form, or the variables are more than an instance has.
-    pub fn new(
-        alloc: Global,
-        form: &'a Form<C>,
-        room: usize,
-    ) -> Result<Option<Multipliers<'a, C>>, Memory>
+    pub fn new(alloc: Global, form: &Form<C>, room: usize) -> Result<Option<Multipliers<C>>, Memory>
         ensures form { IfOk result (λ made. IfSome made (λ m. m.form ≡ form.now)) }
         ensures multipliers { IfOk result (λ made. IfSome made (λ m. m.multipliers ≡ replicate (length form.now.rows) 0)) }
         ensures empty { IfOk result (λ made. IfSome made (λ m. (m.trail ≡ []) × (m.changes ≡ []) × (m.root ≡ 0) × (m.counted ≡ m.form))) }
@@ -99,6 +95,7 @@ impl<'a, C: Count> Multipliers<'a, C> {
         if vars > MAX_VARS || !has_scale(total) {
             return Ok(None);
         }
+        let form = form.share()?;
         let made = Multipliers::scaled(alloc, form, total, room)?;
         Ok(Some(made))
     }
@@ -106,32 +103,33 @@ impl<'a, C: Count> Multipliers<'a, C> {
     /// The same where there is a scale for costs of this sum.
     fn scaled(
         alloc: Global,
-        form: &'a Form<C>,
+        form: Form<C>,
         total: Tally<C>,
         room: usize,
-    ) -> Result<Multipliers<'a, C>, Memory>
-        requires total { total ≡ total_coefficient form.now.objective }
+    ) -> Result<Multipliers<C>, Memory>
+        requires total { total ≡ total_coefficient form.objective }
         requires fits { total < 2 * C.origin }
-        requires few { form.now.vars ≤ MAX_VARS }
-        ensures form { IfOk result (λ m. m.form ≡ form.now) }
-        ensures multipliers { IfOk result (λ m. m.multipliers ≡ replicate (length form.now.rows) 0) }
+        requires few { form.vars ≤ MAX_VARS }
+        ensures form { IfOk result (λ m. m.form ≡ form) }
+        ensures multipliers { IfOk result (λ m. m.multipliers ≡ replicate (length form.rows) 0) }
         ensures empty { IfOk result (λ m. (m.trail ≡ []) × (m.changes ≡ []) × (m.root ≡ 0) × (m.counted ≡ m.form)) }
         ensures room { IfOk result (λ m. room ≤ m.room) }
         ensures scale { IfOk result (λ m. 1 ≤ m.scale) }
     {
         let vars = form.vars() as usize;
         let scale = scale_for(total);
-        let costs = initial_costs(alloc, form, scale)?;
+        let costs = initial_costs(alloc, &form, scale)?;
         let values = vec![in alloc; None; vars]?;
         let lits = Vec::with_capacity(alloc, vars)?;
         let multipliers = vec![in alloc; Tally::of(0); form.len()]?;
         let changes = Vec::with_capacity(alloc, room)?;
-        let saturations = whole_rows(alloc, form)?;
+        let saturations = whole_rows(alloc, &form)?;
+        let share = share_of(form.len());
         Ok(Multipliers {
             form,
             scale,
             total,
-            share: share_of(form.len()),
+            share,
             multipliers,
             degrees: Tally::of(0),
             sum: Tally::<C>::origin().number() * vars as u128,
@@ -145,10 +143,10 @@ impl<'a, C: Count> Multipliers<'a, C> {
     }
 
     /// The normal form.
-    pub fn form(&self) -> &'a Form<C>
+    pub fn form(&self) -> &Form<C>
         ensures { result.now ≡ self.now.form }
     {
-        self.form
+        &self.form
     }
 
     /// By how much costs are scaled up.

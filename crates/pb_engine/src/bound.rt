@@ -17,7 +17,7 @@ use pb_trail::Slacks;
 
 /// What the trail pays and the extras of the picked rows.
 pub fn payment<C: Count>(
-    slacks: &Slacks<'_, '_, C>,
+    slacks: &Slacks<'_, C>,
     needs: &mut Needs<C>,
     marks: &mut Marks,
 ) -> Magnitude
@@ -38,7 +38,7 @@ pub fn payment<C: Count>(
 }
 
 /// The base with what the trail pays and the extras: at most the cost of every completion of the trail.
-pub fn bound_with<C: Count>(slacks: &Slacks<'_, '_, C>, payment: Magnitude) -> Number
+pub fn bound_with<C: Count>(slacks: &Slacks<'_, C>, payment: Magnitude) -> Number
     requires payment { payment ≡ reached slacks.now.trail slacks.now.form.objective + extras slacks.now.form.objective slacks.now.trail (replicate slacks.now.form.vars false) slacks.now.rows }
     requires small { payment ≤ total_coefficient slacks.now.form.objective }
     ensures value { result ≡ disjoint_bound slacks.now.form slacks.now.rows slacks.now.trail }

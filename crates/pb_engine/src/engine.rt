@@ -21,11 +21,11 @@ use std::marker::Model;
 
 /// Rows, a trail over their variables with some literals assumed, and whether a conflict stands. It counts in numbers of
 /// its normal form's width.
-pub struct Engine<'a> {
-    at_width: EitherWidth<EngineAt<'a, u64>, EngineAt<'a, u128>>,
+pub struct Engine {
+    at_width: EitherWidth<EngineAt<u64>, EngineAt<u128>>,
 }
 
-impl<'a> Model for Engine<'a> {
+impl Model for Engine {
     ghost use Rattle.pb_trail.specs.EngineState.{EngineState};
     ghost use Rattle.pb_normal.specs.Widths.{either};
 
@@ -35,17 +35,17 @@ impl<'a> Model for Engine<'a> {
 }
 
 // By hand, so that letting go of an engine is a call wherever it is done.
-impl<'a> Drop for Engine<'a> {
+impl Drop for Engine {
     fn drop(self) {
         let Engine { at_width: _ } = self;
     }
 }
 
-impl<'a> Engine<'a> {
+impl Engine {
     /// The empty trail over the rows of the normal form and, for each cube in order, the clause that some literal of it is
     /// false; a cube that contradicts itself has none. Nothing after it takes memory. `Memory` says that a growth of memory
     /// was refused; it always is for more than `MAX_CLAUSES` cubes, whose clauses there are no numbers for.
-    pub fn new(alloc: Global, normal: &'a Normal, negated: &'a [Cube]) -> Result<Engine<'a>, Memory>
+    pub fn new(alloc: Global, normal: &Normal, negated: &[Cube]) -> Result<Engine, Memory>
         requires variables { All (λ cube. All (λ l. l.var ≤ normal.now.vars) cube) negated.now }
         ensures form { IfOk result (λ e. (e.form ≡ normal.now) × (e.vars ≡ normal.now.vars)) }
         ensures rows { IfOk result (λ e. (clauses : List PositiveRow) × (e.rows ≡ normal.now.rows ++ clauses) × AreClausesOf negated.now clauses) }

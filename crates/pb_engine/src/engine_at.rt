@@ -29,16 +29,16 @@ use std::marker::Model;
 
 /// Rows, a trail over their variables with some literals assumed, and whether a conflict stands. It counts in numbers of
 /// type `C`, the width of its normal form.
-pub struct EngineAt<'a, C: Count = u64> {
-    propagator: Propagator<'a, C>,
+pub struct EngineAt<C: Count = u64> {
+    propagator: Propagator<C>,
     needs: Needs<C>,
     marks: Marks,
     /// Multipliers for a second lower bound, where its costs have a scale and not all is clauses. The view leaves them out.
-    relaxation: Option<Relaxation<'a, C>>,
+    relaxation: Option<Relaxation<C>>,
 }
 
 // By hand, so that whoever lets go of an engine sees one call, and not each of its parts.
-impl<C: Count> Drop for EngineAt<'_, C> {
+impl<C: Count> Drop for EngineAt<C> {
     fn drop(self) {
         let EngineAt {
             propagator: _,
@@ -49,7 +49,7 @@ impl<C: Count> Drop for EngineAt<'_, C> {
     }
 }
 
-impl<'a, C: Count> Model for EngineAt<'a, C> {
+impl<C: Count> Model for EngineAt<C> {
     ghost use Rattle.std.specs.Prelude.{IfSome};
     ghost use Rattle.pb_trail.specs.EngineState.{EngineState};
     ghost use Rattle.pb_lagrange.specs.Relaxation.{IsBeside};
@@ -62,15 +62,10 @@ impl<'a, C: Count> Model for EngineAt<'a, C> {
     ghost invariant = { λ e. (HasCounters C.limit e.propagator e.needs e.marks) × IfSome e.relaxation (λ r. IsBeside e.propagator.form e.propagator.trail r) };
 }
 
-impl<'a, C: Count> EngineAt<'a, C> {
+impl<C: Count> EngineAt<C> {
     /// The empty trail over the rows of the normal form and, for each cube in order, the clause that some literal of it is
-    /// false; a cube that contradicts itself has none. There may be `MAX_CLAUSES` cubes. It builds tables of its own; `Rows`, `Clauses` and `over` share them
-    /// among engines. Nothing after it takes memory.
-    pub fn new(
-        alloc: Global,
-        form: &'a Form<C>,
-        negated: &'a [Cube],
-    ) -> Result<EngineAt<'a, C>, Memory>
+    /// false; a cube that contradicts itself has none. There may be `MAX_CLAUSES` cubes. It builds tables of its own; `over` takes a share of others. Nothing after it takes memory.
+    pub fn new(alloc: Global, form: &Form<C>, negated: &[Cube]) -> Result<EngineAt<C>, Memory>
         requires few { length negated.now ≤ MAX_CLAUSES }
         requires variables { All (λ cube. All (λ l. l.var ≤ form.now.vars) cube) negated.now }
         ensures form { IfOk result (λ e. (e.form ≡ form.now) × (e.vars ≡ form.now.vars)) }
@@ -78,29 +73,15 @@ impl<'a, C: Count> EngineAt<'a, C> {
         ensures empty { IfOk result (λ e. (e.trail ≡ []) × (e.levels ≡ []) × (e.conflict ≡ false)) }
     {
         let source = TablesSource::new(alloc, form, negated)?;
-        EngineAt::start(alloc, source)
+        EngineAt::over(alloc, source)
     }
 
-    /// The empty trail over rows and clauses that are lent. Nothing after it takes memory.
-    pub fn over(
-        alloc: Global,
-        rows: &'a Rows<'a, C>,
-        clauses: &'a Clauses,
-    ) -> Result<EngineAt<'a, C>, Memory>
-        requires beside { AreBeside rows.now clauses.now }
-        ensures form { IfOk result (λ e. (e.form ≡ rows.now.form) × (e.vars ≡ rows.now.form.vars)) }
-        ensures rows { IfOk result (λ e. e.rows ≡ rows.now.form.rows ++ clauses.now.rows) }
-        ensures empty { IfOk result (λ e. (e.trail ≡ []) × (e.levels ≡ []) × (e.conflict ≡ false)) }
+    /// The empty trail over rows and clauses that are there. Nothing after it takes memory.
+    pub fn over(alloc: Global, tables: TablesSource<C>) -> Result<EngineAt<C>, Memory>
+        ensures { IfOk result (λ e. e ≡ record { form = tables.form; vars = tables.vars; rows = tables.rows; trail = []; levels = []; conflict = false }) }
     {
-        EngineAt::start(alloc, TablesSource::lent(rows, clauses))
-    }
-
-    /// The empty trail.
-    fn start(alloc: Global, source: TablesSource<'a, C>) -> Result<EngineAt<'a, C>, Memory>
-        ensures { IfOk result (λ e. e ≡ record { form = source.entry.form; vars = source.entry.vars; rows = source.entry.rows; trail = []; levels = []; conflict = false }) }
-    {
-        let relaxation = relaxation_over(alloc, source.tables().form())?;
-        let propagator = Propagator::new(alloc, source)?;
+        let relaxation = relaxation_over(alloc, tables.tables().form())?;
+        let propagator = Propagator::new(alloc, tables)?;
         let needs = Needs::new(alloc, &propagator.slacks())?;
         let marks = Marks::new(alloc, propagator.vars())?;
         Ok(EngineAt {
@@ -160,7 +141,7 @@ impl<'a, C: Count> EngineAt<'a, C> {
     }
 
     /// The trail and the rows themselves, which tell too at which row a conflict was found, and which rows forced literals.
-    pub fn propagator(&self) -> &Propagator<'a, C>
+    pub fn propagator(&self) -> &Propagator<C>
         ensures { result.now ≡ self.now }
     {
         &self.propagator
@@ -366,10 +347,7 @@ impl<'a, C: Count> EngineAt<'a, C> {
 
 /// Multipliers for the rows of the form, where the costs have a scale. Without an objective there are none where all rows are
 /// clauses: each variable at a half meets those that have two literals, so no multipliers tell that nothing does.
-fn relaxation_over<'a, C: Count>(
-    alloc: Global,
-    form: &'a Form<C>,
-) -> Result<Option<Relaxation<'a, C>>, Memory>
+fn relaxation_over<C: Count>(alloc: Global, form: &Form<C>) -> Result<Option<Relaxation<C>>, Memory>
     ensures { IfOk result (λ relaxation. IfSome relaxation (λ r. (r.form ≡ form.now) × (r.trail ≡ []))) }
 {
     if form.objective().is_empty() && has_clauses_alone(form) {

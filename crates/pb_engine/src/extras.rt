@@ -61,7 +61,7 @@ impl<C: Count> Offer<C> {
     /// With the term where its literal is costly, or none where its variable has no value and is marked.
     fn joined(
         self,
-        slacks: &Slacks<'_, '_, C>,
+        slacks: &Slacks<'_, C>,
         marks: &Marks,
         coef: Tally<C>,
         lit: Lit,
@@ -103,7 +103,7 @@ impl<C: Count> Offer<C> {
 
 /// What the costly literals of the row are, or none where a variable without a value is marked.
 fn offer_in<C: Count>(
-    slacks: &Slacks<'_, '_, C>,
+    slacks: &Slacks<'_, C>,
     marks: &Marks,
     terms: RowTerms<'_, C>,
 ) -> Option<Offer<C>>
@@ -121,7 +121,7 @@ fn offer_in<C: Count>(
 
 /// What the costly literals of the items are.
 fn offer_of_items<C: Count, T: Weighs<C>>(
-    slacks: &Slacks<'_, '_, C>,
+    slacks: &Slacks<'_, C>,
     marks: &Marks,
     items: &[T],
 ) -> Option<Offer<C>>
@@ -139,7 +139,7 @@ fn offer_of_items<C: Count, T: Weighs<C>>(
 }
 
 /// Marks the row's variables that have no value.
-fn mark<C: Count>(marks: &mut Marks, slacks: &Slacks<'_, '_, C>, terms: RowTerms<'_, C>)
+fn mark<C: Count>(marks: &mut Marks, slacks: &Slacks<'_, C>, terms: RowTerms<'_, C>)
     requires variables { All (λ t. (1 ≤ t.lit.var) × (t.lit.var ≤ slacks.now.vars)) (terms_in terms) }
     requires marks { length marks.old ≡ slacks.now.vars }
     ensures { marks.new ≡ marked_by slacks.now.trail marks.old (terms_in terms.entry) }
@@ -151,7 +151,7 @@ fn mark<C: Count>(marks: &mut Marks, slacks: &Slacks<'_, '_, C>, terms: RowTerms
 }
 
 /// Marks the variables of the items that have no value.
-fn mark_items<C: Count, T: Weighs<C>>(marks: &mut Marks, slacks: &Slacks<'_, '_, C>, items: &[T])
+fn mark_items<C: Count, T: Weighs<C>>(marks: &mut Marks, slacks: &Slacks<'_, C>, items: &[T])
     requires variables { All (λ t. (1 ≤ t.lit.var) × (t.lit.var ≤ slacks.now.vars)) (map T.term items.now) }
     requires marks { length marks.old ≡ slacks.now.vars }
     ensures { marks.new ≡ marked_by slacks.now.trail marks.old (map T.term items.now) }
@@ -162,7 +162,7 @@ fn mark_items<C: Count, T: Weighs<C>>(marks: &mut Marks, slacks: &Slacks<'_, '_,
 }
 
 /// Marks the literal's variable where it has no value.
-fn mark_free<C: Count>(marks: &mut Marks, slacks: &Slacks<'_, '_, C>, lit: Lit)
+fn mark_free<C: Count>(marks: &mut Marks, slacks: &Slacks<'_, C>, lit: Lit)
     requires variable { (1 ≤ lit.var) × (lit.var ≤ slacks.now.vars) }
     requires marks { length marks.old ≡ slacks.now.vars }
     ensures { marks.new ≡ (if is_free slacks.now.trail lit then slice_set marks.old (lit.var - 1) true else marks.old) }
@@ -177,7 +177,7 @@ fn mark_free<C: Count>(marks: &mut Marks, slacks: &Slacks<'_, '_, C>, lit: Lit)
 fn pick<C: Count>(
     needs: &Needs<C>,
     marks: &mut Marks,
-    slacks: &Slacks<'_, '_, C>,
+    slacks: &Slacks<'_, C>,
     row: usize,
 ) -> Tally<C>
     requires row { row < length slacks.now.rows }
@@ -204,7 +204,7 @@ fn pick<C: Count>(
 }
 
 /// The extras of the rows that are picked in order.
-pub fn extras<C: Count>(needs: &Needs<C>, marks: &mut Marks, slacks: &Slacks<'_, '_, C>) -> Tally<C>
+pub fn extras<C: Count>(needs: &Needs<C>, marks: &mut Marks, slacks: &Slacks<'_, C>) -> Tally<C>
     requires needs { AreNeeds C.limit slacks.now.form slacks.now.rows slacks.now.trail needs.now }
     requires counted { needs.now.counted ≡ length slacks.now.trail }
     requires marks { length marks.old ≡ slacks.now.vars }

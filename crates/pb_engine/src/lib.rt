@@ -15,5 +15,5 @@ pub use free::{is_free, lowest_free, settled_from};
 pub use laws::clause_laws;
 pub use pb_count::Count;
 pub use pb_lagrange::Fixed;
-pub use pb_rows::{Clauses, MAX_CLAUSES, RowTerms, Rows};
+pub use pb_rows::{Clauses, MAX_CLAUSES, RowTerms, Rows, TablesSource, shared_in};
 pub use pb_trail::Step;

@@ -29,7 +29,7 @@ pub struct Needs<C: Count> {
 
 impl<C: Count> Needs<C> {
     /// No literal is counted.
-    pub fn new(alloc: Global, slacks: &Slacks<'_, '_, C>) -> Result<Needs<C>, Memory>
+    pub fn new(alloc: Global, slacks: &Slacks<'_, C>) -> Result<Needs<C>, Memory>
         ensures { IfOk result (λ needs. AreNeeds C.limit slacks.now.form slacks.now.rows slacks.now.trail needs) }
     {
         let lacks = lacks_of(alloc, slacks.tables())?;
@@ -43,7 +43,7 @@ impl<C: Count> Needs<C> {
     }
 
     /// Counts the literals of the trail that were not counted yet.
-    pub fn count(&mut self, slacks: &Slacks<'_, '_, C>)
+    pub fn count(&mut self, slacks: &Slacks<'_, C>)
         requires { AreNeeds C.limit slacks.now.form slacks.now.rows slacks.now.trail self.old }
         ensures needs { AreNeeds C.limit slacks.now.form slacks.now.rows slacks.now.trail self.new }
         ensures all { self.new.counted ≡ length slacks.now.trail }
@@ -54,7 +54,7 @@ impl<C: Count> Needs<C> {
     }
 
     /// Takes back the literals of the trail from a place on.
-    pub fn take_back(&mut self, slacks: &Slacks<'_, '_, C>, start: usize)
+    pub fn take_back(&mut self, slacks: &Slacks<'_, C>, start: usize)
         requires { AreNeeds C.limit slacks.now.form slacks.now.rows slacks.now.trail self.old }
         ensures needs { AreNeeds C.limit slacks.now.form slacks.now.rows slacks.now.trail self.new }
         ensures before { self.new.counted ≤ start }
@@ -88,7 +88,7 @@ impl<C: Count> Needs<C> {
     }
 
     /// Counts the next literal.
-    fn count_next(&mut self, slacks: &Slacks<'_, '_, C>)
+    fn count_next(&mut self, slacks: &Slacks<'_, C>)
         requires needs { AreNeeds C.limit slacks.now.form slacks.now.rows slacks.now.trail self.old }
         requires next { self.old.counted < length slacks.now.trail }
         ensures needs { AreNeeds C.limit slacks.now.form slacks.now.rows slacks.now.trail self.new }
@@ -103,7 +103,7 @@ impl<C: Count> Needs<C> {
     }
 
     /// Takes back the last literal that is counted.
-    fn take_back_last(&mut self, slacks: &Slacks<'_, '_, C>)
+    fn take_back_last(&mut self, slacks: &Slacks<'_, C>)
         requires needs { AreNeeds C.limit slacks.now.form slacks.now.rows slacks.now.trail self.old }
         requires some { 0 < self.old.counted }
         ensures needs { AreNeeds C.limit slacks.now.form slacks.now.rows slacks.now.trail self.new }
@@ -119,12 +119,7 @@ impl<C: Count> Needs<C> {
 }
 
 /// What the rows lack once the literal joins the trail.
-fn join<C: Count>(
-    lacks: &mut [Tally<C>],
-    wanting: &mut RowSet,
-    tables: &Tables<'_, '_, C>,
-    lit: Lit,
-)
+fn join<C: Count>(lacks: &mut [Tally<C>], wanting: &mut RowSet, tables: &Tables<'_, C>, lit: Lit)
     requires variable { lit.var ≤ tables.now.vars }
     requires count { length lacks.old ≡ length tables.now.rows }
     requires enough { (r : ℕ) → r < length lacks.old → gain tables.now.form.objective lit (row_at tables.now.rows r).terms ≤ slice_index lacks.old r }
@@ -146,12 +141,7 @@ fn join<C: Count>(
 }
 
 /// What the rows lack once the literal leaves the trail.
-fn leave<C: Count>(
-    lacks: &mut [Tally<C>],
-    wanting: &mut RowSet,
-    tables: &Tables<'_, '_, C>,
-    lit: Lit,
-)
+fn leave<C: Count>(lacks: &mut [Tally<C>], wanting: &mut RowSet, tables: &Tables<'_, C>, lit: Lit)
     requires variable { lit.var ≤ tables.now.vars }
     requires count { length lacks.old ≡ length tables.now.rows }
     requires enough { (r : ℕ) → r < length lacks.old → loss tables.now.form.objective (negation lit) (row_at tables.now.rows r).terms ≤ slice_index lacks.old r }
@@ -177,7 +167,7 @@ fn lower_if<C: Count>(
     wanted: bool,
     lacks: &mut [Tally<C>],
     wanting: &mut RowSet,
-    tables: &Tables<'_, '_, C>,
+    tables: &Tables<'_, C>,
     lit: Lit,
 )
     requires variable { lit.var ≤ tables.now.vars }
@@ -200,7 +190,7 @@ fn raise_if<C: Count>(
     wanted: bool,
     lacks: &mut [Tally<C>],
     wanting: &mut RowSet,
-    tables: &Tables<'_, '_, C>,
+    tables: &Tables<'_, C>,
     lit: Lit,
 )
     requires variable { lit.var ≤ tables.now.vars }
@@ -249,7 +239,7 @@ fn raise<C: Count, O: Occurs<C>>(lacks: &mut [Tally<C>], wanting: &mut RowSet, o
 }
 
 /// What each row lacks before any literal is counted.
-fn lacks_of<C: Count>(alloc: Global, tables: &Tables<'_, '_, C>) -> Result<Vec<Tally<C>>, Memory>
+fn lacks_of<C: Count>(alloc: Global, tables: &Tables<'_, C>) -> Result<Vec<Tally<C>>, Memory>
     ensures count { IfOk result (λ lacks. length lacks.items ≡ length tables.now.rows) }
     ensures each { IfOk result (λ lacks. (r : ℕ) → r < length tables.now.rows → IsLackOf C.limit tables.now.form.objective [] (row_at tables.now.rows r) (slice_index lacks.items r)) }
 {
@@ -261,7 +251,7 @@ fn lacks_of<C: Count>(alloc: Global, tables: &Tables<'_, '_, C>) -> Result<Vec<T
 }
 
 /// What the row lacks before any literal is counted.
-fn lack_of<C: Count>(tables: &Tables<'_, '_, C>, row: usize) -> Tally<C>
+fn lack_of<C: Count>(tables: &Tables<'_, C>, row: usize) -> Tally<C>
     requires { row < length tables.now.rows }
     ensures { IsLackOf C.limit tables.now.form.objective [] (row_at tables.now.rows row) result }
 {
@@ -270,7 +260,7 @@ fn lack_of<C: Count>(tables: &Tables<'_, '_, C>, row: usize) -> Tally<C>
 }
 
 /// What the row has at no cost before any literal is counted.
-fn at_no_cost<C: Count>(tables: &Tables<'_, '_, C>, terms: RowTerms<'_, C>) -> Tally<C>
+fn at_no_cost<C: Count>(tables: &Tables<'_, C>, terms: RowTerms<'_, C>) -> Tally<C>
     requires variables { All (λ t. t.lit.var ≤ tables.now.vars) (terms_in terms) }
     requires fits { sum_by (λ t. t.coef) (terms_in terms) < C.limit }
     ensures { result ≡ spare tables.now.form.objective [] (terms_in terms.entry) }
@@ -282,7 +272,7 @@ fn at_no_cost<C: Count>(tables: &Tables<'_, '_, C>, terms: RowTerms<'_, C>) -> T
 }
 
 /// The sum of the coefficients of literals without cost.
-fn costless<C: Count, T: Weighs<C>>(tables: &Tables<'_, '_, C>, items: &[T]) -> Tally<C>
+fn costless<C: Count, T: Weighs<C>>(tables: &Tables<'_, C>, items: &[T]) -> Tally<C>
     requires variables { All (λ t. t.lit.var ≤ tables.now.vars) (map T.term items.now) }
     requires fits { sum_by (λ t. t.coef) (map T.term items.now) < C.limit }
     ensures { result ≡ spare tables.now.form.objective [] (map T.term items.now) }

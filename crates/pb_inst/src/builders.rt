@@ -57,6 +57,18 @@ impl InstanceBuilder {
         }
     }
 
+    /// The statements of a finished instance, to which more may be added. Takes no memory.
+    pub fn reopen(alloc: Global, instance: Instance) -> InstanceBuilder
+        ensures { result ≡ record { objective = instance.objective; constraints = instance.constraints } }
+    {
+        let (objective, constraints) = instance.into_parts();
+        InstanceBuilder {
+            alloc,
+            objective,
+            constraints,
+        }
+    }
+
     /// Sets the objective, in place of one that was set before. Fails, and leaves the builder unchanged, with `TooLarge`
     /// where the absolute coefficients add up to more than `SUM_BOUND`, else with `TooMany` where these terms and those of
     /// all constraints are more than `MAX_TERMS`, and with `Memory` where memory is refused.

@@ -38,13 +38,34 @@ impl<'i> Best<'i> {
     pub fn none(alloc: Global, instance: &'i Instance) -> Result<Best<'i>, Memory>
         ensures { IfOk result (λ best. best ≡ record { problem = instance.now; held = None }) }
     {
-        let assignment = Assignment::new(alloc, instance.vars())?;
-        Ok(Best {
+        let room = Assignment::new(alloc, instance.vars())?;
+        Ok(Best::within(instance, room))
+    }
+
+    /// Holds nothing, and has an assignment to as many variables as the instance's for the room of all that it will hold.
+    /// Takes no memory.
+    pub fn within(instance: &'i Instance, room: Assignment) -> Best<'i>
+        requires { length room ≡ instance.now.vars }
+        ensures { result ≡ record { problem = instance.now; held = None } }
+    {
+        let leading_zeros = leading_zeros(&room);
+        Best {
             instance,
             cost: None,
-            assignment,
-            leading_zeros: instance.vars(),
-        })
+            assignment: room,
+            leading_zeros,
+        }
+    }
+
+    /// The room for what is held, with the assignment that is held, if one is.
+    pub fn into_room(self) -> Assignment
+        ensures count { length result ≡ self.entry.problem.vars }
+        ensures held { IfSome self.entry.held (λ s. result ≡ s.assignment) }
+    {
+        match self.cost {
+            Some(_) => self.assignment,
+            None => self.assignment,
+        }
     }
 
     /// The cost of the assignment that is held, if one is.

@@ -49,6 +49,15 @@ impl Instance {
         }
     }
 
+    /// The objective and the constraints.
+    pub(crate) fn into_parts(self) -> (Option<TermList>, ConstraintList)
+        ensures objective { result.0 ≡ self.objective }
+        ensures constraints { result.1 ≡ self.constraints }
+        ensures proper { IsProper self }
+    {
+        (self.objective, self.constraints)
+    }
+
     /// The number of variables.
     pub fn vars(&self) -> u32
         ensures value { result ≡ self.now.vars }

@@ -50,8 +50,8 @@ pub struct Fixed {
 
 /// Multipliers beside the trail of a search. Where they are used they follow the trail, and are shifted at the rows that it
 /// touches. What was shifted below an assumption is taken back with it. An account tells where they are used.
-pub struct Relaxation<'a, C: Count = u64> {
-    multipliers: Multipliers<'a, C>,
+pub struct Relaxation<C: Count = u64> {
+    multipliers: Multipliers<C>,
     schedule: Schedule,
     steps: Steps<C>,
     passes: Passes,
@@ -69,7 +69,7 @@ pub struct Relaxation<'a, C: Count = u64> {
 }
 
 // By hand, as that of `Multipliers`.
-impl<C: Count> Drop for Relaxation<'_, C> {
+impl<C: Count> Drop for Relaxation<C> {
     fn drop(self) {
         let Relaxation {
             multipliers: _,
@@ -87,7 +87,7 @@ impl<C: Count> Drop for Relaxation<'_, C> {
     }
 }
 
-impl<'a, C: Count> Model for Relaxation<'a, C> {
+impl<C: Count> Model for Relaxation<C> {
     ghost use Rattle.std.specs.Prelude.{◌≡◌, length};
     ghost use Rattle.pb_dual.specs.Multipliers.{MultipliersState};
 
@@ -98,10 +98,10 @@ impl<'a, C: Count> Model for Relaxation<'a, C> {
     ghost invariant = { λ r. r.schedule ≡ length r.multipliers.form.rows };
 }
 
-impl<'a, C: Count> Relaxation<'a, C> {
+impl<C: Count> Relaxation<C> {
     /// No multipliers, beside an empty trail. Nothing after it takes memory. There is none where the costs have no scale in
     /// the width of the form.
-    pub fn new(alloc: Global, form: &'a Form<C>) -> Result<Option<Relaxation<'a, C>>, Memory>
+    pub fn new(alloc: Global, form: &Form<C>) -> Result<Option<Relaxation<C>>, Memory>
         ensures { IfOk result (λ made. IfSome made (λ r. (r.form ≡ form.now) × (r.trail ≡ []))) }
     {
         match Multipliers::new(alloc, form, changes_for(form.len()))? {
@@ -113,11 +113,11 @@ impl<'a, C: Count> Relaxation<'a, C> {
     /// The same with these multipliers.
     fn beside(
         alloc: Global,
-        form: &'a Form<C>,
-        multipliers: Multipliers<'a, C>,
-    ) -> Result<Relaxation<'a, C>, Memory>
+        form: &Form<C>,
+        multipliers: Multipliers<C>,
+    ) -> Result<Relaxation<C>, Memory>
         requires { multipliers.form ≡ form.now }
-        ensures { IfOk result (λ r. r ≡ multipliers.entry) }
+        ensures { IfOk result (λ r. r ≡ multipliers) }
     {
         let passes = Passes::new(alloc, form)?;
         let account = Account::new(passes.terms());
@@ -144,7 +144,7 @@ impl<'a, C: Count> Relaxation<'a, C> {
     /// The bound, or that of the multipliers where they are used and it is greater. Where the latter is below the goal, the
     /// rows that the trail touched since the last time are stepped at first. Where it alone would reach the goal it is left
     /// out now and then, to see what it saves.
-    pub fn raise(&mut self, slacks: &Slacks<'_, '_, C>, bound: Number, goal: Number) -> Number
+    pub fn raise(&mut self, slacks: &Slacks<'_, C>, bound: Number, goal: Number) -> Number
         requires { IsBeside slacks.now.form slacks.now.trail self.old }
         ensures bound { (result ≡ bound) ⊎ ((bound ≤ℤ result) × IsBelowCosts slacks.now.form slacks.now.trail result) }
         ensures beside { IsBeside slacks.now.form slacks.now.trail self.new }
@@ -165,7 +165,7 @@ impl<'a, C: Count> Relaxation<'a, C> {
 
     /// Follows the trail and improves the multipliers, where they are used, as `raise` does; no bound is asked for. Answers
     /// whether they tell that nothing completes the trail. Now and then that is left out, to see what it saves.
-    pub fn adjust(&mut self, slacks: &Slacks<'_, '_, C>) -> bool
+    pub fn adjust(&mut self, slacks: &Slacks<'_, C>) -> bool
         requires { IsBeside slacks.now.form slacks.now.trail self.old }
         ensures no_completion { result ≡ true → HasNoCompletion slacks.now.form.rows slacks.now.trail }
         ensures beside { IsBeside slacks.now.form slacks.now.trail self.new }
@@ -185,7 +185,7 @@ impl<'a, C: Count> Relaxation<'a, C> {
 
     /// Whether the multipliers tell that nothing completes the trail, where there is no objective. They are looked for beside
     /// the root's trail, a few times at most, and used only if they refute that: then they refute each trail beyond it too.
-    fn refute(&mut self, slacks: &Slacks<'_, '_, C>, refuting: Refuting) -> bool
+    fn refute(&mut self, slacks: &Slacks<'_, C>, refuting: Refuting) -> bool
         requires { IsBeside slacks.now.form slacks.now.trail self.old }
         ensures no_completion { result ≡ true → HasNoCompletion slacks.now.form.rows slacks.now.trail }
         ensures beside { IsBeside slacks.now.form slacks.now.trail self.new }
@@ -207,7 +207,7 @@ impl<'a, C: Count> Relaxation<'a, C> {
     }
 
     /// Whether the multipliers that were found refute the trail. Where they do not, they are of another root.
-    fn confirm(&mut self, slacks: &Slacks<'_, '_, C>, refuting: Refuting) -> bool
+    fn confirm(&mut self, slacks: &Slacks<'_, C>, refuting: Refuting) -> bool
         requires { IsBeside slacks.now.form slacks.now.trail self.old }
         ensures no_completion { result ≡ true → HasNoCompletion slacks.now.form.rows slacks.now.trail }
         ensures beside { IsBeside slacks.now.form slacks.now.trail self.new }
@@ -221,7 +221,7 @@ impl<'a, C: Count> Relaxation<'a, C> {
 
     /// Uses the multipliers at the node, if they pay: they follow the trail to its end, and are improved where their bound is
     /// below the goal. Answers whether they are used.
-    fn use_at(&mut self, slacks: &Slacks<'_, '_, C>, goal: Number) -> bool
+    fn use_at(&mut self, slacks: &Slacks<'_, C>, goal: Number) -> bool
         requires { IsBeside slacks.now.form slacks.now.trail self.old }
         ensures followed { result ≡ true → self.new.trail ≡ slacks.now.trail }
         ensures beside { IsBeside slacks.now.form slacks.now.trail self.new }
@@ -246,7 +246,7 @@ impl<'a, C: Count> Relaxation<'a, C> {
 
     /// Shifts all rows at once beside the root's trail, and counts them as it leaves them. Where the search's place is far below
     /// it, its multipliers are no beginning, and the root's are.
-    fn climb(&mut self, slacks: &Slacks<'_, '_, C>, goal: Number)
+    fn climb(&mut self, slacks: &Slacks<'_, C>, goal: Number)
         requires { IsBeside slacks.now.form slacks.now.trail self.old }
         ensures { IsBeside slacks.now.form slacks.now.trail self.new }
     {
@@ -264,7 +264,7 @@ impl<'a, C: Count> Relaxation<'a, C> {
     }
 
     /// Steps all rows beside the root's trail.
-    fn ascend(&mut self, slacks: &Slacks<'_, '_, C>)
+    fn ascend(&mut self, slacks: &Slacks<'_, C>)
         requires { IsBeside slacks.now.form slacks.now.trail self.old }
         ensures { IsBeside slacks.now.form slacks.now.trail self.new }
     {
@@ -274,7 +274,7 @@ impl<'a, C: Count> Relaxation<'a, C> {
     }
 
     /// Follows the trail to the end of the root's, and no further.
-    fn return_to_root(&mut self, slacks: &Slacks<'_, '_, C>)
+    fn return_to_root(&mut self, slacks: &Slacks<'_, C>)
         requires { IsBeside slacks.now.form slacks.now.trail self.old }
         ensures { IsBeside slacks.now.form slacks.now.trail self.new }
     {
@@ -288,7 +288,7 @@ impl<'a, C: Count> Relaxation<'a, C> {
 
     /// Plans in which order the variables without a value may be decided, by a point of least cost beside the trail that is
     /// approached by so many steps from the last one.
-    pub fn plan(&mut self, slacks: &Slacks<'_, '_, C>, steps: u32)
+    pub fn plan(&mut self, slacks: &Slacks<'_, C>, steps: u32)
         requires { IsBeside slacks.now.form slacks.now.trail self.old }
         ensures { IsBeside slacks.now.form slacks.now.trail self.new }
     {
@@ -334,7 +334,7 @@ impl<'a, C: Count> Relaxation<'a, C> {
 
     /// The bound of the multipliers as they are, where they were used at the node that was judged last. They follow the trail,
     /// but no row is touched by that: what is asked for here is taken back at once.
-    pub fn bound_at_hand(&mut self, slacks: &Slacks<'_, '_, C>) -> Option<Number>
+    pub fn bound_at_hand(&mut self, slacks: &Slacks<'_, C>) -> Option<Number>
         requires { IsBeside slacks.now.form slacks.now.trail self.old }
         ensures bound { IfSome result (IsBelowCosts slacks.now.form slacks.now.trail) }
         ensures beside { IsBeside slacks.now.form slacks.now.trail self.new }
@@ -350,7 +350,7 @@ impl<'a, C: Count> Relaxation<'a, C> {
 
     /// A literal that every completion of the trail that costs no more than the limit makes true, and that has no value yet,
     /// with the bound of the multipliers as they are; or none. None also where the multipliers are not used at the node.
-    pub fn fixed_literal(&mut self, slacks: &Slacks<'_, '_, C>, limit: Number) -> Option<Fixed>
+    pub fn fixed_literal(&mut self, slacks: &Slacks<'_, C>, limit: Number) -> Option<Fixed>
         requires { IsBeside slacks.now.form slacks.now.trail self.old }
         ensures fixed { IfSome result (λ f. IsFixed slacks.now.form slacks.now.trail limit f.lit) }
         ensures bound { IfSome result (λ f. IsBelowCosts slacks.now.form slacks.now.trail f.bound) }
@@ -433,7 +433,7 @@ impl<'a, C: Count> Relaxation<'a, C> {
     }
 
     /// Improves the bound where it is below the goal.
-    fn improve(&mut self, tables: &Tables<'_, '_, C>, goal: Number)
+    fn improve(&mut self, tables: &Tables<'_, C>, goal: Number)
         requires { tables.now.form ≡ self.old.form }
         ensures { IsSameButShifted self.old self.new }
     {
@@ -443,7 +443,7 @@ impl<'a, C: Count> Relaxation<'a, C> {
     }
 
     /// Shifts the multipliers of the touched rows, each to where the bound is greatest.
-    fn tighten(&mut self, tables: &Tables<'_, '_, C>)
+    fn tighten(&mut self, tables: &Tables<'_, C>)
         requires { tables.now.form ≡ self.old.form }
         ensures { IsSameButShifted self.old self.new }
     {
@@ -458,7 +458,7 @@ impl<'a, C: Count> Relaxation<'a, C> {
 
     /// Steps the next touched row from this one on, and touches the rows that may be improved after it. Gives the row, or none
     /// where no row is touched.
-    fn step_next(&mut self, tables: &Tables<'_, '_, C>, from: usize) -> Option<usize>
+    fn step_next(&mut self, tables: &Tables<'_, C>, from: usize) -> Option<usize>
         requires { tables.now.form ≡ self.old.form }
         ensures row { IfSome result (λ row. (from ≤ row) × (row < length self.old.form.rows) × (row + 1 < 2 ^ 64)) }
         ensures same { IsSameButShifted self.old self.new }
@@ -520,7 +520,7 @@ impl<'a, C: Count> Relaxation<'a, C> {
     }
 
     /// Follows the trail to its end.
-    fn catch_up(&mut self, slacks: &Slacks<'_, '_, C>)
+    fn catch_up(&mut self, slacks: &Slacks<'_, C>)
         requires { IsBeside slacks.now.form slacks.now.trail self.old }
         ensures form { self.new.form ≡ self.old.form }
         ensures trail { self.new.trail ≡ slacks.now.trail }
@@ -531,7 +531,7 @@ impl<'a, C: Count> Relaxation<'a, C> {
     }
 
     /// Follows the trail for one literal.
-    fn follow_quietly(&mut self, slacks: &Slacks<'_, '_, C>)
+    fn follow_quietly(&mut self, slacks: &Slacks<'_, C>)
         requires beside { IsBeside slacks.now.form slacks.now.trail self.old }
         requires more { length self.old.trail < length slacks.now.trail }
         ensures form { self.new.form ≡ self.old.form }
@@ -543,7 +543,7 @@ impl<'a, C: Count> Relaxation<'a, C> {
     }
 
     /// Follows the trail for one literal, and notes the rows of its variable.
-    fn follow(&mut self, slacks: &Slacks<'_, '_, C>)
+    fn follow(&mut self, slacks: &Slacks<'_, C>)
         requires beside { IsBeside slacks.now.form slacks.now.trail self.old }
         requires more { length self.old.trail < length slacks.now.trail }
         ensures form { self.new.form ≡ self.old.form }

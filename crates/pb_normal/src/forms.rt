@@ -9,7 +9,7 @@ ghost use Rattle.pb_normal.specs.declared.TheConstants.{MAX_ROW_TERMS};
 ghost use Rattle.pb_normal.specs.Exact.{negated, inequalities, objective_terms, IsNormalFormOf};
 ghost use Rattle.pb_normal.specs.Layout.{row_terms};
 ghost use Rattle.pb_normal.specs.NormalForm.{total_coefficient, KeepsFeasible, KeepsCost, IsNormal};
-ghost use Rattle.pb_normal.specs.Fits.{HasSumsBelow, Fits};
+ghost use Rattle.pb_normal.specs.Fits.{HasSumsBelow, Fits, IsNormalWithin};
 ghost use Rattle.pb_normal.specs.Merging.{clipped_row, AddsRows, IsSumOf, HasValueOf};
 ghost use Rattle.pb_normal.specs.declared.unbuilt.Unbuilt.TheVariants.{TooWide};
 
@@ -19,14 +19,23 @@ use crate::terms::{FormTerm, PositiveTerm};
 use crate::unbuilt::Unbuilt;
 use pb_count::{Count, Tally};
 use pb_inst::{Constraint, Instance, Magnitude, Memory, Number, Relation};
-use std::alloc::Global;
+use std::alloc::{AllocError, Global};
 use std::marker::Model;
+use std::sync::Arc;
 
 /// Rows of positive terms, and the cost as a base and positive terms. The terms of a row add up to at least its degree,
 /// and the terms of the objective are what the cost is above its base. The degree of each row, the coefficients of a row
 /// together and those of the objective are below the limit of the numbers in which engines over the form count. Contracts
 /// see a `NormalForm`.
+///
+/// What is built over a form has a share of it, so it may outlive this owner.
 pub struct Form<C: Count = u64> {
+    parts: Arc<Parts<C>, Global>,
+}
+
+/// What the owners of a form share.
+#[derive(Drop)]
+struct Parts<C: Count> {
     vars: u32,
     rows: RowList<C>,
     base: Number,
@@ -39,31 +48,36 @@ impl<C: Count> Model for Form<C> {
 
     ghost Value = { NormalForm };
 
-    ghost view = { λ f. record { vars = f.vars; rows = f.rows; base = f.base; objective = f.objective.items } };
+    ghost use Rattle.std.specs.Arc.{arc_value};
 
-    ghost invariant = { λ f. IsNormalWithin C.limit (record { vars = f.vars; rows = f.rows; base = f.base; objective = f.objective.items }) };
+    ghost view = { λ f. record { vars = (arc_value f.parts).vars; rows = (arc_value f.parts).rows; base = (arc_value f.parts).base; objective = (arc_value f.parts).objective.items } };
+
+    ghost invariant = { λ f. IsNormalWithin C.limit (record { vars = (arc_value f.parts).vars; rows = (arc_value f.parts).rows; base = (arc_value f.parts).base; objective = (arc_value f.parts).objective.items }) };
 }
 
 // By hand, so that who lets a form go calls this, and does not let each part go in its place.
 impl<C: Count> Drop for Form<C> {
     fn drop(self) {
-        let Form {
-            vars: _,
-            rows: _,
-            base: _,
-            objective: _,
-        } = self;
+        let Form { parts: _ } = self;
     }
 }
 
 impl<C: Count> Form<C> {
+    /// One more owner of the form. Takes no memory, and fails only where there are 2^63 of them.
+    pub fn share(&self) -> Result<Form<C>, Memory>
+        ensures { IfOk result (λ form. form ≡ self.now) }
+    {
+        let parts = Arc::try_clone(&self.parts)?;
+        Ok(Form { parts })
+    }
+
     /// The number of variables: they are 1 to `vars`, as in the instance.
     pub fn vars(&self) -> u32
         ensures value { result ≡ self.now.vars }
         ensures normal { IsNormal self.now }
         ensures fits { Fits C.limit self.now }
     {
-        self.vars
+        self.parts.vars
     }
 
     /// The number of rows, at most two for each constraint, so at most `2 * MAX_CONSTRAINTS`.
@@ -71,14 +85,14 @@ impl<C: Count> Form<C> {
         ensures value { result ≡ length self.now.rows }
         ensures normal { IsNormal self.now }
     {
-        self.rows.len()
+        self.parts.rows.len()
     }
 
     /// The number of terms of all rows.
     pub fn terms_len(&self) -> usize
         ensures { result ≡ row_terms self.now.rows }
     {
-        self.rows.terms_len()
+        self.parts.rows.terms_len()
     }
 
     /// The terms of row i, from 0, by rising variable: coefficients of 1 up to the degree. There may be none.
@@ -86,7 +100,7 @@ impl<C: Count> Form<C> {
         requires { i < length self.now.rows }
         ensures { IsSomeAnd (slice_get self.now.rows i) (λ row. row.terms ≡ result.now) }
     {
-        self.rows.terms(i)
+        self.parts.rows.terms(i)
     }
 
     /// What the terms of row i, from 0, must add up to: at least 1, and at most `SUM_BOUND`.
@@ -94,7 +108,7 @@ impl<C: Count> Form<C> {
         requires { i < length self.now.rows }
         ensures { IsSomeAnd (slice_get self.now.rows i) (λ row. row.degree ≡ result) }
     {
-        self.rows.degree(i)
+        self.parts.rows.degree(i)
     }
 
     /// The cost where no literal of the objective is true. Without regard to the constraints it is the least cost.
@@ -102,7 +116,7 @@ impl<C: Count> Form<C> {
         ensures value { result ≡ self.now.base }
         ensures normal { IsNormal self.now }
     {
-        self.base
+        self.parts.base
     }
 
     /// The terms that the cost adds to the base, by rising variable. The base and all of them are at most `SUM_BOUND`.
@@ -110,7 +124,7 @@ impl<C: Count> Form<C> {
         ensures value { result.now ≡ self.now.objective }
         ensures normal { IsNormal self.now }
     {
-        &self.objective
+        &self.parts.objective
     }
 }
 
@@ -132,12 +146,24 @@ pub fn form_of<C: Count>(alloc: Global, instance: &Instance) -> Result<Form<C>, 
     merge_objective(&mut sum, instance)?;
     let objective = objective_of(alloc, &sum.terms)?;
     let _fits = rows.len();
-    Ok(Form {
+    let parts = Parts {
         vars: instance.vars(),
         rows,
         base: sum.base,
         objective,
-    })
+    };
+    Ok(shared(alloc, parts)?)
+}
+
+/// The form of these parts, in memory that its owners share.
+fn shared<C: Count>(alloc: Global, parts: Parts<C>) -> Result<Form<C>, Memory>
+    requires { IsNormalWithin C.limit (record { vars = parts.vars; rows = parts.rows; base = parts.base; objective = parts.objective.items }) }
+    ensures { IfOk result (λ form. form ≡ record { vars = parts.vars; rows = parts.rows; base = parts.base; objective = parts.objective.items }) }
+{
+    match Arc::new(alloc, parts) {
+        Ok(parts) => Ok(Form { parts }),
+        Err(_) => Err(AllocError),
+    }
 }
 
 /// The terms of an objective, where their sum is below the limit.

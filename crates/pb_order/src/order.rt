@@ -30,6 +30,8 @@ pub struct Order {
     phases: Vec<Lit>,
     /// Whether nothing is minimised.
     is_decision: bool,
+    /// Whether the phases are those of an assignment from outside.
+    is_suggested: bool,
     causes: Causes,
 }
 
@@ -49,6 +51,7 @@ impl Drop for Order {
             waited: _,
             phases: _,
             is_decision: _,
+            is_suggested: _,
             causes: _,
         } = self;
     }
@@ -70,6 +73,7 @@ impl Order {
             waited: 0,
             phases,
             is_decision: form.objective().is_empty(),
+            is_suggested: false,
             causes,
         })
     }
@@ -77,9 +81,24 @@ impl Order {
     /// Where nothing is minimised the values of the assignment are tried first from now on.
     pub fn prefer(&mut self, assignment: &Assignment) {
         // It meets all constraints, and what is left to find is like it but for the variables that come first.
-        if !self.is_decision {
-            return;
+        if self.is_decision {
+            self.follow(assignment);
         }
+    }
+
+    /// The values of an assignment from outside are tried first from now on, whatever else speaks for others.
+    pub fn suggest(&mut self, assignment: &Assignment) {
+        self.is_suggested = true;
+        self.follow(assignment);
+    }
+
+    /// Whether the values that come first are of an assignment from outside.
+    pub fn is_suggested(&self) -> bool {
+        self.is_suggested
+    }
+
+    /// The values of the assignment are tried first from now on.
+    fn follow(&mut self, assignment: &Assignment) {
         for lit in self.phases.iter_mut() {
             let var = lit.var();
             if var <= assignment.len() && assignment.get(var) != lit.positive() {
@@ -112,7 +131,7 @@ impl Order {
     /// Where a conflict stands: bumps the activities of the variables of the row that could not be met. Where nothing is
     /// minimised, those of the variables whose values led to that too, back to the decisions, and what was bumped before counts
     /// less from now on.
-    pub fn bump_conflict<C: Count>(&mut self, propagator: &Propagator<'_, C>) {
+    pub fn bump_conflict<C: Count>(&mut self, propagator: &Propagator<C>) {
         // Where a row could not be met the search is hard, so its variables come sooner from now on. Where costs are to be
         // paid, bounds close most nodes, and conflicts tell too little to forget for them what costs and rows told.
         let Some(row) = propagator.conflict_row() else {
@@ -126,7 +145,7 @@ impl Order {
     }
 
     /// Bumps the variables whose values led to the conflict at the row.
-    fn bump_causes<C: Count>(&mut self, propagator: &Propagator<'_, C>, row: usize)
+    fn bump_causes<C: Count>(&mut self, propagator: &Propagator<C>, row: usize)
         requires { row < length propagator.now.rows }
     {
         self.causes.begin();
@@ -140,7 +159,7 @@ impl Order {
     }
 
     /// Bumps the literal's variable where it led to the conflict, and then so did those of the row that forced it.
-    fn bump_cause<C: Count>(&mut self, propagator: &Propagator<'_, C>, lit: Lit) {
+    fn bump_cause<C: Count>(&mut self, propagator: &Propagator<C>, lit: Lit) {
         if self.causes.meet(lit.var()) {
             self.bump(lit);
             if let Some(row) = propagator.reason(lit.var()) {

@@ -4,18 +4,8 @@ use Rattle.pb_normal.specs.declared.terms.PositiveTerm.{PositiveTerm}
 use Rattle.pb_rows.specs.Clauses.{unit_term}
 use Rattle.pb_rows.specs.declared.tables.RowTerms.{RowTerms}
 use Rattle.pb_rows.specs.declared.tables.RowTerms.TheVariants.{Weighted, Units}
-use Rattle.pb_rows.specs.declared.tables_source.Source.{Source}
-use Rattle.pb_rows.specs.declared.tables_source.Source.TheVariants.{Lent, Own}
 use Rattle.pb_rows.specs.Constraints.{Constraints}
 use Rattle.pb_rows.specs.Table.{FormRows, ClauseRows}
-
-abbrev pub rows_of : {C : Type 0} → Source C → FormRows
-rows_of (Lent rows clauses) = rows.now
-rows_of (Own rows clauses) = rows
-
-abbrev pub clauses_of : {C : Type 0} → Source C → ClauseRows
-clauses_of (Lent rows clauses) = clauses.now
-clauses_of (Own rows clauses) = clauses
 
 -- the rows of the form, and the clauses after them
 abbrev pub constraints_of : FormRows → ClauseRows → Constraints

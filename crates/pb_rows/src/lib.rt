@@ -18,7 +18,7 @@ pub use pb_count::{Count, Tally};
 use pb_inst::MAX_CONSTRAINTS;
 pub use rows::{Limits, Rows};
 pub use tables::{RowTerms, Tables};
-pub use tables_source::TablesSource;
+pub use tables_source::{TablesSource, shared_in};
 pub use weighs::Weighs;
 
 /// How many clauses of cubes there may be at most beside the rows of a normal form.

@@ -24,36 +24,37 @@ pub struct Limits<C: Count> {
     pub enough: Tally<C>,
 }
 
-/// The rows of a normal form, with the rows in which each literal occurs and what the objective says of it. They are built
-/// once and lent to engines.
+/// The rows of a normal form, with the rows in which each literal occurs and what the objective says of it. They have a share of
+/// the form, are built once and lent to engines.
 #[derive(Drop)]
-pub struct Rows<'a, C: Count = u64> {
-    form: &'a Form<C>,
+pub struct Rows<C: Count = u64> {
+    form: Form<C>,
     limits: Vec<Limits<C>>,
     index: Index<C>,
     costs: Vec<Tally<C>>,
 }
 
-impl<'a, C: Count> Model for Rows<'a, C> {
+impl<C: Count> Model for Rows<C> {
     ghost use Rattle.pb_rows.specs.Table.{FormRows, AreFormRows};
 
     ghost Value = { FormRows };
 
-    ghost view = { λ r. record { form = r.form.now; occurrences = r.index.occurrences.items; starts = r.index.starts.items } };
+    ghost view = { λ r. record { form = r.form; occurrences = r.index.occurrences.items; starts = r.index.starts.items } };
 
-    ghost invariant = { λ r. AreFormRows r.form.now r.limits.items r.index.occurrences.items r.index.starts.items r.costs.items };
+    ghost invariant = { λ r. AreFormRows r.form r.limits.items r.index.occurrences.items r.index.starts.items r.costs.items };
 }
 
-impl<'a, C: Count> Rows<'a, C> {
+impl<C: Count> Rows<C> {
     /// The rows of the normal form.
-    pub fn new(alloc: Global, form: &'a Form<C>) -> Result<Rows<'a, C>, Memory>
+    pub fn new(alloc: Global, form: &Form<C>) -> Result<Rows<C>, Memory>
         ensures { IfOk result (λ rows. rows.form ≡ form.now) }
     {
+        let form = form.share()?;
         let vars = form.vars();
-        let entries = entries_of(alloc, form)?;
+        let entries = entries_of(alloc, &form)?;
         let index = Index::new(alloc, &entries, 2 * vars as usize)?;
         drop(entries);
-        let limits = limits_of(alloc, form)?;
+        let limits = limits_of(alloc, &form)?;
         let costs = costs_of(alloc, form.objective(), vars)?;
         Ok(Rows {
             form,
@@ -64,10 +65,10 @@ impl<'a, C: Count> Rows<'a, C> {
     }
 
     /// The normal form.
-    pub fn form(&self) -> &'a Form<C>
+    pub fn form(&self) -> &Form<C>
         ensures { result.now ≡ self.now.form }
     {
-        self.form
+        &self.form
     }
 
     /// The number of variables.
@@ -104,7 +105,7 @@ impl<'a, C: Count> Rows<'a, C> {
     }
 
     /// The terms of the row.
-    pub fn terms(&self, row: usize) -> &'a [FormTerm<C>]
+    pub fn terms(&self, row: usize) -> &[FormTerm<C>]
         requires { row < length self.now.form.rows }
         ensures { result.now ≡ (row_at self.now.form.rows row).terms }
     {

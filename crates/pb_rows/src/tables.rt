@@ -27,12 +27,12 @@ pub enum RowTerms<'a, C: Count> {
 
 /// The rows of a normal form, and the clauses of cubes numbered on from them, as one list of rows.
 #[derive(Drop)]
-pub struct Tables<'t, 'a, C: Count> {
-    rows: &'t Rows<'a, C>,
+pub struct Tables<'t, C: Count> {
+    rows: &'t Rows<C>,
     clauses: &'t Clauses,
 }
 
-impl<'t, 'a, C: Count> Model for Tables<'t, 'a, C> {
+impl<'t, C: Count> Model for Tables<'t, C> {
     ghost use Rattle.pb_rows.specs.Constraints.{Constraints};
     ghost use Rattle.pb_rows.specs.Tables.{constraints_of, AreBeside};
 
@@ -43,9 +43,9 @@ impl<'t, 'a, C: Count> Model for Tables<'t, 'a, C> {
     ghost invariant = { λ t. AreBeside t.rows.now t.clauses.now };
 }
 
-impl<'t, 'a, C: Count> Tables<'t, 'a, C> {
+impl<'t, C: Count> Tables<'t, C> {
     /// The rows, and the clauses beside them.
-    pub fn new(rows: &'t Rows<'a, C>, clauses: &'t Clauses) -> Tables<'t, 'a, C>
+    pub fn new(rows: &'t Rows<C>, clauses: &'t Clauses) -> Tables<'t, C>
         requires beside { AreBeside rows.now clauses.now }
         ensures { result ≡ constraints_of rows.now clauses.now }
     {
@@ -53,7 +53,7 @@ impl<'t, 'a, C: Count> Tables<'t, 'a, C> {
     }
 
     /// The normal form.
-    pub fn form(&self) -> &'a Form<C>
+    pub fn form(&self) -> &'t Form<C>
         ensures { result.now ≡ self.now.form }
     {
         self.rows.form()
@@ -113,7 +113,7 @@ impl<'t, 'a, C: Count> Tables<'t, 'a, C> {
     }
 
     /// The terms of a row of the form.
-    pub fn form_terms(&self, row: usize) -> &'a [FormTerm<C>]
+    pub fn form_terms(&self, row: usize) -> &'t [FormTerm<C>]
         requires { row < length self.now.form.rows }
         ensures terms { result.now ≡ (row_at self.now.rows row).terms }
         ensures variables { All (λ t. (1 ≤ t.lit.var) × (t.lit.var ≤ self.now.vars)) result.now }

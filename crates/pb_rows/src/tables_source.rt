@@ -1,10 +1,11 @@
-//! Tables that are lent, or that an engine has for itself.
+//! Tables that engines share.
 
 ghost use Rattle.std.specs.Prelude.{◌≡◌, ◌≤◌, ◌++◌, List, length, All, IfOk};
+ghost use Rattle.std.specs.Arc.{arc_value};
 ghost use Rattle.pb_normal.specs.NormalForm.{PositiveRow};
 ghost use Rattle.pb_rows.specs.declared.TheConstants.{MAX_CLAUSES};
 ghost use Rattle.pb_rows.specs.Clauses.{AreClausesOf};
-ghost use Rattle.pb_rows.specs.Tables.{rows_of, clauses_of, constraints_of, AreBeside};
+ghost use Rattle.pb_rows.specs.Tables.{constraints_of, AreBeside};
 
 use crate::clauses::Clauses;
 use crate::rows::Rows;
@@ -12,71 +13,45 @@ use crate::tables::Tables;
 use pb_count::Count;
 use pb_inst::{Cube, Memory};
 use pb_normal::Form;
-use std::alloc::Global;
+use std::alloc::{AllocError, Global};
 use std::marker::Model;
+use std::sync::Arc;
 
-/// Where an engine has its tables from.
+/// An engine's share of rows and clauses. What runs over them takes `Tables`.
 #[derive(Drop)]
-enum Source<'a, C: Count> {
-    Lent(&'a Rows<'a, C>, &'a Clauses),
-    Own(Rows<'a, C>, Clauses),
+pub struct TablesSource<C: Count> {
+    rows: Arc<Rows<C>, Global>,
+    clauses: Arc<Clauses, Global>,
 }
 
-impl<'a, C: Count> Source<'a, C> {
-    fn rows(&self) -> &Rows<'a, C>
-        ensures { result.now ≡ rows_of self.now }
-    {
-        match self {
-            Source::Lent(rows, _) => rows,
-            Source::Own(rows, _) => rows,
-        }
-    }
-
-    fn clauses(&self) -> &Clauses
-        ensures { result.now ≡ clauses_of self.now }
-    {
-        match self {
-            Source::Lent(_, clauses) => clauses,
-            Source::Own(_, clauses) => clauses,
-        }
-    }
-}
-
-/// Rows and clauses that are lent to an engine, or that it has for itself. Which of the two is asked once for each call of the
-/// engine: what then runs over them takes `Tables`.
-#[derive(Drop)]
-pub struct TablesSource<'a, C: Count> {
-    source: Source<'a, C>,
-}
-
-impl<'a, C: Count> Model for TablesSource<'a, C> {
+impl<C: Count> Model for TablesSource<C> {
+    ghost use Rattle.std.specs.Arc.{arc_value};
     ghost use Rattle.pb_rows.specs.Constraints.{Constraints};
-    ghost use Rattle.pb_rows.specs.Tables.{rows_of, clauses_of, constraints_of, AreBeside};
+    ghost use Rattle.pb_rows.specs.Tables.{constraints_of, AreBeside};
 
     ghost Value = { Constraints };
 
-    ghost view = { λ t. constraints_of (rows_of t.source) (clauses_of t.source) };
+    ghost view = { λ t. constraints_of (arc_value t.rows) (arc_value t.clauses) };
 
-    ghost invariant = { λ t. AreBeside (rows_of t.source) (clauses_of t.source) };
+    ghost invariant = { λ t. AreBeside (arc_value t.rows) (arc_value t.clauses) };
 }
 
-impl<'a, C: Count> TablesSource<'a, C> {
-    /// Rows and clauses that were built before.
-    pub fn lent(rows: &'a Rows<'a, C>, clauses: &'a Clauses) -> TablesSource<'a, C>
-        requires beside { AreBeside rows.now clauses.now }
-        ensures { result ≡ constraints_of rows.now clauses.now }
+impl<C: Count> TablesSource<C> {
+    /// A share of rows and clauses that were built before. Takes no memory, and fails only where there are 2^63 shares.
+    pub fn shared(
+        rows: &Arc<Rows<C>, Global>,
+        clauses: &Arc<Clauses, Global>,
+    ) -> Result<TablesSource<C>, Memory>
+        requires beside { AreBeside (arc_value rows.now) (arc_value clauses.now) }
+        ensures { IfOk result (λ tables. tables ≡ constraints_of (arc_value rows.now) (arc_value clauses.now)) }
     {
-        TablesSource {
-            source: Source::Lent(rows, clauses),
-        }
+        let rows = Arc::try_clone(rows)?;
+        let clauses = Arc::try_clone(clauses)?;
+        Ok(TablesSource { rows, clauses })
     }
 
     /// The rows of the form, and the clauses of at most `MAX_CLAUSES` cubes that are to be false.
-    pub fn new(
-        alloc: Global,
-        form: &'a Form<C>,
-        negated: &[Cube],
-    ) -> Result<TablesSource<'a, C>, Memory>
+    pub fn new(alloc: Global, form: &Form<C>, negated: &[Cube]) -> Result<TablesSource<C>, Memory>
         requires few { length negated.now ≤ MAX_CLAUSES }
         requires variables { All (λ cube. All (λ l. l.var ≤ form.now.vars) cube) negated.now }
         ensures form { IfOk result (λ tables. tables.form ≡ form.now) }
@@ -85,15 +60,25 @@ impl<'a, C: Count> TablesSource<'a, C> {
     {
         let rows = Rows::new(alloc, form)?;
         let clauses = Clauses::new(alloc, &rows, negated)?;
-        Ok(TablesSource {
-            source: Source::Own(rows, clauses),
-        })
+        let rows = shared_in(alloc, rows)?;
+        let clauses = shared_in(alloc, clauses)?;
+        Ok(TablesSource { rows, clauses })
     }
 
     /// The tables.
-    pub fn tables(&self) -> Tables<'_, 'a, C>
+    pub fn tables(&self) -> Tables<'_, C>
         ensures { result ≡ self.now }
     {
-        Tables::new(self.source.rows(), self.source.clauses())
+        Tables::new(&self.rows, &self.clauses)
+    }
+}
+
+/// The value in memory that its owners share. Fails where memory is refused.
+pub fn shared_in<T: Drop>(alloc: Global, value: T) -> Result<Arc<T, Global>, Memory>
+    ensures { IfOk result (λ shared. arc_value shared ≡ value) }
+{
+    match Arc::new(alloc, value) {
+        Ok(shared) => Ok(shared),
+        Err(_) => Err(AllocError),
     }
 }

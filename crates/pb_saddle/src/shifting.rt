@@ -8,7 +8,7 @@ use pb_dual::{Multipliers, Signed};
 
 /// Shifts the multiplier of the row to this number, or as near to it as its range lets it, and keeps it so: the change can't
 /// be taken back. Where there is no room for a change the multiplier stays.
-pub fn shift_to<C: Count>(multipliers: &mut Multipliers<'_, C>, row: usize, to: Tally<C>)
+pub fn shift_to<C: Count>(multipliers: &mut Multipliers<C>, row: usize, to: Tally<C>)
     requires { row < length multipliers.old.form.rows }
     ensures { IsSameButShifted multipliers.old multipliers.new }
 {

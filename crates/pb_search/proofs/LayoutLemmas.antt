@@ -1,5 +1,5 @@
 -- How a search is laid out when it is made.
-use Rattle.std.proofs.Common.{◌≡◌, ℕ, ◌≤◌, List, [], ◌++◌, get_or, sym, ◌∙◌, subst, Bool, All}
+use Rattle.std.proofs.Common.{◌≡◌, ℕ, ◌≤◌, List, [], ◌++◌, get_or, ap, sym, ◌∙◌, subst, Bool, All}
 use Rattle.std.specs.Prelude.{◌↔◌, Option, IfNone, IfSome, vec_capacity}
 use Rattle.std.proofs.lemmas.List.Elements.{All-nil, All-append, All-contains, All-contains_itself, Contains-append_left, Contains-append_right}
 use Rattle.pb_inst.specs.Literal.{Literal}
@@ -14,6 +14,7 @@ use Rattle.pb_cubes.specs.Pieces.{CubeList}
 use Rattle.pb_search.specs.declared.search_state.SearchState.{SearchState}
 use Rattle.pb_search.specs.Layout.{HasRowsOf, IsCubeState, IsLaidOut, IsMade}
 use Rattle.pb_search.specs.SearchState.{IsStateOf}
+use Rattle.pb_search.specs.Solutions.{SameConstraints}
 
 -- what holds of two lists together holds of each
 all_left : (P : PositiveRow → Type 0) (xs ys : List PositiveRow) → All P (xs ++ ys) → All P xs
@@ -55,3 +56,22 @@ laid_out p f pieces cube rest law vars feasible costs few same none some all = r
   rest_state = made_state p f pieces.cubes rest law vars feasible costs few all;
   rest_rows = rows_mean p f pieces.cubes rest.engine law feasible all.rows;
 }
+
+-- a state that was made for a form stays so where it keeps its constraints and its room
+pub still_made : {C : Type 0} (p : Problem) (f : NormalForm) (old new : SearchState C) → f.vars ≡ p.vars → IsMade f [] old → IsStateOf p new → SameConstraints old.engine new.engine → IsMade f [] new
+still_made p f old new vars made is same = record {
+  form = same.form ∙ made.form;
+  vars = same.vars ∙ made.vars;
+  rows = same_rows f [] old.engine new.engine same.rows made.rows;
+  candidate = is.candidate ∙ sym vars;
+  room = subst (λ (n : ℕ). n ≤ vec_capacity new.branches) (sym vars) is.room;
+}
+  where
+    same_rows : (f : NormalForm) (cubes : List (List Literal)) (s t : EngineState) → t.rows ≡ s.rows → HasRowsOf f cubes s → HasRowsOf f cubes t
+    same_rows f cubes s t e (clauses, rows, are) = (clauses, e ∙ rows, are)
+
+-- the state of a search of the whole instance, of which the form is a normal form
+pub whole_state : {C : Type 0} (p : Problem) (f : NormalForm) (t : SearchState C) → ClausesSayCubesAreFalse → t.engine.form ≡ f → f.vars ≡ p.vars → KeepsFeasible p f → KeepsCost p f → f.vars ≤ MAX_VARS → IsMade t.engine.form [] t → IsCubeState p t
+whole_state p f t law is vars feasible costs few made =
+    made_cube_state p t.engine.form t law (ap (λ (x : NormalForm). x.vars) is ∙ vars) (subst (λ (x : NormalForm). KeepsFeasible p x) (sym is) feasible) (subst (λ (x : NormalForm). KeepsCost p x) (sym is) costs)
+    (subst (λ (n : ℕ). n ≤ MAX_VARS) vars few) made

@@ -16,7 +16,7 @@ use Rattle.pb_engine.specs.Completion.{HasNoCompletion}
 use Rattle.pb_engine.specs.EngineState.{EngineState}
 use Rattle.pb_engine.specs.Soundness.{assumptions, literal_at, IsSoundTrail}
 use Rattle.pb_cubes.specs.Pieces.{LiesIn}
-use Rattle.pb_search.specs.Done.{Division, IsCandidate, IsDone, IsCandidateUnder, IsDoneUnder, LiesInUnder}
+use Rattle.pb_search.specs.Done.{Division, IsCandidate, IsDone}
 use Rattle.pb_search.specs.Held.{IsImprovement}
 use Rattle.pb_search.specs.Solutions.{SameConstraints, Satisfies, SatisfiesUnder}
 use Rattle.pb_search.specs.SearchState.{IsOwn}
@@ -93,11 +93,11 @@ cube_candidate d i s cube a vars rows is h = record {
 abbrev pub AreRestRows : Division → EngineState → Type 0
 AreRestRows d s = (a : List Bool) → MeetsRows a s.rows ↔ (IsFeasible d.problem a × All (λ cube. MakesFalse a cube) d.cubes)
 
--- a candidate of the remainder that makes literals true
-pub rest_candidate : (d : Division) (i : ℕ) (s : EngineState) (cube : List Literal) (a : List Bool) → s.vars ≡ d.problem.vars → AreRestRows d s → i ≡ length d.cubes → IsCandidateUnder d i cube a → SatisfiesUnder s cube a
-rest_candidate d i s cube a vars rows is h = record {
-  solution = record { for_all_variables = h.candidate.for_all_variables ∙ sym vars; meets_rows = (rows a).1 (h.candidate.feasible, from_piece h.candidate.in_piece) };
-  makes_true = h.makes_true;
+-- a candidate of the remainder
+pub rest_candidate : (d : Division) (i : ℕ) (s : EngineState) (a : List Bool) → s.vars ≡ d.problem.vars → AreRestRows d s → i ≡ length d.cubes → IsCandidate d i a → SatisfiesUnder s [] a
+rest_candidate d i s a vars rows is h = record {
+  solution = record { for_all_variables = h.for_all_variables ∙ sym vars; meets_rows = (rows a).1 (h.feasible, from_piece h.in_piece) };
+  makes_true = All-nil (λ l. literal_value a l ≡ 1);
 }
   where
     from_piece : LiesIn d.cubes i a → All (λ c. MakesFalse a c) d.cubes
@@ -105,24 +105,14 @@ rest_candidate d i s cube a vars rows is h = record {
     from_piece (inr rest) = rest.1
 
 -- what solutions of the remainder and of a cube's piece are
-rest_inside : (d : Division) (i : ℕ) (s : EngineState) (cube : List Literal) (o : Option Solution) → AreRestRows d s → i ≡ length d.cubes → IsSomeAnd o (λ r. SatisfiesUnder s cube r.assignment) → IsSomeAnd o (λ r. LiesInUnder d.cubes i cube r.assignment)
-rest_inside d i s cube None rows is h = h
-rest_inside d i s cube (Some r) rows is h = record { in_piece = inr (is, ((rows r.assignment).0 h.solution.meets_rows).1); makes_true = h.makes_true }
+rest_inside : (d : Division) (i : ℕ) (s : EngineState) (o : Option Solution) → AreRestRows d s → i ≡ length d.cubes → IsSomeAnd o (λ r. SatisfiesUnder s [] r.assignment) → IsSomeAnd o (λ r. LiesIn d.cubes i r.assignment)
+rest_inside d i s None rows is h = h
+rest_inside d i s (Some r) rows is h = inr (is, ((rows r.assignment).0 h.solution.meets_rows).1)
 
 -- a piece is done once no candidate improves on what is held
 done_from : (d : Division) (i : ℕ) (held : Option Solution) → IfSome held (λ s. IsSolution d.problem s) → ((a : List Bool) → IsCandidate d i a → ¬ IsImprovement d.problem a held) → IsDone d i held
 done_from d i None sound none = λ a h. none a h tt
 done_from d i (Some s) sound none = (sound, none)
-
--- and so is its part under literals
-done_under_from : (d : Division) (i : ℕ) (cube : List Literal) (held : Option Solution) → IfSome held (λ s. IsSolution d.problem s) → ((a : List Bool) → IsCandidateUnder d i cube a → ¬ IsImprovement d.problem a held) → IsDoneUnder d i cube held
-done_under_from d i cube None sound none = λ a h. none a h tt
-done_under_from d i cube (Some s) sound none = (sound, none)
-
--- under no literal it is the whole piece
-pub done_under_none : (d : Division) (i : ℕ) (held : Option Solution) → IsDoneUnder d i [] held → IsDone d i held
-done_under_none d i None done = λ a h. done a (record { candidate = h; makes_true = All-nil (True a) })
-done_under_none d i (Some s) done = (done.0, (λ a h. done.1 a (record { candidate = h; makes_true = All-nil (True a) })))
 
 -- what a comparison of truth values says
 pub same_bits : (a b : Bool) → beq a b ≡ true → a ≡ b
@@ -155,21 +145,21 @@ cube_done p d i s cube new e f vars rows is sound none =
     done_from d i new.held (subst (λ (x : Problem). IfSome new.held (λ t. IsSolution x t)) (f ∙ e) sound)
     (λ a h better. none a (cube_candidate d i s cube a vars rows is h) (subst (λ (x : Problem). IsImprovement x a new.held) (sym e) better))
 
--- the search of the remainder under literals has done that part of it
-pub rest_done : (p : Problem) (d : Division) (i : ℕ) (s : EngineState) (cube : List Literal) (new : Incumbent) → p ≡ d.problem → new.problem ≡ p → s.vars ≡ d.problem.vars → AreRestRows d s → i ≡ length d.cubes → IsSound new → ((a : List Bool) → SatisfiesUnder s cube a → ¬ IsImprovement p a new.held) → IsDoneUnder d i cube new.held
-rest_done p d i s cube new e f vars rows is sound none =
-    done_under_from d i cube new.held (subst (λ (x : Problem). IfSome new.held (λ t. IsSolution x t)) (f ∙ e) sound)
-    (λ a h better. none a (rest_candidate d i s cube a vars rows is h) (subst (λ (x : Problem). IsImprovement x a new.held) (sym e) better))
+-- the search of the remainder has done its piece
+pub rest_done : (p : Problem) (d : Division) (i : ℕ) (s : EngineState) (new : Incumbent) → p ≡ d.problem → new.problem ≡ p → s.vars ≡ d.problem.vars → AreRestRows d s → i ≡ length d.cubes → IsSound new → ((a : List Bool) → SatisfiesUnder s [] a → ¬ IsImprovement p a new.held) → IsDone d i new.held
+rest_done p d i s new e f vars rows is sound none =
+    done_from d i new.held (subst (λ (x : Problem). IfSome new.held (λ t. IsSolution x t)) (f ∙ e) sound)
+    (λ a h better. none a (rest_candidate d i s a vars rows is h) (subst (λ (x : Problem). IsImprovement x a new.held) (sym e) better))
 
-pub rest_own : (d : Division) (i : ℕ) (s : EngineState) (cube : List Literal) (old new : Incumbent) → AreRestRows d s → i ≡ length d.cubes → (new ≡ old) ⊎ IsSomeAnd new.held (λ r. SatisfiesUnder s cube r.assignment) → (new ≡ old) ⊎ IsSomeAnd new.held (λ r. LiesInUnder d.cubes i cube r.assignment)
-rest_own d i s cube old new rows is (inl same) = inl same
-rest_own d i s cube old new rows is (inr found) = inr (rest_inside d i s cube new.held rows is found)
+pub rest_own : (d : Division) (i : ℕ) (s : EngineState) (old new : Incumbent) → AreRestRows d s → i ≡ length d.cubes → (new ≡ old) ⊎ IsSomeAnd new.held (λ r. SatisfiesUnder s [] r.assignment) → (new ≡ old) ⊎ IsSomeAnd new.held (λ r. LiesIn d.cubes i r.assignment)
+rest_own d i s old new rows is (inl same) = inl same
+rest_own d i s old new rows is (inr found) = inr (rest_inside d i s new.held rows is found)
 
--- what lies in a piece under literals lies in the piece
-pub own_in_piece : (cubes : List (List Literal)) (i : ℕ) (cube : List Literal) (old new : Incumbent) → (new ≡ old) ⊎ IsSomeAnd new.held (λ r. LiesInUnder cubes i cube r.assignment) → (new ≡ old) ⊎ IsSomeAnd new.held (λ r. LiesIn cubes i r.assignment)
-own_in_piece cubes i cube old new (inl same) = inl same
-own_in_piece cubes i cube old new (inr found) = inr (within new.held found)
+-- what a search under a cube found makes the cube true
+pub own_makes_true : (s : EngineState) (cube : List Literal) (old new : Incumbent) → (new ≡ old) ⊎ IsSomeAnd new.held (λ r. SatisfiesUnder s cube r.assignment) → (new ≡ old) ⊎ IsSomeAnd new.held (λ r. MakesTrue r.assignment cube)
+own_makes_true s cube old new (inl same) = inl same
+own_makes_true s cube old new (inr found) = inr (within new.held found)
   where
-    within : (o : Option Solution) → IsSomeAnd o (λ r. LiesInUnder cubes i cube r.assignment) → IsSomeAnd o (λ r. LiesIn cubes i r.assignment)
+    within : (o : Option Solution) → IsSomeAnd o (λ r. SatisfiesUnder s cube r.assignment) → IsSomeAnd o (λ r. MakesTrue r.assignment cube)
     within None h = h
-    within (Some r) h = h.in_piece
+    within (Some r) h = h.makes_true

@@ -61,7 +61,7 @@ impl AgreedPrefix {
 
     /// Whether the trail has a 1 where the assignment has 0, and before it every 1 of the assignment. It looks at the
     /// literals that joined the trail since the last time.
-    pub fn has_surplus<C: Count>(&mut self, engine: &EngineAt<'_, C>, held: &Assignment) -> bool
+    pub fn has_surplus<C: Count>(&mut self, engine: &EngineAt<C>, held: &Assignment) -> bool
         requires known { KnowsPrefix engine.now.trail held.now self.old }
         ensures later { IsTrue result → IsNotBefore engine.now.trail held.now }
         ensures known { KnowsPrefix engine.now.trail held.now self.new }
@@ -84,7 +84,7 @@ impl AgreedPrefix {
 
     /// Counts on up to the first variable where the trail, with zeros elsewhere, and the assignment differ. Gives how many
     /// variables come before it.
-    pub fn extend<C: Count>(&mut self, engine: &EngineAt<'_, C>, held: &Assignment) -> u32
+    pub fn extend<C: Count>(&mut self, engine: &EngineAt<C>, held: &Assignment) -> u32
         requires known { KnowsPrefix engine.now.trail held.now self.old }
         ensures ones { HasOnesWithin engine.now.trail held.now 0 result }
         ensures within { result ≤ length held.now }
@@ -97,7 +97,7 @@ impl AgreedPrefix {
     }
 
     /// Before the literals from this one on are taken back: what they made known is forgotten.
-    pub fn forget_from<C: Count>(&mut self, engine: &EngineAt<'_, C>, lit: Lit, best: &Best<'_>)
+    pub fn forget_from<C: Count>(&mut self, engine: &EngineAt<C>, lit: Lit, best: &Best<'_>)
         requires sound { IsSoundTrail engine.now }
         requires known { KnowsHeldPrefix engine.now.trail best.now.held self.old }
         ensures known { KnowsHeldPrefix engine.now.trail best.now.held self.new }
@@ -110,7 +110,7 @@ impl AgreedPrefix {
     }
 
     /// The same where an assignment is held. It goes from the end of the trail back to the literal.
-    fn forget_down_to<C: Count>(&mut self, engine: &EngineAt<'_, C>, lit: Lit, held: &Assignment)
+    fn forget_down_to<C: Count>(&mut self, engine: &EngineAt<C>, lit: Lit, held: &Assignment)
         requires sound { IsSoundTrail engine.now }
         requires known { KnowsPrefix engine.now.trail held.now self.old }
         ensures known { KnowsPrefix engine.now.trail held.now self.new }
@@ -127,7 +127,7 @@ impl AgreedPrefix {
     }
 
     /// The same for the last one of the literals seen.
-    fn forget_last<C: Count>(&mut self, engine: &EngineAt<'_, C>, last: Lit, held: &Assignment)
+    fn forget_last<C: Count>(&mut self, engine: &EngineAt<C>, last: Lit, held: &Assignment)
         requires sound { IsSoundTrail engine.now }
         requires some { 1 ≤ self.old.seen }
         requires last { last ≡ slice_index_or engine.now.trail (self.old.seen - 1) last }
@@ -139,7 +139,7 @@ impl AgreedPrefix {
     }
 
     /// After literals were taken back: nothing is known where one of those seen is gone.
-    pub fn cut<C: Count>(&mut self, engine: &EngineAt<'_, C>)
+    pub fn cut<C: Count>(&mut self, engine: &EngineAt<C>)
         ensures known { (n : ℕ) → (longer : List Literal) → (held : Option Solution) → engine.now.trail ≡ take n longer → KnowsHeldPrefix longer held self.old → KnowsHeldPrefix engine.now.trail held self.new }
     {
         if self.seen > engine.trail_len() {
@@ -173,7 +173,7 @@ fn count_without(held: &Assignment, count: u32, last: Lit) -> u32
 }
 
 /// Whether the variable is one of the first `count`, the trail makes it true and the assignment does not.
-fn is_surplus<C: Count>(engine: &EngineAt<'_, C>, held: &Assignment, count: u32, var: u32) -> bool
+fn is_surplus<C: Count>(engine: &EngineAt<C>, held: &Assignment, count: u32, var: u32) -> bool
     requires within { count ≤ length held.now }
     requires ones { HasOnesWithin engine.now.trail held.now 0 count }
     ensures { IsTrue result → IsNotBefore engine.now.trail held.now }
@@ -189,7 +189,7 @@ fn is_surplus<C: Count>(engine: &EngineAt<'_, C>, held: &Assignment, count: u32,
 
 /// Such a variable among those of the trail's literals from the place on.
 fn surplus_from<C: Count>(
-    engine: &EngineAt<'_, C>,
+    engine: &EngineAt<C>,
     held: &Assignment,
     count: u32,
     from: usize,
@@ -209,7 +209,7 @@ fn surplus_from<C: Count>(
 
 /// How many variables come before the first one, after the first `from`, where the trail, with zeros elsewhere, and the
 /// assignment differ; all where there is none.
-fn agreed_from<C: Count>(engine: &EngineAt<'_, C>, held: &Assignment, from: u32) -> u32
+fn agreed_from<C: Count>(engine: &EngineAt<C>, held: &Assignment, from: u32) -> u32
     requires within { from ≤ length held.now }
     requires ones { HasOnesWithin engine.now.trail held.now 0 from }
     ensures ones { HasOnesWithin engine.now.trail held.now 0 result }

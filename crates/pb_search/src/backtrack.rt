@@ -18,7 +18,7 @@ use pb_inst::Best;
 
 /// Takes back the last decision, and gives it; none where there is none.
 pub fn undo_decision<C: Count>(
-    engine: &mut EngineAt<'_, C>,
+    engine: &mut EngineAt<C>,
     path: &mut Vec<Branch>,
     best: &Best<'_>,
     agreed: &mut AgreedPrefix,
@@ -44,7 +44,7 @@ pub fn undo_decision<C: Count>(
 /// Takes back the decisions up to the last one whose other value is still to be tried, and gives the decision for that
 /// value; none where there is none.
 pub fn backtrack<C: Count>(
-    state: &mut SearchState<'_, C>,
+    state: &mut SearchState<C>,
     best: &Best<'_>,
     agreed: &mut AgreedPrefix,
 ) -> Option<Branch>

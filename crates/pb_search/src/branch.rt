@@ -45,7 +45,7 @@ impl Hints {
 
 /// Adds a decision to the path, assumes its literal, and takes one off what is left of the budget.
 pub fn decide<C: Count>(
-    engine: &mut EngineAt<'_, C>,
+    engine: &mut EngineAt<C>,
     path: &mut Vec<Branch>,
     branch: Branch,
     left: &mut Option<u64>,
@@ -69,7 +69,7 @@ pub fn decide<C: Count>(
 }
 
 /// Tells the engine where nothing is left to try in place of the last decision.
-fn settle<C: Count>(engine: &mut EngineAt<'_, C>, is_settled: bool)
+fn settle<C: Count>(engine: &mut EngineAt<C>, is_settled: bool)
     ensures { engine.new ≡ engine.old }
 {
     if is_settled {

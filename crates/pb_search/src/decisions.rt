@@ -16,7 +16,7 @@ use pb_order::Order;
 /// first, so that the order of assignments soon decides, and where nothing objects so do those behind it; else the literals
 /// come in their order.
 pub fn next_decision<C: Count>(
-    engine: &EngineAt<'_, C>,
+    engine: &EngineAt<C>,
     vars: u32,
     order: &mut Order,
     hints: Hints,
@@ -67,7 +67,7 @@ pub fn decision(lit: Lit, bound: Option<Number>, hints: Hints) -> Branch
 
 /// The first literal of the order whose variable has no value. Those before it are passed over until the search steps back.
 fn ordered_decision<C: Count>(
-    engine: &EngineAt<'_, C>,
+    engine: &EngineAt<C>,
     vars: u32,
     order: &mut Order,
     hints: Hints,
@@ -84,8 +84,13 @@ fn ordered_decision<C: Count>(
         let lit = order.first()?;
         if is_free(engine, vars, lit) {
             let left = order.left();
-            // The value that the multipliers make the cheaper one is the better guess, where there are any.
-            let lit = engine.cheaper(lit);
+            // The value that the multipliers make the cheaper one is the better guess, where there are any and nobody told of
+            // a better one.
+            let lit = if order.is_suggested() {
+                lit
+            } else {
+                engine.cheaper(lit)
+            };
             return Some(decision(lit, bound, Hints { left, ..hints }));
         }
         order.pass();

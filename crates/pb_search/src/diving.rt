@@ -21,7 +21,7 @@ use pb_inst::{Assignment, Best};
 /// Dives from where the search stands, if that is its root and a dive is due. Answers whether it led to a better assignment;
 /// then more may be fixed at the root. The decisions of a dive count like those of the search.
 pub fn dive_from_root<C: Count, S: Share>(
-    state: &mut SearchState<'_, C>,
+    state: &mut SearchState<C>,
     best: &mut Best<'_>,
     share: &mut S,
     agreed: &mut AgreedPrefix,
@@ -52,7 +52,7 @@ pub fn dive_from_root<C: Count, S: Share>(
 }
 
 /// Has the multipliers improved anew where the root's trail has grown.
-pub fn renew_at_root<C: Count>(state: &mut SearchState<'_, C>, best: &Best<'_>)
+pub fn renew_at_root<C: Count>(state: &mut SearchState<C>, best: &Best<'_>)
     ensures same_branches { SameBranches state.old state.new }
     ensures unchanged { state.new.engine ≡ state.old.engine }
 {
@@ -68,7 +68,7 @@ pub fn renew_at_root<C: Count>(state: &mut SearchState<'_, C>, best: &Best<'_>)
 
 /// Dives once, by so many decisions at most, each of which is taken off what is left.
 fn dive<C: Count, S: Share>(
-    state: &mut SearchState<'_, C>,
+    state: &mut SearchState<C>,
     best: &mut Best<'_>,
     share: &mut S,
     agreed: &mut AgreedPrefix,
@@ -103,7 +103,7 @@ fn dive<C: Count, S: Share>(
 
 /// Hands the trail to the incumbent where it is full. Answers whether that was an improvement.
 fn take_where_full<C: Count, S: Share>(
-    engine: &EngineAt<'_, C>,
+    engine: &EngineAt<C>,
     candidate: &mut Assignment,
     best: &mut Best<'_>,
     share: &mut S,

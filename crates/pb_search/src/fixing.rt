@@ -15,7 +15,7 @@ use pb_inst::{Best, Lit, Number};
 /// nothing to give: none where none is known. At a tie the lowest variables come first. Once something is held a bound is
 /// compared in each call; where decisions are counted that of disjoint rows is among them.
 pub fn judge_node<C: Count>(
-    engine: &mut EngineAt<'_, C>,
+    engine: &mut EngineAt<C>,
     best: &Best<'_>,
     agreed: &mut AgreedPrefix,
     is_counted: bool,
@@ -63,7 +63,7 @@ pub fn judge_node<C: Count>(
 
 /// A literal without a value whose negation costs too much to come before the best assignment, with a bound that is at hand;
 /// or none.
-fn fixed_literal<C: Count>(engine: &mut EngineAt<'_, C>, best: &Best<'_>) -> Option<Fixed>
+fn fixed_literal<C: Count>(engine: &mut EngineAt<C>, best: &Best<'_>) -> Option<Fixed>
     requires engine { IsEngineOf best.now.problem engine.old }
     ensures fixed { IfSome result (λ f. IsOpenOnOneSide best.now.problem engine.old best.now.held f.lit) }
     ensures bound { IfSome result (λ f. IsBelowCompletions engine.old f.bound) }

@@ -15,7 +15,7 @@ use pb_engine::{Count, EngineAt};
 use pb_inst::{Assignment, Best, Number, SUM_BOUND};
 
 /// Writes the trail into the assignment, with 0 for every other variable.
-fn fill<C: Count>(engine: &EngineAt<'_, C>, into: &mut Assignment)
+fn fill<C: Count>(engine: &EngineAt<C>, into: &mut Assignment)
     requires { length into.old ≡ engine.now.vars }
     ensures same_length { length into.new ≡ length into.old }
     ensures filled { IsFilledFrom engine.now.trail into.new }
@@ -29,7 +29,7 @@ fn fill<C: Count>(engine: &EngineAt<'_, C>, into: &mut Assignment)
 /// At a full trail that meets all constraints: hands its assignment to the incumbent, and an improvement to the share.
 /// Answers whether it was one.
 pub fn take_leaf<C: Count, S: Share>(
-    engine: &EngineAt<'_, C>,
+    engine: &EngineAt<C>,
     candidate: &mut Assignment,
     best: &mut Best<'_>,
     share: &mut S,

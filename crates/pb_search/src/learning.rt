@@ -8,7 +8,7 @@ use pb_inst::{Best, Lit};
 use pb_order::{Gain, Order};
 
 /// Learns from the conflict that the engine found.
-pub fn learn_conflict<C: Count>(order: &mut Order, engine: &EngineAt<'_, C>) {
+pub fn learn_conflict<C: Count>(order: &mut Order, engine: &EngineAt<C>) {
     order.bump_conflict(engine.propagator());
 }
 
@@ -27,7 +27,7 @@ pub struct Decided {
 }
 
 /// The last decision, and by how much the bound of the multipliers above it may rise; none where they were not used there.
-pub fn last_decided<C: Count>(state: &SearchState<'_, C>, best: &Best<'_>) -> Option<Decided> {
+pub fn last_decided<C: Count>(state: &SearchState<C>, best: &Best<'_>) -> Option<Decided> {
     // Below a literal that was fixed the multipliers are not asked for a bound, so the one above it is not known.
     if state.engine.is_fixing() {
         return None;
@@ -41,11 +41,7 @@ pub fn last_decided<C: Count>(state: &SearchState<'_, C>, best: &Best<'_>) -> Op
 }
 
 /// By how much the bound of the multipliers may still rise at a node that was judged.
-pub fn gap_left<C: Count>(
-    engine: &EngineAt<'_, C>,
-    best: &Best<'_>,
-    pruning: Pruning,
-) -> Option<Gain> {
+pub fn gap_left<C: Count>(engine: &EngineAt<C>, best: &Best<'_>, pruning: Pruning) -> Option<Gain> {
     if pruning == Pruning::Closed {
         return Some(0);
     }

@@ -7,6 +7,8 @@
 //! whose other value is still to be tried. Conflicts, and what decisions did to the bound, are told to the order
 //! (`learning`). `root_work` says when the search takes more decisions back (`step_back`): to try literals at the root
 //! (`probing`) and to dive from there (`diving`), or since ties alone are left below them (`ties`).
+//!
+//! `WholeSearch` is the same over a whole instance under literals, for questions that come one after the other.
 #![tactic(auto)]
 
 mod agreed_prefix;
@@ -31,8 +33,11 @@ mod share;
 mod step_back;
 mod tables;
 mod ties;
+mod whole_search;
+mod whole_search_at;
 
 pub use outcome::Outcome;
 pub use search::Search;
 pub use share::{Alone, Share};
 pub use tables::SearchTables;
+pub use whole_search::WholeSearch;

@@ -33,7 +33,7 @@ const BORROW_INTERVAL: u32 = 256;
 /// Expands the node where the trail stands: propagates, compares the bound, tries literals at the root, and takes a full
 /// trail. Gives the decision to make next, or none where no completion of the trail is before what is held.
 fn expand_node<C: Count, S: Share>(
-    state: &mut SearchState<'_, C>,
+    state: &mut SearchState<C>,
     best: &mut Best<'_>,
     share: &mut S,
     agreed: &mut AgreedPrefix,
@@ -111,7 +111,7 @@ fn expand_node<C: Count, S: Share>(
 /// Expands the node where the trail stands, and where that is the root, dives from there before a decision is made that has
 /// both values to try. Gives the decision to make next, or none where no completion of the trail is before what is held.
 fn expand<C: Count, S: Share>(
-    state: &mut SearchState<'_, C>,
+    state: &mut SearchState<C>,
     best: &mut Best<'_>,
     share: &mut S,
     agreed: &mut AgreedPrefix,
@@ -140,7 +140,7 @@ fn expand<C: Count, S: Share>(
 /// Expands the node where the search stands. Where nothing is left below it the search backtracks, or steps back further and
 /// goes on from there. Gives the decision to make next, or none where the search is finished.
 fn next_branch<C: Count, S: Share>(
-    state: &mut SearchState<'_, C>,
+    state: &mut SearchState<C>,
     best: &mut Best<'_>,
     share: &mut S,
     agreed: &mut AgreedPrefix,
@@ -172,7 +172,7 @@ fn next_branch<C: Count, S: Share>(
 /// Steps back to so many decisions, and expands the node there. Gives the decision to make next, or none where the search is
 /// finished.
 fn expand_above<C: Count, S: Share>(
-    state: &mut SearchState<'_, C>,
+    state: &mut SearchState<C>,
     count: usize,
     best: &mut Best<'_>,
     share: &mut S,
@@ -199,7 +199,7 @@ fn expand_above<C: Count, S: Share>(
 /// Searches all solutions below the trail, or stops where it would need one decision more than are left. No call of it
 /// recurses, and it takes no memory.
 pub fn search_subtree<C: Count, S: Share>(
-    state: &mut SearchState<'_, C>,
+    state: &mut SearchState<C>,
     best: &mut Best<'_>,
     share: &mut S,
     left: &mut Option<u64>,

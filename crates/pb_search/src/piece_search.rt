@@ -26,8 +26,8 @@ use std::marker::Model;
 
 /// Searches all solutions of the state's constraints under the assumption that the cube is true, or stops where it would
 /// need one decision more than are left.
-fn search_under<C: Count, S: Share>(
-    state: &mut SearchState<'_, C>,
+pub fn search_under<C: Count, S: Share>(
+    state: &mut SearchState<C>,
     cube: &[Lit],
     best: &mut Best<'_>,
     share: &mut S,
@@ -62,9 +62,9 @@ fn search_under<C: Count, S: Share>(
 fn cube_state<'a, C: Count>(
     alloc: Global,
     instance: &Instance,
-    form: &'a Form<C>,
+    form: &Form<C>,
     pieces: &Pieces,
-) -> Result<Option<SearchState<'a, C>>, Memory>
+) -> Result<Option<SearchState<C>>, Memory>
     requires vars { form.now.vars ≡ instance.now.vars }
     requires feasible { KeepsFeasible instance.now form.now }
     requires costs { KeepsCost instance.now form.now }
@@ -84,8 +84,8 @@ fn cube_state<'a, C: Count>(
 pub struct PieceSearch<'a, C: Count> {
     instance: &'a Instance,
     pieces: &'a Pieces,
-    cube: Option<SearchState<'a, C>>,
-    rest: SearchState<'a, C>,
+    cube: Option<SearchState<C>>,
+    rest: SearchState<C>,
 }
 
 impl<'a, C: Count> Model for PieceSearch<'a, C> {
@@ -113,13 +113,13 @@ impl<'a, C: Count> Drop for PieceSearch<'a, C> {
 }
 
 impl<'a, C: Count> PieceSearch<'a, C> {
-    ghost use Rattle.pb_search.specs.Done.{IsDone, IsDoneUnder, LiesInUnder};
+    ghost use Rattle.pb_search.specs.Done.{IsDone};
 
     /// Makes all that the searches of the pieces need, over a normal form of the instance. Fails where memory is refused.
     pub fn new(
         alloc: Global,
         instance: &'a Instance,
-        form: &'a Form<C>,
+        form: &Form<C>,
         pieces: &'a Pieces,
     ) -> Result<PieceSearch<'a, C>, Memory>
         requires vars { form.now.vars ≡ instance.now.vars }
@@ -182,31 +182,7 @@ impl<'a, C: Count> PieceSearch<'a, C> {
                 };
                 search_under(state, cube.lits(), best, share, left)
             }
-            Piece::Rest(_) => self.search_rest(&[], best, share, left),
+            Piece::Rest(_) => search_under(&mut self.rest, &[], best, share, left),
         }
-    }
-
-    /// Searches the part of the remainder in which a cube is true, or stops where it would need one decision more than are
-    /// left.
-    pub fn search_rest<S: Share>(
-        &mut self,
-        cube: &[Lit],
-        best: &mut Best<'_>,
-        share: &mut S,
-        left: &mut Option<u64>,
-    ) -> Outcome
-        requires variables { All (λ l. l.var ≤ self.old.problem.vars) cube.now }
-        requires same_instance { best.old.problem ≡ self.old.problem }
-        ensures done { result ≡ Outcome.Whole → IsDoneUnder self.old (length self.old.cubes) cube.now best.new.held }
-        ensures used_up { result ≡ Outcome.Cut → left.new ≡ Some 0 }
-        ensures budget { IsLeftOf left.old left.new }
-        ensures not_after { IsNotAfter self.old.problem best.old.held best.new.held }
-        ensures own { S.lends share.old ≡ false → (best.new ≡ best.old) ⊎ IsSomeAnd best.new.held (λ s. LiesInUnder self.old.cubes (length self.old.cubes) cube.now s.assignment) }
-        ensures kept { S.keeps share.old share.new }
-        ensures same_lending { S.lends share.new ≡ S.lends share.old }
-        ensures same_instance { best.new.problem ≡ best.old.problem }
-        ensures unchanged { self.new ≡ self.old }
-    {
-        search_under(&mut self.rest, cube, best, share, left)
     }
 }

@@ -2,24 +2,25 @@
 
 ghost use Rattle.std.specs.Prelude.{◌≡◌, [], IfOk, IfNone, IfSome};
 ghost use Rattle.pb_normal.specs.NormalForm.{KeepsCost, KeepsFeasible};
-ghost use Rattle.pb_search.specs.Layout.{IsCubeState, IsLaidOut, pieces_of};
+ghost use Rattle.pb_search.specs.Layout.{AreTables, IsCubeState, IsLaidOut, pieces_of};
 
 use crate::search_state::SearchState;
 use pb_cubes::Pieces;
-use pb_engine::{Clauses, Count, Rows, clause_laws};
+use pb_engine::{Clauses, Count, Rows, clause_laws, shared_in};
 use pb_inst::{Instance, Memory};
 use pb_normal::Form;
 use std::alloc::Global;
 use std::marker::Model;
+use std::sync::Arc;
 
 /// The rows of an instance's normal form and the clauses of its remainder, with where each literal occurs. They count in
 /// numbers of type `C`.
 pub struct PieceTables<'a, C: Count> {
     instance: &'a Instance,
     pieces: &'a Pieces,
-    rows: Rows<'a, C>,
-    none: Clauses,
-    rest: Clauses,
+    rows: Arc<Rows<C>, Global>,
+    none: Arc<Clauses, Global>,
+    rest: Arc<Clauses, Global>,
 }
 
 impl<'a, C: Count> Model for PieceTables<'a, C> {
@@ -27,11 +28,12 @@ impl<'a, C: Count> Model for PieceTables<'a, C> {
 
     ghost Value = { Division };
 
+    ghost use Rattle.std.specs.Arc.{arc_value};
     ghost use Rattle.pb_search.specs.Layout.{AreTables};
 
     ghost view = { λ t. record { problem = t.instance.now; cubes = t.pieces.now.cubes } };
 
-    ghost invariant = { λ t. AreTables t.instance.now t.pieces.now t.rows t.none t.rest };
+    ghost invariant = { λ t. AreTables t.instance.now t.pieces.now (arc_value t.rows) (arc_value t.none) (arc_value t.rest) };
 }
 
 // By hand, so that letting go of tables is a call wherever it is done, and their parts are written out here alone.
@@ -52,7 +54,7 @@ impl<'a, C: Count> PieceTables<'a, C> {
     pub fn new(
         alloc: Global,
         instance: &'a Instance,
-        form: &'a Form<C>,
+        form: &Form<C>,
         pieces: &'a Pieces,
     ) -> Result<PieceTables<'a, C>, Memory>
         requires vars { form.now.vars ≡ instance.now.vars }
@@ -65,6 +67,24 @@ impl<'a, C: Count> PieceTables<'a, C> {
         let rows = Rows::new(alloc, form)?;
         let none = Clauses::new(alloc, &rows, &[])?;
         let rest = Clauses::new(alloc, &rows, pieces.cubes())?;
+        PieceTables::of_parts(alloc, instance, pieces, rows, none, rest)
+    }
+
+    /// The tables of these parts, in memory that the searches share. Fails where memory is refused.
+    fn of_parts(
+        alloc: Global,
+        instance: &'a Instance,
+        pieces: &'a Pieces,
+        rows: Rows<C>,
+        none: Clauses,
+        rest: Clauses,
+    ) -> Result<PieceTables<'a, C>, Memory>
+        requires { AreTables instance.now pieces.now rows none rest }
+        ensures { IfOk result (λ t. t ≡ record { problem = instance.now; cubes = pieces.now.cubes }) }
+    {
+        let rows = shared_in(alloc, rows)?;
+        let none = shared_in(alloc, none)?;
+        let rest = shared_in(alloc, rest)?;
         Ok(PieceTables {
             instance,
             pieces,
@@ -87,10 +107,7 @@ impl<'a, C: Count> PieceTables<'a, C> {
     }
 
     /// A state for the searches of cubes, where there are any, and one for that of the remainder.
-    pub fn states(
-        &'a self,
-        alloc: Global,
-    ) -> Result<(Option<SearchState<'a, C>>, SearchState<'a, C>), Memory>
+    pub fn states(&self, alloc: Global) -> Result<(Option<SearchState<C>>, SearchState<C>), Memory>
         ensures { IfOk result (λ t. IsLaidOut self.now.problem (pieces_of self.now.problem self.now.cubes) t.0 t.1) }
     {
         clause_laws();
@@ -100,7 +117,7 @@ impl<'a, C: Count> PieceTables<'a, C> {
     }
 
     /// A state for the searches of cubes, where there are any.
-    fn cube_state(&'a self, alloc: Global) -> Result<Option<SearchState<'a, C>>, Memory>
+    fn cube_state(&self, alloc: Global) -> Result<Option<SearchState<C>>, Memory>
         ensures none { IfOk result (λ made. IfNone made (self.now.cubes ≡ [])) }
         ensures some { IfOk result (λ made. IfSome made (IsCubeState self.now.problem)) }
     {

@@ -117,7 +117,7 @@ impl Probing {
 /// A literal without a value whose negation has nothing to give, since it failed when it was tried; or none, where none of a
 /// round fails or no more may be tried. Each trial is a decision.
 pub fn find_failed<C: Count>(
-    engine: &mut EngineAt<'_, C>,
+    engine: &mut EngineAt<C>,
     probing: &mut Probing,
     best: &Best<'_>,
     left: &mut Option<u64>,
@@ -154,7 +154,7 @@ pub fn find_failed<C: Count>(
 /// Assumes the literal, and takes it back. Answers whether no completion of the trail with it comes before the best
 /// assignment, by what propagation and the multipliers say.
 fn fails<C: Count>(
-    engine: &mut EngineAt<'_, C>,
+    engine: &mut EngineAt<C>,
     lit: Lit,
     probing: &mut Probing,
     best: &Best<'_>,
@@ -175,7 +175,7 @@ fn fails<C: Count>(
 }
 
 /// Assumes the literal, and adds what follows. Answers whether no completion of the trail comes before the best assignment.
-fn is_closed_with<C: Count>(engine: &mut EngineAt<'_, C>, lit: Lit, best: &Best<'_>) -> bool
+fn is_closed_with<C: Count>(engine: &mut EngineAt<C>, lit: Lit, best: &Best<'_>) -> bool
     requires engine { IsEngineOf best.now.problem engine.old }
     requires sound { IsSoundTrail engine.old }
     requires free { IsFree engine.old lit }

@@ -25,7 +25,7 @@ pub enum Pruning {
 
 /// What the bounds say of the subtree below the trail, and the greatest of them that was taken: none where none was.
 pub fn check_bound<C: Count>(
-    engine: &mut EngineAt<'_, C>,
+    engine: &mut EngineAt<C>,
     best: &Best<'_>,
     agreed: &mut AgreedPrefix,
 ) -> (Pruning, Option<Number>)
@@ -42,7 +42,7 @@ pub fn check_bound<C: Count>(
 
 /// What the bound of disjoint rows says of the subtree below the trail, and that bound: none where nothing is held.
 pub fn check_rows<C: Count>(
-    engine: &mut EngineAt<'_, C>,
+    engine: &mut EngineAt<C>,
     best: &Best<'_>,
     agreed: &mut AgreedPrefix,
 ) -> (Pruning, Option<Number>)
@@ -66,7 +66,7 @@ pub fn check_rows<C: Count>(
 /// The same with the bound of the multipliers, after what that of disjoint rows said. Of two lower bounds the greater one
 /// counts; that of disjoint rows is at hand sooner.
 pub fn check_multipliers<C: Count>(
-    engine: &mut EngineAt<'_, C>,
+    engine: &mut EngineAt<C>,
     best: &Best<'_>,
     agreed: &mut AgreedPrefix,
     pruning: Pruning,
@@ -102,7 +102,7 @@ pub fn check_multipliers<C: Count>(
 
 /// The least bound that closes the subtree: the best cost where the order of assignments closes it at a tie, else more.
 fn closing_bound<C: Count>(
-    engine: &EngineAt<'_, C>,
+    engine: &EngineAt<C>,
     best: &Best<'_>,
     agreed: &mut AgreedPrefix,
 ) -> Number
@@ -124,7 +124,7 @@ fn closing_bound<C: Count>(
 
 /// Compares a bound of the trail's completions with the best cost. Where they are equal the order of assignments decides.
 pub fn judge_bound<C: Count>(
-    engine: &EngineAt<'_, C>,
+    engine: &EngineAt<C>,
     bound: Number,
     best: &Best<'_>,
     agreed: &mut AgreedPrefix,
@@ -154,7 +154,7 @@ pub fn judge_bound<C: Count>(
 /// The same where the bound equals the cost of this assignment. Of assignments of one cost the lexicographically first is
 /// wanted, so that the answer is a function of the instance alone.
 fn judge_tie<C: Count>(
-    engine: &EngineAt<'_, C>,
+    engine: &EngineAt<C>,
     held: &Assignment,
     agreed: &mut AgreedPrefix,
 ) -> Pruning
@@ -183,7 +183,7 @@ fn judge_tie<C: Count>(
 /// one: with 1 there nothing comes before the best assignment. The first `settled` variables are known to have values; no
 /// more than a hint.
 pub fn tied_literal<C: Count>(
-    engine: &EngineAt<'_, C>,
+    engine: &EngineAt<C>,
     best: &Best<'_>,
     pruning: Pruning,
     settled: u32,
@@ -210,7 +210,7 @@ pub fn tied_literal<C: Count>(
 /// Whether nothing is left to try at a branch whose decision was taken back: both values were tried, or by now no
 /// completion of the trail before it comes before the best assignment.
 pub fn is_spent<C: Count>(
-    engine: &mut EngineAt<'_, C>,
+    engine: &mut EngineAt<C>,
     branch: &Branch,
     best: &Best<'_>,
     agreed: &mut AgreedPrefix,
@@ -241,11 +241,7 @@ pub fn is_spent<C: Count>(
 
 /// Whether the best assignment was found below the trail, where nothing was held before, and another one of its cost may
 /// come before it.
-fn is_tied_below<C: Count>(
-    engine: &EngineAt<'_, C>,
-    best: &Best<'_>,
-    agreed: &mut AgreedPrefix,
-) -> bool
+fn is_tied_below<C: Count>(engine: &EngineAt<C>, best: &Best<'_>, agreed: &mut AgreedPrefix) -> bool
     requires engine { IsEngineOf best.now.problem engine.now }
     requires known { KnowsHeldPrefix engine.now.trail best.now.held agreed.old }
     ensures known { KnowsHeldPrefix engine.now.trail best.now.held agreed.new }

@@ -11,7 +11,7 @@ use pb_engine::{Count, EngineAt, Step};
 use pb_inst::Lit;
 
 /// Assumes a literal that is not on the trail yet. A conflict means that it cannot be true with the other assumptions.
-fn assume_literal<C: Count>(engine: &mut EngineAt<'_, C>, lit: Lit) -> Step
+fn assume_literal<C: Count>(engine: &mut EngineAt<C>, lit: Lit) -> Step
     requires variable { lit.var ≤ engine.old.vars }
     requires no_conflict { engine.old.conflict ≡ false }
     ensures constraints { SameConstraints engine.old engine.new }
@@ -36,7 +36,7 @@ fn assume_literal<C: Count>(engine: &mut EngineAt<'_, C>, lit: Lit) -> Step
 }
 
 /// Assumes a literal without a value. No conflict comes of it before something is propagated.
-fn assume_free<C: Count>(engine: &mut EngineAt<'_, C>, lit: Lit)
+fn assume_free<C: Count>(engine: &mut EngineAt<C>, lit: Lit)
     requires variable { lit.var ≤ engine.old.vars }
     requires no_value { value_on engine.old.trail lit.var ≡ None }
     requires no_conflict { engine.old.conflict ≡ false }
@@ -52,7 +52,7 @@ fn assume_free<C: Count>(engine: &mut EngineAt<'_, C>, lit: Lit)
 
 /// Takes back all assumptions, and adds what follows without any. A conflict means that no assignment meets the
 /// constraints; it stands from then on, so that it is found but once.
-pub fn return_to_root<C: Count>(engine: &mut EngineAt<'_, C>) -> Step
+pub fn return_to_root<C: Count>(engine: &mut EngineAt<C>) -> Step
     ensures constraints { SameConstraints engine.old engine.new }
     ensures sound { IsSoundTrail engine.new }
     ensures no_assumptions { result ≡ Step.Fixed → assumptions engine.new ≡ [] }
@@ -67,7 +67,7 @@ pub fn return_to_root<C: Count>(engine: &mut EngineAt<'_, C>) -> Step
 }
 
 /// Whether a conflict stands that follows from no assumption.
-fn is_refuted<C: Count>(engine: &EngineAt<'_, C>) -> bool
+fn is_refuted<C: Count>(engine: &EngineAt<C>) -> bool
     ensures refuted { result ≡ true → (a : List Bool) → ¬ Satisfies engine.now a }
     ensures sound { IsSoundTrail engine.now }
 {
@@ -78,7 +78,7 @@ fn is_refuted<C: Count>(engine: &EngineAt<'_, C>) -> bool
 }
 
 /// Assumes the literals of a cube. A conflict means that no assignment that meets the constraints makes the cube true.
-pub fn assume_cube<C: Count>(engine: &mut EngineAt<'_, C>, cube: &[Lit]) -> Step
+pub fn assume_cube<C: Count>(engine: &mut EngineAt<C>, cube: &[Lit]) -> Step
     requires sound { IsSoundTrail engine.old }
     requires no_assumptions { assumptions engine.old ≡ [] }
     requires no_conflict { engine.old.conflict ≡ false }

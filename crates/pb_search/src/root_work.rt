@@ -270,7 +270,7 @@ impl RootWork {
 /// Works at the root, where the search stands there. Gives a literal whose negation has nothing to give, or none where none
 /// was found. Its trials are decisions. Once ties alone are left there is nothing to work for.
 pub fn work_at_root<C: Count>(
-    state: &mut SearchState<'_, C>,
+    state: &mut SearchState<C>,
     best: &Best<'_>,
     pruning: Pruning,
     bound: Option<Number>,
@@ -308,7 +308,7 @@ pub fn work_at_root<C: Count>(
 }
 
 /// Notes the bound that was taken at the root; where none was, that of disjoint rows once.
-fn note_root_bound<C: Count>(ties: &mut Ties, engine: &mut EngineAt<'_, C>, bound: Option<Number>)
+fn note_root_bound<C: Count>(ties: &mut Ties, engine: &mut EngineAt<C>, bound: Option<Number>)
     ensures { engine.new ≡ engine.old }
 {
     if bound.is_none() && ties.root_bound.is_none() {

@@ -1,6 +1,6 @@
 //! Searches of pieces.
 
-ghost use Rattle.std.specs.Prelude.{◌≡◌, ◌⊎◌, ◌≤◌, false, length, All, IfOk, Some, IfSome, IfNone, IsSomeAnd};
+ghost use Rattle.std.specs.Prelude.{◌≡◌, ◌⊎◌, ◌≤◌, false, length, IfOk, Some, IfSome, IfNone, IsSomeAnd};
 ghost use Rattle.pb_normal.specs.NormalForm.{KeepsCost, KeepsFeasible};
 ghost use Rattle.pb_cubes.specs.Pieces.{LiesIn};
 ghost use Rattle.pb_search.specs.Held.{IsNotAfter};
@@ -11,7 +11,7 @@ use crate::outcome::Outcome;
 use crate::piece_search::PieceSearch;
 use crate::tables::SearchTables;
 use pb_cubes::Pieces;
-use pb_inst::{Best, Instance, Lit, Memory};
+use pb_inst::{Best, Instance, Memory};
 use pb_normal::{EitherWidth, Normal};
 use std::alloc::Global;
 use std::marker::Model;
@@ -43,7 +43,7 @@ impl<'a> Drop for Search<'a> {
 }
 
 impl<'a> Search<'a> {
-    ghost use Rattle.pb_search.specs.Done.{IsDone, IsDoneUnder, LiesInUnder};
+    ghost use Rattle.pb_search.specs.Done.{IsDone};
 
     /// Makes all that the searches of the pieces need, over a normal form of the instance. Fails where memory is refused.
     pub fn new(
@@ -127,38 +127,7 @@ impl<'a> Search<'a> {
         outcome
     }
 
-    /// Searches the part of the remainder in which a cube is true, whose literals are of the instance's variables. Without cubes
-    /// that divide it the remainder is the whole instance. Its decisions are taken off a budget, of which so many are left, if
-    /// there is one: so several calls can share it. It answers as `run` does, and `decisions` tells nothing of it.
-    ///
-    /// With a share that lends nothing, and a best assignment that is none or makes the cube true, after `Whole` the best one is
-    /// the first of the feasible ones that make the cube true, and none where there is none.
-    pub fn run_under<S: Share>(
-        &mut self,
-        cube: &[Lit],
-        best: &mut Best<'_>,
-        share: &mut S,
-        left: &mut Option<u64>,
-    ) -> Outcome
-        requires variables { All (λ l. l.var ≤ self.old.division.problem.vars) cube.now }
-        requires same_instance { best.old.problem ≡ self.old.division.problem }
-        ensures done { result ≡ Outcome.Whole → IsDoneUnder self.old.division (length self.old.division.cubes) cube.now best.new.held }
-        ensures used_up { result ≡ Outcome.Cut → left.new ≡ Some 0 }
-        ensures budget { IsLeftOf left.old left.new }
-        ensures not_after { IsNotAfter self.old.division.problem best.old.held best.new.held }
-        ensures own { S.lends share.old ≡ false → (best.new ≡ best.old) ⊎ IsSomeAnd best.new.held (λ s. LiesInUnder self.old.division.cubes (length self.old.division.cubes) cube.now s.assignment) }
-        ensures kept { S.keeps share.old share.new }
-        ensures same_lending { S.lends share.new ≡ S.lends share.old }
-        ensures same_instance { best.new.problem ≡ best.old.problem }
-        ensures unchanged { self.new ≡ self.old }
-    {
-        match &mut self.at_width {
-            EitherWidth::Narrow(search) => search.search_rest(cube, best, share, left),
-            EitherWidth::Wide(search) => search.search_rest(cube, best, share, left),
-        }
-    }
-
-    /// The search of a piece with what is left of a budget. It counts nothing.
+    /// The same with what is left of a budget. It counts nothing.
     fn search_piece<S: Share>(
         &mut self,
         piece: u32,

@@ -1,21 +1,23 @@
 //! The state of a search.
 
 ghost use Rattle.std.specs.Prelude.{◌≡◌, ◌++◌, ◌≤◌, All, IfOk, length, vec_capacity};
+ghost use Rattle.std.specs.Arc.{arc_value};
 ghost use Rattle.pb_cubes.specs.declared.TheConstants.{MAX_CUBES};
 ghost use Rattle.pb_engine.specs.Tables.{AreBeside};
 ghost use Rattle.pb_search.specs.Layout.{IsMade};
 
 use crate::branch::{Branch, Hints};
 use crate::root_work::RootWork;
-use pb_engine::{Clauses, Count, EngineAt, Rows};
+use pb_engine::{Clauses, Count, EngineAt, Rows, TablesSource};
 use pb_inst::{Assignment, Cube, Memory};
 use pb_normal::Form;
 use pb_order::Order;
 use std::alloc::Global;
+use std::sync::Arc;
 
 /// An engine, the decisions on its trail, room for one assignment, and the order in which variables are decided.
-pub struct SearchState<'a, C: Count> {
-    pub engine: EngineAt<'a, C>,
+pub struct SearchState<C: Count> {
+    pub engine: EngineAt<C>,
     pub branches: Vec<Branch>,
     pub candidate: Assignment,
     pub order: Order,
@@ -23,7 +25,7 @@ pub struct SearchState<'a, C: Count> {
 }
 
 // By hand, so that letting go of a state is a call wherever it is done, and its parts are written out here alone.
-impl<'a, C: Count> Drop for SearchState<'a, C> {
+impl<C: Count> Drop for SearchState<C> {
     fn drop(self) {
         let SearchState {
             engine: _,
@@ -35,13 +37,9 @@ impl<'a, C: Count> Drop for SearchState<'a, C> {
     }
 }
 
-impl<'a, C: Count> SearchState<'a, C> {
+impl<C: Count> SearchState<C> {
     /// A state over the normal form, whose solutions make each of the cubes false. There may be `MAX_CUBES` of them.
-    pub fn new(
-        alloc: Global,
-        form: &'a Form<C>,
-        negated: &'a [Cube],
-    ) -> Result<SearchState<'a, C>, Memory>
+    pub fn new(alloc: Global, form: &Form<C>, negated: &[Cube]) -> Result<SearchState<C>, Memory>
         requires few { length negated.now ≤ MAX_CUBES }
         requires variables { All (λ cube. All (λ l. l.var ≤ form.now.vars) cube) negated.now }
         ensures { IfOk result (IsMade form.now negated.now) }
@@ -58,22 +56,22 @@ impl<'a, C: Count> SearchState<'a, C> {
         })
     }
 
-    /// A state over rows and clauses that are lent. Of the cubes to be false only the order of decisions knows.
+    /// A state over a share of rows and clauses. Of the cubes to be false only the order of decisions knows.
     pub fn over(
         alloc: Global,
-        rows: &'a Rows<'a, C>,
-        clauses: &'a Clauses,
+        rows: &Arc<Rows<C>, Global>,
+        clauses: &Arc<Clauses, Global>,
         negated: &[Cube],
-    ) -> Result<SearchState<'a, C>, Memory>
-        requires { AreBeside rows.now clauses.now }
-        ensures form { IfOk result (λ t. t.engine.form ≡ rows.now.form) }
-        ensures vars { IfOk result (λ t. t.engine.vars ≡ rows.now.form.vars) }
-        ensures rows { IfOk result (λ t. t.engine.rows ≡ rows.now.form.rows ++ clauses.now.rows) }
-        ensures candidate { IfOk result (λ t. length t.candidate ≡ rows.now.form.vars) }
-        ensures room { IfOk result (λ t. rows.now.form.vars ≤ vec_capacity t.branches) }
+    ) -> Result<SearchState<C>, Memory>
+        requires { AreBeside (arc_value rows.now) (arc_value clauses.now) }
+        ensures form { IfOk result (λ t. t.engine.form ≡ (arc_value rows.now).form) }
+        ensures vars { IfOk result (λ t. t.engine.vars ≡ (arc_value rows.now).form.vars) }
+        ensures rows { IfOk result (λ t. t.engine.rows ≡ (arc_value rows.now).form.rows ++ (arc_value clauses.now).rows) }
+        ensures candidate { IfOk result (λ t. length t.candidate ≡ (arc_value rows.now).form.vars) }
+        ensures room { IfOk result (λ t. (arc_value rows.now).form.vars ≤ vec_capacity t.branches) }
     {
         let (branches, candidate, order, root_work) = make_room(alloc, rows.form(), negated)?;
-        let engine = EngineAt::over(alloc, rows, clauses)?;
+        let engine = EngineAt::over(alloc, TablesSource::shared(rows, clauses)?)?;
         Ok(SearchState {
             engine,
             branches,

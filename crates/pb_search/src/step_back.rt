@@ -16,7 +16,7 @@ use pb_inst::Best;
 /// lies below the last one that is left, so what is under way stays so. Where none of them was turned to its other value,
 /// nothing that was closed is opened again.
 pub fn step_back<C: Count>(
-    state: &mut SearchState<'_, C>,
+    state: &mut SearchState<C>,
     count: usize,
     best: &Best<'_>,
     agreed: &mut AgreedPrefix,

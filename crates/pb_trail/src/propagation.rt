@@ -28,7 +28,7 @@ pub enum Step {
 /// Puts the literals that the row forces on the trail, or finds that the row can't be met any more.
 // Most rows that are looked at force nothing. So the question stands in the loops themselves, and only what adds literals is called.
 #[inline(always)]
-fn look_at<C: Count>(tables: &Tables<'_, '_, C>, trail: &mut Trail<C>, row: usize) -> Step
+fn look_at<C: Count>(tables: &Tables<'_, C>, trail: &mut Trail<C>, row: usize) -> Step
     requires row { row < length tables.now.rows }
     requires up_to_date { IsUpToDate tables.now trail.old }
     ensures up_to_date { IsUpToDate tables.now trail.new }
@@ -45,7 +45,7 @@ fn look_at<C: Count>(tables: &Tables<'_, '_, C>, trail: &mut Trail<C>, row: usiz
 
 /// Looks at a row of the form.
 #[inline(always)]
-fn look_at_row<C: Count>(tables: &Tables<'_, '_, C>, trail: &mut Trail<C>, row: usize) -> Step
+fn look_at_row<C: Count>(tables: &Tables<'_, C>, trail: &mut Trail<C>, row: usize) -> Step
     requires row { row < length tables.now.form.rows }
     requires up_to_date { IsUpToDate tables.now trail.old }
     ensures up_to_date { IsUpToDate tables.now trail.new }
@@ -68,7 +68,7 @@ fn look_at_row<C: Count>(tables: &Tables<'_, '_, C>, trail: &mut Trail<C>, row: 
 
 /// Looks at a clause.
 #[inline(always)]
-fn look_at_clause<C: Count>(tables: &Tables<'_, '_, C>, trail: &mut Trail<C>, row: usize) -> Step
+fn look_at_clause<C: Count>(tables: &Tables<'_, C>, trail: &mut Trail<C>, row: usize) -> Step
     requires form { length tables.now.form.rows ≤ row }
     requires exists { row < length tables.now.rows }
     requires up_to_date { IsUpToDate tables.now trail.old }
@@ -92,7 +92,7 @@ fn look_at_clause<C: Count>(tables: &Tables<'_, '_, C>, trail: &mut Trail<C>, ro
 
 /// Adds what is forced, where the rows are known to be settled but for the literals from a place on, or nothing is known.
 pub fn propagate_all<C: Count>(
-    tables: &Tables<'_, '_, C>,
+    tables: &Tables<'_, C>,
     trail: &mut Trail<C>,
     settled_until: Option<usize>,
 ) -> Step
@@ -118,7 +118,7 @@ pub fn propagate_all<C: Count>(
 /// Looks at every row.
 // A search calls it once, at its start. In the place of that call it would keep the compiler from taking `propagate` into the search.
 #[inline(never)]
-fn look_at_all<C: Count>(tables: &Tables<'_, '_, C>, trail: &mut Trail<C>) -> Step
+fn look_at_all<C: Count>(tables: &Tables<'_, C>, trail: &mut Trail<C>) -> Step
     requires up_to_date { IsUpToDate tables.now trail.old }
     ensures up_to_date { IsUpToDate tables.now trail.new }
     ensures forced { AddsForced tables.now.rows trail.old.lits trail.new.lits }
@@ -134,7 +134,7 @@ fn look_at_all<C: Count>(tables: &Tables<'_, '_, C>, trail: &mut Trail<C>) -> St
 }
 
 /// Looks at every row and clause in which the literal occurs.
-fn look_at_literal<C: Count>(tables: &Tables<'_, '_, C>, trail: &mut Trail<C>, lit: Lit) -> Step
+fn look_at_literal<C: Count>(tables: &Tables<'_, C>, trail: &mut Trail<C>, lit: Lit) -> Step
     requires variable { lit.var ≤ tables.now.vars }
     requires up_to_date { IsUpToDate tables.now trail.old }
     ensures up_to_date { IsUpToDate tables.now trail.new }
@@ -150,7 +150,7 @@ fn look_at_literal<C: Count>(tables: &Tables<'_, '_, C>, trail: &mut Trail<C>, l
 
 /// Looks at every row that an occurrence names.
 fn look_at_occurrences<C: Count, O: Occurs<C>>(
-    tables: &Tables<'_, '_, C>,
+    tables: &Tables<'_, C>,
     trail: &mut Trail<C>,
     occurrences: &[O],
 ) -> Step
@@ -170,7 +170,7 @@ fn look_at_occurrences<C: Count, O: Occurs<C>>(
 }
 
 /// Looks at the rows that the literals from `start` on touch, and at those that their own literals touch in turn.
-fn propagate_from<C: Count>(tables: &Tables<'_, '_, C>, trail: &mut Trail<C>, start: usize) -> Step
+fn propagate_from<C: Count>(tables: &Tables<'_, C>, trail: &mut Trail<C>, start: usize) -> Step
     requires within { start ≤ length trail.old.lits }
     requires settled { (r : ℕ) → r < length tables.now.rows → IsSettledFrom start trail.old.lits (row_at tables.now.rows r) }
     requires up_to_date { IsUpToDate tables.now trail.old }
@@ -193,12 +193,7 @@ fn propagate_from<C: Count>(tables: &Tables<'_, '_, C>, trail: &mut Trail<C>, st
 /// Puts the literals of a row of the form that have no value and a coefficient greater than the slack on the trail. A long row
 /// that was looked through at this slack, with nothing taken off since, has none and is passed over.
 #[inline(never)]
-fn add_forced<C: Count>(
-    tables: &Tables<'_, '_, C>,
-    trail: &mut Trail<C>,
-    row: usize,
-    slack: Tally<C>,
-)
+fn add_forced<C: Count>(tables: &Tables<'_, C>, trail: &mut Trail<C>, row: usize, slack: Tally<C>)
     requires form { row < length tables.now.form.rows }
     requires exists { row < length tables.now.rows }
     requires slack { (row_at tables.now.rows row).degree + slack ≡ reachable trail.old.lits (row_at tables.now.rows row).terms }
@@ -221,7 +216,7 @@ fn add_forced<C: Count>(
 /// Puts the row's literals without a value and with a coefficient greater than the slack on the trail.
 #[inline(always)]
 fn add_over<C: Count>(
-    tables: &Tables<'_, '_, C>,
+    tables: &Tables<'_, C>,
     trail: &mut Trail<C>,
     row: usize,
     terms: &[FormTerm<C>],
@@ -247,7 +242,7 @@ fn add_over<C: Count>(
 
 /// Puts the literal of a clause that is not false yet on the trail, if it has no value.
 #[inline(never)]
-fn add_last<C: Count>(tables: &Tables<'_, '_, C>, trail: &mut Trail<C>, row: usize)
+fn add_last<C: Count>(tables: &Tables<'_, C>, trail: &mut Trail<C>, row: usize)
     requires form { length tables.now.form.rows ≤ row }
     requires exists { row < length tables.now.rows }
     requires slack { reachable trail.old.lits (row_at tables.now.rows row).terms ≡ 1 }

@@ -29,15 +29,15 @@ struct Level {
 
 /// A trail over the variables of rows with some literals assumed, and whether a conflict stands.
 #[derive(Drop)]
-pub struct Propagator<'a, C: Count> {
-    source: TablesSource<'a, C>,
+pub struct Propagator<C: Count> {
+    source: TablesSource<C>,
     trail: Trail<C>,
     levels: Vec<Level>,
     settled_until: Option<usize>,
     conflict: bool,
 }
 
-impl<'a, C: Count> Model for Propagator<'a, C> {
+impl<C: Count> Model for Propagator<C> {
     ghost use Rattle.std.specs.Vec.{vec_capacity};
     ghost use Rattle.pb_trail.specs.EngineState.{EngineState};
 
@@ -50,10 +50,10 @@ impl<'a, C: Count> Model for Propagator<'a, C> {
     ghost invariant = { λ p. IsPropagator p.source p.trail p.levels.items p.settled_until p.conflict (vec_capacity p.levels) };
 }
 
-impl<'a, C: Count> Propagator<'a, C> {
+impl<C: Count> Propagator<C> {
     /// The empty trail over the rows. Nothing after it takes memory.
-    pub fn new(alloc: Global, source: TablesSource<'a, C>) -> Result<Propagator<'a, C>, Memory>
-        ensures { IfOk result (λ p. p ≡ record { form = source.entry.form; vars = source.entry.vars; rows = source.entry.rows; trail = []; levels = []; conflict = false }) }
+    pub fn new(alloc: Global, source: TablesSource<C>) -> Result<Propagator<C>, Memory>
+        ensures { IfOk result (λ p. p ≡ record { form = source.form; vars = source.vars; rows = source.rows; trail = []; levels = []; conflict = false }) }
     {
         let tables = source.tables();
         let levels = Vec::with_capacity(alloc, tables.vars() as usize)?;
@@ -68,7 +68,7 @@ impl<'a, C: Count> Propagator<'a, C> {
     }
 
     /// The trail with the slacks of the rows.
-    pub fn slacks(&self) -> Slacks<'_, 'a, C>
+    pub fn slacks(&self) -> Slacks<'_, C>
         ensures form { result.form ≡ self.now.form }
         ensures vars { result.vars ≡ self.now.vars }
         ensures rows { result.rows ≡ self.now.rows }

@@ -16,12 +16,12 @@ use std::marker::Model;
 
 /// A trail over the variables of rows, with the sum that each row can still reach and the value of each variable.
 #[derive(Drop)]
-pub struct Slacks<'t, 'a, C: Count> {
-    tables: Tables<'t, 'a, C>,
+pub struct Slacks<'t, C: Count> {
+    tables: Tables<'t, C>,
     trail: &'t Trail<C>,
 }
 
-impl<'t, 'a, C: Count> Model for Slacks<'t, 'a, C> {
+impl<'t, C: Count> Model for Slacks<'t, C> {
     ghost use Rattle.pb_trail.specs.Tracked.{Tracked, tracked_of, IsUpToDate};
 
     ghost Value = { Tracked };
@@ -31,9 +31,9 @@ impl<'t, 'a, C: Count> Model for Slacks<'t, 'a, C> {
     ghost invariant = { λ s. IsUpToDate s.tables s.trail.now };
 }
 
-impl<'t, 'a, C: Count> Slacks<'t, 'a, C> {
+impl<'t, C: Count> Slacks<'t, C> {
     /// The trail over the rows.
-    pub fn new(tables: Tables<'t, 'a, C>, trail: &'t Trail<C>) -> Slacks<'t, 'a, C>
+    pub fn new(tables: Tables<'t, C>, trail: &'t Trail<C>) -> Slacks<'t, C>
         requires up_to_date { IsUpToDate tables trail.now }
         ensures { result ≡ tracked_of tables.entry trail.now.lits }
     {
@@ -106,14 +106,14 @@ impl<'t, 'a, C: Count> Slacks<'t, 'a, C> {
     }
 
     /// The normal form.
-    pub fn form(&self) -> &'a Form<C>
+    pub fn form(&self) -> &'t Form<C>
         ensures { result.now ≡ self.now.form }
     {
         self.tables.form()
     }
 
     /// The rows, with the occurrences of their literals.
-    pub fn tables(&self) -> &Tables<'t, 'a, C>
+    pub fn tables(&self) -> &Tables<'t, C>
         ensures { tracked_of result.now self.now.trail ≡ self.now }
     {
         &self.tables

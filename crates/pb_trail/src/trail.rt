@@ -45,7 +45,7 @@ impl<C: Count> Model for Trail<C> {
 
 impl<C: Count> Trail<C> {
     /// The empty trail over the rows. It makes room for all variables.
-    pub fn new(alloc: Global, tables: &Tables<'_, '_, C>) -> Result<Trail<C>, Memory>
+    pub fn new(alloc: Global, tables: &Tables<'_, C>) -> Result<Trail<C>, Memory>
         ensures empty { IfOk result (λ trail. trail.lits ≡ []) }
         ensures up_to_date { IfOk result (λ trail. IsUpToDate tables.now trail) }
     {
@@ -140,7 +140,7 @@ impl<C: Count> Trail<C> {
     }
 
     /// Puts a literal without a value on the trail, for the reason that the row forces it; or for none, `NO_ROW`.
-    pub fn push(&mut self, tables: &Tables<'_, '_, C>, lit: Lit, reason: usize)
+    pub fn push(&mut self, tables: &Tables<'_, C>, lit: Lit, reason: usize)
         requires up_to_date { IsUpToDate tables.now self.old }
         requires variable { lit.var ≤ self.old.vars }
         requires no_value { value_on self.old.lits lit.var ≡ None }
@@ -156,7 +156,7 @@ impl<C: Count> Trail<C> {
     }
 
     /// Takes literals off until `length` are left.
-    pub fn cut(&mut self, tables: &Tables<'_, '_, C>, length: usize)
+    pub fn cut(&mut self, tables: &Tables<'_, C>, length: usize)
         requires up_to_date { IsUpToDate tables.now self.old }
         ensures up_to_date { IsUpToDate tables.now self.new }
         ensures left { self.new.lits ≡ take length self.old.lits }
@@ -168,7 +168,7 @@ impl<C: Count> Trail<C> {
     }
 
     /// Takes the last literal off.
-    fn pop(&mut self, tables: &Tables<'_, '_, C>)
+    fn pop(&mut self, tables: &Tables<'_, C>)
         requires up_to_date { IsUpToDate tables.now self.old }
         requires nothing_known { KnowsNothing self.old.looks }
         ensures up_to_date { IsUpToDate tables.now self.new }
@@ -184,7 +184,7 @@ impl<C: Count> Trail<C> {
 }
 
 /// The sum of all coefficients, for each row.
-fn totals<C: Count>(alloc: Global, tables: &Tables<'_, '_, C>) -> Result<Vec<Tally<C>>, Memory>
+fn totals<C: Count>(alloc: Global, tables: &Tables<'_, C>) -> Result<Vec<Tally<C>>, Memory>
     ensures { IfOk result (λ sums. (length sums.items ≡ length tables.now.rows) × ((r : ℕ) → r < length tables.now.rows → slice_index sums.items r ≡ reachable [] (row_at tables.now.rows r).terms)) }
 {
     let mut sums = Vec::with_capacity(alloc, tables.len())?;
@@ -195,7 +195,7 @@ fn totals<C: Count>(alloc: Global, tables: &Tables<'_, '_, C>) -> Result<Vec<Tal
 }
 
 /// Takes the literal's coefficients from the sums of its rows and clauses.
-fn lower_rows<C: Count>(sums: &mut [Tally<C>], tables: &Tables<'_, '_, C>, lit: Lit)
+fn lower_rows<C: Count>(sums: &mut [Tally<C>], tables: &Tables<'_, C>, lit: Lit)
     requires variable { lit.var ≤ tables.now.vars }
     requires count { length sums.old ≡ length tables.now.rows }
     requires enough { (r : ℕ) → r < length sums.old → weight_of lit (row_at tables.now.rows r).terms ≤ slice_index sums.old r }
@@ -206,7 +206,7 @@ fn lower_rows<C: Count>(sums: &mut [Tally<C>], tables: &Tables<'_, '_, C>, lit: 
 }
 
 /// Adds the literal's coefficients to the sums of its rows and clauses.
-fn raise_rows<C: Count>(sums: &mut [Tally<C>], tables: &Tables<'_, '_, C>, lit: Lit)
+fn raise_rows<C: Count>(sums: &mut [Tally<C>], tables: &Tables<'_, C>, lit: Lit)
     requires variable { lit.var ≤ tables.now.vars }
     requires count { length sums.old ≡ length tables.now.rows }
     requires fits { (r : ℕ) → r < length sums.old → slice_index sums.old r + weight_of lit (row_at tables.now.rows r).terms < 2 * C.limit }

@@ -32,7 +32,7 @@ impl Fixing {
 
     /// A literal without a value that every completion of the trail that costs no more than the limit makes true, or none.
     /// Where there is none, the next one is looked for elsewhere.
-    pub fn find<C: Count>(&mut self, multipliers: &Multipliers<'_, C>, limit: Number) -> Option<Lit>
+    pub fn find<C: Count>(&mut self, multipliers: &Multipliers<C>, limit: Number) -> Option<Lit>
         ensures { IfSome result (IsFixed multipliers.now.form multipliers.now.trail limit) }
     {
         let found = multipliers.fixed_literal(self.from, limit);
@@ -51,7 +51,7 @@ impl Fixing {
     /// The same, looked for among all variables.
     pub fn find_in_all<C: Count>(
         &mut self,
-        multipliers: &Multipliers<'_, C>,
+        multipliers: &Multipliers<C>,
         limit: Number,
     ) -> Option<Lit>
         ensures { IfSome result (IsFixed multipliers.now.form multipliers.now.trail limit) }

@@ -84,7 +84,7 @@ impl Passes {
     /// Goes through all rows until that was done as often as it is to be by now. The multipliers are kept for good.
     pub fn ascend<C: Count>(
         &mut self,
-        multipliers: &mut Multipliers<'_, C>,
+        multipliers: &mut Multipliers<C>,
         steps: &mut Steps<C>,
         account: &mut Account,
     )
@@ -112,7 +112,7 @@ impl Passes {
     /// for good. That is done seldom, so the account leaves it out.
     pub fn climb<C: Count>(
         &mut self,
-        multipliers: &mut Multipliers<'_, C>,
+        multipliers: &mut Multipliers<C>,
         steps: &mut Steps<C>,
         limit: Number,
     )
@@ -126,7 +126,7 @@ impl Passes {
     }
 
     /// Plans in which order the variables without a value may be decided, by so many steps of the first-order method.
-    pub fn plan<C: Count>(&mut self, multipliers: &Multipliers<'_, C>, steps: u32) {
+    pub fn plan<C: Count>(&mut self, multipliers: &Multipliers<C>, steps: u32) {
         self.saddle.approach(multipliers, steps);
     }
 
@@ -136,7 +136,7 @@ impl Passes {
     }
 
     /// Looks for multipliers by which nothing completes the trail, where nothing costs anything, by so many steps at most.
-    pub fn refute<C: Count>(&mut self, multipliers: &mut Multipliers<'_, C>, steps: u32)
+    pub fn refute<C: Count>(&mut self, multipliers: &mut Multipliers<C>, steps: u32)
         ensures { IsSameButShifted multipliers.old multipliers.new }
     {
         self.saddle.refute(multipliers, steps);
@@ -144,7 +144,7 @@ impl Passes {
 }
 
 /// Steps once through all rows, and keeps the multipliers for good.
-fn pass<C: Count>(multipliers: &mut Multipliers<'_, C>, steps: &mut Steps<C>, backwards: bool)
+fn pass<C: Count>(multipliers: &mut Multipliers<C>, steps: &mut Steps<C>, backwards: bool)
     ensures { IsSameButShifted multipliers.old multipliers.new }
 {
     let rows = multipliers.form().len();

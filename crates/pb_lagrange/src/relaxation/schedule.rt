@@ -109,7 +109,7 @@ impl Schedule {
     }
 
     /// Touches the rows of the literal's variable.
-    pub fn touch<C: Count>(&mut self, tables: &Tables<'_, '_, C>, lit: Lit)
+    pub fn touch<C: Count>(&mut self, tables: &Tables<'_, C>, lit: Lit)
         requires { lit.var ≤ tables.now.vars }
         ensures { self.new ≡ self.old }
     {
@@ -118,7 +118,7 @@ impl Schedule {
     }
 
     /// Touches the rows in which the literal occurs.
-    fn touch_rows_of<C: Count>(&mut self, tables: &Tables<'_, '_, C>, lit: Lit)
+    fn touch_rows_of<C: Count>(&mut self, tables: &Tables<'_, C>, lit: Lit)
         requires { lit.var ≤ tables.now.vars }
         ensures { self.new ≡ self.old }
     {
@@ -133,8 +133,8 @@ impl Schedule {
     /// than a little.
     pub fn spread<C: Count>(
         &mut self,
-        multipliers: &Multipliers<'_, C>,
-        tables: &Tables<'_, '_, C>,
+        multipliers: &Multipliers<C>,
+        tables: &Tables<'_, C>,
         row: usize,
         amount: Signed<C>,
     )

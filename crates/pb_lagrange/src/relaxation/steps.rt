@@ -32,7 +32,7 @@ impl<C: Count> Steps<C> {
 
     /// Shifts the row's multiplier to where the bound is greatest, and to the middle where it is so on an interval. Gives by
     /// how much.
-    pub fn step(&mut self, multipliers: &mut Multipliers<'_, C>, row: usize) -> Signed<C>
+    pub fn step(&mut self, multipliers: &mut Multipliers<C>, row: usize) -> Signed<C>
         requires { row < length multipliers.old.form.rows }
         ensures { IsSameButShifted multipliers.old multipliers.new }
     {
@@ -53,7 +53,7 @@ impl<C: Count> Steps<C> {
 }
 
 /// How far to shift the multiplier of a row that one literal meets: its least reduced cost becomes 0 or less.
-fn clause_amount<C: Count>(multipliers: &Multipliers<'_, C>, row: usize) -> Signed<C>
+fn clause_amount<C: Count>(multipliers: &Multipliers<C>, row: usize) -> Signed<C>
     requires { row < length multipliers.now.form.rows }
 {
     let (mut least, mut next) = (Signed::greatest(), Signed::greatest());
@@ -75,7 +75,7 @@ fn clause_amount<C: Count>(multipliers: &Multipliers<'_, C>, row: usize) -> Sign
 
 /// The same for any row.
 fn row_amount<C: Count>(
-    multipliers: &Multipliers<'_, C>,
+    multipliers: &Multipliers<C>,
     breakpoints: &mut Vec<Breakpoint<C>>,
     row: usize,
 ) -> Signed<C>

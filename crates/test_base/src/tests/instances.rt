@@ -126,6 +126,14 @@ fn what_was_added_is_built(rt: HostRuntime) {
     }
 }
 
+#[test]
+fn what_is_reopened_is_as_it_was(rt: HostRuntime) {
+    let instance = built(&rt, rt.alloc(), &WORKED);
+    let builder = InstanceBuilder::reopen(rt.alloc(), instance);
+    let instance = builder.finish(3).ok().expect(&rt, "an instance");
+    assert!(rt; is_written(&instance, &WORKED));
+}
+
 /// Whether all that lies beyond the ends is too large for the builder.
 fn refuses_all(rt: &impl Abort, alloc: Global, builder: &mut InstanceBuilder) -> bool {
     for (sum, relation, bound) in BEYOND_THE_ENDS {

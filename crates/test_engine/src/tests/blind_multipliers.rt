@@ -154,7 +154,7 @@ fn above<C: Count>(form: &Form<C>, bound: Number) -> Magnitude {
 /// Whether the bounds are at most the costs that the listing finds, with the literal and without it.
 fn holds<C: Count>(
     form: &Form<C>,
-    multipliers: &Multipliers<'_, C>,
+    multipliers: &Multipliers<C>,
     lits: &mut Vec<Lit>,
     lit: Lit,
 ) -> bool {
@@ -176,7 +176,7 @@ fn holds<C: Count>(
 /// saturated by the trail as it is.
 fn change<C: Count>(
     draws: &mut Draws,
-    multipliers: &mut Multipliers<'_, C>,
+    multipliers: &mut Multipliers<C>,
     lits: &mut Vec<Lit>,
     lit: Lit,
     limit: u64,

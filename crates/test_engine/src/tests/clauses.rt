@@ -87,7 +87,7 @@ fn the_empty_cube_conflicts_at_once(rt: HostRuntime) {
 
 /// Makes the variables before `last` false one by one, and says whether each time `last` has no value before the rows are
 /// looked at.
-fn refute_all_before(rt: &impl Abort, player: &mut Player<'_>, last: i32) -> bool {
+fn refute_all_before(rt: &impl Abort, player: &mut Player, last: i32) -> bool {
     for number in 1..last {
         let fixed = player.assume(rt, number.wrapping_neg()) == Step::Fixed;
         let open = player.value(rt, last.unsigned_abs()).is_none();
@@ -99,7 +99,7 @@ fn refute_all_before(rt: &impl Abort, player: &mut Player<'_>, last: i32) -> boo
 }
 
 /// The same, and whether `last` is true then, and without a value once the last assumption is taken back.
-fn last_is_forced(rt: &impl Abort, player: &mut Player<'_>, last: i32) -> bool {
+fn last_is_forced(rt: &impl Abort, player: &mut Player, last: i32) -> bool {
     let refuted = refute_all_before(rt, player, last);
     let forced = player.value(rt, last.unsigned_abs()) == Some(true);
     let level = player.level(rt).saturating_sub(1);

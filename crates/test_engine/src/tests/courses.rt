@@ -48,7 +48,7 @@ impl<'c> Course<'c> {
 }
 
 /// Makes the moves, and says whether each comes out as it is to.
-fn all_come_out(rt: &impl Abort, player: &mut Player<'_>, moves: &[Move<'_>]) -> bool {
+fn all_come_out(rt: &impl Abort, player: &mut Player, moves: &[Move<'_>]) -> bool {
     for made in moves {
         if !comes_out(rt, player, *made) {
             return false;
@@ -58,7 +58,7 @@ fn all_come_out(rt: &impl Abort, player: &mut Player<'_>, moves: &[Move<'_>]) ->
 }
 
 /// Makes the move, and says whether it comes out as it is to.
-fn comes_out(rt: &impl Abort, player: &mut Player<'_>, made: Move<'_>) -> bool {
+fn comes_out(rt: &impl Abort, player: &mut Player, made: Move<'_>) -> bool {
     match made {
         Move::Assume(number) => player.assume(rt, number) == Step::Fixed,
         Move::Propagate(step) => player.propagate(rt) == step,

@@ -32,22 +32,17 @@ fn is_wide(normal: &Normal) -> bool {
     }
 }
 
-fn engine<'a>(
-    rt: &impl Abort,
-    alloc: Global,
-    normal: &'a Normal,
-    negated: &'a [Cube],
-) -> Engine<'a> {
+fn engine(rt: &impl Abort, alloc: Global, normal: &Normal, negated: &[Cube]) -> Engine {
     assert!(rt; are_within(negated, normal.vars()));
     Engine::new(alloc, normal, negated).expect(rt, "memory")
 }
 
-fn propagate(rt: &impl Abort, engine: &mut Engine<'_>) -> Step {
+fn propagate(rt: &impl Abort, engine: &mut Engine) -> Step {
     assert!(rt; !engine.conflict());
     engine.propagate()
 }
 
-fn assume(rt: &impl Abort, engine: &mut Engine<'_>, number: i32) -> Step {
+fn assume(rt: &impl Abort, engine: &mut Engine, number: i32) -> Step {
     let lit = lit(rt, number);
     assert!(rt; lit.var() <= engine.vars());
     assert!(rt; engine.value(lit.var()).is_none());
@@ -55,12 +50,12 @@ fn assume(rt: &impl Abort, engine: &mut Engine<'_>, number: i32) -> Step {
     engine.assume(lit)
 }
 
-fn undo_to(rt: &impl Abort, engine: &mut Engine<'_>, level: u32) {
+fn undo_to(rt: &impl Abort, engine: &mut Engine, level: u32) {
     assert!(rt; level <= engine.level());
     engine.undo_to(level);
 }
 
-fn look(engine: &mut Engine<'_>) -> Look {
+fn look(engine: &mut Engine) -> Look {
     let values = [engine.value(1), engine.value(2), engine.value(3)];
     (values, engine.level(), engine.conflict(), engine.bound())
 }

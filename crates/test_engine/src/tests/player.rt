@@ -12,13 +12,13 @@ use std::process::Abort;
 
 /// An engine and, beside it, a propagator over the same rows. What is done is done with both, and both must say the same. The
 /// propagator lends what an engine keeps to itself: its rows, and the counters of their slacks.
-pub struct Player<'a, C: Count = u64> {
-    engine: EngineAt<'a, C>,
-    propagator: Propagator<'a, C>,
+pub struct Player<C: Count = u64> {
+    engine: EngineAt<C>,
+    propagator: Propagator<C>,
 }
 
 // By hand, so that a test that lets go of a player sees one call.
-impl<C: Count> Drop for Player<'_, C> {
+impl<C: Count> Drop for Player<C> {
     fn drop(self) {
         let Player {
             engine: _,
@@ -27,14 +27,9 @@ impl<C: Count> Drop for Player<'_, C> {
     }
 }
 
-impl<'a, C: Count> Player<'a, C> {
+impl<C: Count> Player<C> {
     /// The empty trail over the form, with cubes that are to be false.
-    pub fn new(
-        rt: &impl Abort,
-        alloc: Global,
-        form: &'a Form<C>,
-        cubes: &'a [Cube],
-    ) -> Player<'a, C> {
+    pub fn new(rt: &impl Abort, alloc: Global, form: &Form<C>, cubes: &[Cube]) -> Player<C> {
         assert!(rt; are_within(cubes, form.vars()));
         assert!(rt; cubes.len() <= MAX_CLAUSES);
         let source = TablesSource::new(alloc, form, cubes).expect(rt, "memory");

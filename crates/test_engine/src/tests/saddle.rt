@@ -22,11 +22,7 @@ fn triangle<C: Count>(rt: &impl Abort, alloc: Global, unit: Number) -> Form<C> {
 }
 
 /// The multipliers of the form.
-fn multipliers<'a, C: Count>(
-    rt: &impl Abort,
-    alloc: Global,
-    form: &'a Form<C>,
-) -> Multipliers<'a, C> {
+fn multipliers<C: Count>(rt: &impl Abort, alloc: Global, form: &Form<C>) -> Multipliers<C> {
     Multipliers::new(alloc, form, 8)
         .expect(rt, "memory")
         .expect(rt, "a scale")

@@ -11,7 +11,7 @@ use std::process::Abort;
 /// What an engine says between two steps: its bound, the value of each variable, and the slack of each row.
 type Look = (Number, Vec<Option<bool>>, Vec<Option<Magnitude>>);
 
-fn look<C: Count>(rt: &impl Abort, alloc: Global, player: &mut Player<'_, C>) -> Look {
+fn look<C: Count>(rt: &impl Abort, alloc: Global, player: &mut Player<C>) -> Look {
     let mut values = Vec::new(alloc);
     for var in 1..=player.vars() {
         values.push(player.value(rt, var)).expect(rt, "memory");
@@ -24,7 +24,7 @@ fn look<C: Count>(rt: &impl Abort, alloc: Global, player: &mut Player<'_, C>) ->
 }
 
 /// Assumes the literal where it can be assumed, and propagates.
-fn step<C: Count>(rt: &impl Abort, player: &mut Player<'_, C>, number: i32) {
+fn step<C: Count>(rt: &impl Abort, player: &mut Player<C>, number: i32) {
     if player.conflict(rt) || player.value(rt, number.unsigned_abs()).is_some() {
         return;
     }
@@ -37,7 +37,7 @@ fn step<C: Count>(rt: &impl Abort, player: &mut Player<'_, C>, number: i32) {
 fn course<C: Count>(
     rt: &impl Abort,
     alloc: Global,
-    player: &mut Player<'_, C>,
+    player: &mut Player<C>,
     sign: i32,
 ) -> Vec<Look> {
     let mut looks = Vec::new(alloc);

@@ -40,4 +40,4 @@ invariant_of-self g c =
     let stored = take inside.values.len (new ++ drop (length new) old) in
     let sum : c.revalue.new.sum ≡ parts inside.costs.items stored = c.revalue.ensures.sum ∙ (ap (λ (xs : List ℕ). parts xs new) c.deref.ensures.value ∙ ap (parts inside.costs.items) (sym end)) in
     let are = AreValues-push old stored inside.lits.items c.push_reserved.new.self.items (vec_capacity inside.lits) (vec_capacity c.push_reserved.new.self) l c.self.invariant.0.values_are c.revalue.ensures.from_one (omega (arith, c.requires.variable, c.self.invariant.0.vars)) free (end ∙ marks) c.push_reserved.ensures.items c.push_reserved.ensures.capacity in
-    (kept_on c.self.invariant.0 c.push_reserved.new.self.items stored c.revalue.new.sum (vec_capacity c.push_reserved.new.self) (ap (λ (xs : List (Option Bool)). length xs) end ∙ same) are sum, saturations-push inside.form.now inside.saturations.items inside.root inside.lits.items c.push_reserved.new.self.items l c.push_reserved.ensures.items c.self.invariant.1)
+    (kept_on c.self.invariant.0 c.push_reserved.new.self.items stored c.revalue.new.sum (vec_capacity c.push_reserved.new.self) (ap (λ (xs : List (Option Bool)). length xs) end ∙ same) are sum, saturations-push inside.form inside.saturations.items inside.root inside.lits.items c.push_reserved.new.self.items l c.push_reserved.ensures.items c.self.invariant.1)

@@ -11,7 +11,7 @@ pub returns : goal.returns
 returns g c =
     let s = c.self.inside in
     let ss = s.saturations.items in
-    let rows = s.form.now.rows in
+    let rows = s.form.rows in
     let count = c.self.invariant.1.count in
     let row : c.args.row < length rows = subst (λ (m : MultipliersState). c.args.row < length m.form.rows) (sym c.self.view_is) c.requires in
     let at : c.index.result.now ≡ saturation_at ss c.args.row = get_or_read ss c.args.row c.index.result.now (omega (arith, row, count)) c.index.ensures (record { most = 0; degree = 0 }) in

@@ -20,10 +20,10 @@ pub is_true-requires : goal.is_true-requires
 is_true-requires g c =
     let s = c.self.inside in
     let items = c.terms-term-items.result.now in
-    let exists : c.args.row < length s.form.now.rows = subst (λ (m : MultipliersState). c.args.row < length m.form.rows) (sym c.self.view_is) c.requires.row in
+    let exists : c.args.row < length s.form.rows = subst (λ (m : MultipliersState). c.args.row < length m.form.rows) (sym c.self.view_is) c.requires.row in
     let d : PositiveRow = record { terms = []; degree = 0 } in
-    let terms : (row_at s.form.now.rows c.args.row).terms ≡ items = subst (λ found. IsSomeAnd found (λ (r : PositiveRow). r.terms ≡ items)) (slice_get-get_or s.form.now.rows c.args.row d exists) c.terms-term-items.ensures in
-    let P : PositiveTerm → Type 0 = λ t. (1 ≤ t.lit.var) × (t.lit.var ≤ s.form.now.vars) in
+    let terms : (row_at s.form.rows c.args.row).terms ≡ items = subst (λ found. IsSomeAnd found (λ (r : PositiveRow). r.terms ≡ items)) (slice_get-get_or s.form.rows c.args.row d exists) c.terms-term-items.ensures in
+    let P : PositiveTerm → Type 0 = λ t. (1 ≤ t.lit.var) × (t.lit.var ≤ s.form.vars) in
     let all : All P items = subst (λ (ts : List PositiveTerm). All P ts) terms (c.vars-vars.ensures.normal.shape.rows c.args.row d exists).terms.variables in
     let within : P c.term-item.result = subst P (sym c.term-item.is) (all c.loop-term.term-index c.term-item.result c.loop-term-test.true) in
     let var = ap (λ (l : Literal). l.var) c.lit.ensures in
@@ -37,9 +37,9 @@ add-degree-requires g c =
     let t = c.term-item.result in
     let most = c.args.most in
     let d : PositiveRow = record { terms = []; degree = 0 } in
-    let exists : c.args.row < length s.form.now.rows = subst (λ (m : MultipliersState). c.args.row < length m.form.rows) (sym c.self.view_is) c.requires.row in
-    let terms : (row_at s.form.now.rows c.args.row).terms ≡ items = subst (λ found. IsSomeAnd found (λ (r : PositiveRow). r.terms ≡ items)) (slice_get-get_or s.form.now.rows c.args.row d exists) c.terms-term-items.ensures in
-    let fits : most + reached trail (row_at s.form.now.rows c.args.row).terms ≤ (row_at s.form.now.rows c.args.row).degree = subst (λ (m : MultipliersState). most + reached trail (row_at m.form.rows c.args.row).terms ≤ (row_at m.form.rows c.args.row).degree) (sym c.self.view_is) c.requires.fits in
+    let exists : c.args.row < length s.form.rows = subst (λ (m : MultipliersState). c.args.row < length m.form.rows) (sym c.self.view_is) c.requires.row in
+    let terms : (row_at s.form.rows c.args.row).terms ≡ items = subst (λ found. IsSomeAnd found (λ (r : PositiveRow). r.terms ≡ items)) (slice_get-get_or s.form.rows c.args.row d exists) c.terms-term-items.ensures in
+    let fits : most + reached trail (row_at s.form.rows c.args.row).terms ≤ (row_at s.form.rows c.args.row).degree = subst (λ (m : MultipliersState). most + reached trail (row_at m.form.rows c.args.row).terms ≤ (row_at m.form.rows c.args.row).degree) (sym c.self.view_is) c.requires.fits in
     let told : is_true trail t.lit ≡ true = ap (is_true trail) (sym c.lit.ensures) ∙ (sym c.is_true.ensures ∙ c.if-is_true.true) in
     let next : reached trail (capped most (take (c.loop-term.term-index + 1) items)) ≡ reached trail (capped most (take c.loop-term.term-index items)) + min t.coef most = reached-next trail most items c.loop-term.term-index t c.loop-term-test.true c.term-item.is ∙ ap (λ (b : Bool). reached trail (capped most (take c.loop-term.term-index items)) + cond b (min t.coef most) 0) told in
     let upto = reached-most trail most items (c.loop-term.term-index + 1) in
@@ -67,8 +67,8 @@ returns g c =
     let items = c.terms-term-items.result.now in
     let most = c.args.most in
     let d : PositiveRow = record { terms = []; degree = 0 } in
-    let exists : c.args.row < length s.form.now.rows = subst (λ (m : MultipliersState). c.args.row < length m.form.rows) (sym c.self.view_is) c.requires.row in
-    let terms : (row_at s.form.now.rows c.args.row).terms ≡ items = subst (λ found. IsSomeAnd found (λ (r : PositiveRow). r.terms ≡ items)) (slice_get-get_or s.form.now.rows c.args.row d exists) c.terms-term-items.ensures in
-    let all : take c.loop-term.term-index items ≡ (row_at s.form.now.rows c.args.row).terms = take_all c.loop-term.term-index items (omega (arith, c.loop-term-test.false)) ∙ sym terms in
-    let inner : c.loop-term.degree ≡ most + reached trail (capped most (row_at s.form.now.rows c.args.row).terms) = c.loop-term.invariant ∙ ap (λ (ts : List PositiveTerm). most + reached trail (capped most ts)) all in
+    let exists : c.args.row < length s.form.rows = subst (λ (m : MultipliersState). c.args.row < length m.form.rows) (sym c.self.view_is) c.requires.row in
+    let terms : (row_at s.form.rows c.args.row).terms ≡ items = subst (λ found. IsSomeAnd found (λ (r : PositiveRow). r.terms ≡ items)) (slice_get-get_or s.form.rows c.args.row d exists) c.terms-term-items.ensures in
+    let all : take c.loop-term.term-index items ≡ (row_at s.form.rows c.args.row).terms = take_all c.loop-term.term-index items (omega (arith, c.loop-term-test.false)) ∙ sym terms in
+    let inner : c.loop-term.degree ≡ most + reached trail (capped most (row_at s.form.rows c.args.row).terms) = c.loop-term.invariant ∙ ap (λ (ts : List PositiveTerm). most + reached trail (capped most ts)) all in
     subst (λ (m : MultipliersState). c.loop-term.degree ≡ most + reached trail (capped most (row_at m.form.rows c.args.row).terms)) c.self.view_is inner

@@ -20,10 +20,10 @@ pub is_true-requires : goal.is_true-requires
 is_true-requires g c =
     let s = c.self.inside in
     let items = c.terms-term-items.result.now in
-    let exists : c.args.row < length s.form.now.rows = subst (λ (m : MultipliersState). c.args.row < length m.form.rows) (sym c.self.view_is) c.requires in
+    let exists : c.args.row < length s.form.rows = subst (λ (m : MultipliersState). c.args.row < length m.form.rows) (sym c.self.view_is) c.requires in
     let d : PositiveRow = record { terms = []; degree = 0 } in
-    let terms : (row_at s.form.now.rows c.args.row).terms ≡ items = subst (λ found. IsSomeAnd found (λ (r : PositiveRow). r.terms ≡ items)) (slice_get-get_or s.form.now.rows c.args.row d exists) c.terms-term-items.ensures in
-    let P : PositiveTerm → Type 0 = λ t. (1 ≤ t.lit.var) × (t.lit.var ≤ s.form.now.vars) in
+    let terms : (row_at s.form.rows c.args.row).terms ≡ items = subst (λ found. IsSomeAnd found (λ (r : PositiveRow). r.terms ≡ items)) (slice_get-get_or s.form.rows c.args.row d exists) c.terms-term-items.ensures in
+    let P : PositiveTerm → Type 0 = λ t. (1 ≤ t.lit.var) × (t.lit.var ≤ s.form.vars) in
     let all : All P items = subst (λ (ts : List PositiveTerm). All P ts) terms (c.vars-vars.ensures.normal.shape.rows c.args.row d exists).terms.variables in
     let within : P c.term-item.result = subst P (sym c.term-item.is) (all c.loop-term.term-index c.term-item.result c.loop-term-test.true) in
     let var = ap (λ (l : Literal). l.var) c.lit.ensures in
@@ -47,9 +47,9 @@ returns g c =
     let trail = c.args.self.now.trail in
     let items = c.terms-term-items.result.now in
     let d : PositiveRow = record { terms = []; degree = 0 } in
-    let exists : c.args.row < length s.form.now.rows = subst (λ (m : MultipliersState). c.args.row < length m.form.rows) (sym c.self.view_is) c.requires in
-    let terms : (row_at s.form.now.rows c.args.row).terms ≡ items = subst (λ found. IsSomeAnd found (λ (r : PositiveRow). r.terms ≡ items)) (slice_get-get_or s.form.now.rows c.args.row d exists) c.terms-term-items.ensures in
-    let degree : (row_at s.form.now.rows c.args.row).degree ≡ c.degree-left.result = subst (λ found. IsSomeAnd found (λ (r : PositiveRow). r.degree ≡ c.degree-left.result)) (slice_get-get_or s.form.now.rows c.args.row d exists) c.degree-left.ensures in
-    let all : take c.loop-term.term-index items ≡ (row_at s.form.now.rows c.args.row).terms = take_all c.loop-term.term-index items (omega (arith, c.loop-term-test.false)) ∙ sym terms in
-    let inner : c.loop-term.left ≡ left_of trail (row_at s.form.now.rows c.args.row) = c.loop-term.invariant ∙ (ap (λ (ts : List PositiveTerm). c.degree-left.result - reached trail ts) all ∙ ap (λ (n : ℕ). n - reached trail (row_at s.form.now.rows c.args.row).terms) (sym degree)) in
+    let exists : c.args.row < length s.form.rows = subst (λ (m : MultipliersState). c.args.row < length m.form.rows) (sym c.self.view_is) c.requires in
+    let terms : (row_at s.form.rows c.args.row).terms ≡ items = subst (λ found. IsSomeAnd found (λ (r : PositiveRow). r.terms ≡ items)) (slice_get-get_or s.form.rows c.args.row d exists) c.terms-term-items.ensures in
+    let degree : (row_at s.form.rows c.args.row).degree ≡ c.degree-left.result = subst (λ found. IsSomeAnd found (λ (r : PositiveRow). r.degree ≡ c.degree-left.result)) (slice_get-get_or s.form.rows c.args.row d exists) c.degree-left.ensures in
+    let all : take c.loop-term.term-index items ≡ (row_at s.form.rows c.args.row).terms = take_all c.loop-term.term-index items (omega (arith, c.loop-term-test.false)) ∙ sym terms in
+    let inner : c.loop-term.left ≡ left_of trail (row_at s.form.rows c.args.row) = c.loop-term.invariant ∙ (ap (λ (ts : List PositiveTerm). c.degree-left.result - reached trail ts) all ∙ ap (λ (n : ℕ). n - reached trail (row_at s.form.rows c.args.row).terms) (sym degree)) in
     subst (λ (m : MultipliersState). c.loop-term.left ≡ left_of trail (row_at m.form.rows c.args.row)) c.self.view_is inner

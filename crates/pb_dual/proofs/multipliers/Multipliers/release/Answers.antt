@@ -20,7 +20,7 @@ loop-row-preserved g c =
     let form : new.form ≡ old.form = ap (λ (m : MultipliersState). m.form) c.release_row.ensures in
     let same_form : old.form ≡ now.form = ap (λ (m : MultipliersState). m.form) kept.same in
     let rows = ap (λ (m : MultipliersState). length m.form.rows) c.self.view_is in
-    let counted_count : length now.counted.rows ≡ length now.form.rows = subst (λ (m : MultipliersState). length m.counted.rows ≡ length m.form.rows) c.self.view_is (length-counted c.self.inside.saturations.items c.self.inside.form.now.rows c.self.invariant.1.count) in
+    let counted_count : length now.counted.rows ≡ length now.form.rows = subst (λ (m : MultipliersState). length m.counted.rows ≡ length m.form.rows) c.self.view_is (length-counted c.self.inside.saturations.items c.self.inside.form.rows c.self.invariant.1.count) in
     let short : row < length now.form.rows = omega (arith, c.loop-row-test.true, c.len-row-end.ensures.value) in
     let first : row < length old.form.rows = omega (arith, short, ap (λ (f : NormalForm). length f.rows) same_form) in
     let second : row < length now.counted.rows = omega (arith, short, counted_count) in
@@ -44,10 +44,10 @@ invariant_of-self g c =
     let kept = c.loop-row.invariant in
     let rows = ap (λ (m : MultipliersState). length m.form.rows) c.self.view_is in
     let same_form : last.form ≡ now.form = ap (λ (m : MultipliersState). m.form) kept.same in
-    let counted_count : length now.counted.rows ≡ length now.form.rows = subst (λ (m : MultipliersState). length m.counted.rows ≡ length m.form.rows) c.self.view_is (length-counted c.self.inside.saturations.items c.self.inside.form.now.rows c.self.invariant.1.count) in
+    let counted_count : length now.counted.rows ≡ length now.form.rows = subst (λ (m : MultipliersState). length m.counted.rows ≡ length m.form.rows) c.self.view_is (length-counted c.self.inside.saturations.items c.self.inside.form.rows c.self.invariant.1.count) in
     let merged : take n last.form.rows ++ drop n now.counted.rows ≡ last.form.rows = merged-all last.form.rows now.counted.rows n (omega (arith, c.loop-row-test.false, c.len-row-end.ensures.value, ap (λ (f : NormalForm). length f.rows) same_form)) (omega (arith, c.loop-row-test.false, c.len-row-end.ensures.value)) in
     let told : last.counted.rows ≡ last.form.rows = ap (λ (f : NormalForm). f.rows) kept.counted ∙ merged in
-    let whole : counted_rows s.saturations.items s.form.now.rows ≡ s.form.now.rows = subst (λ (m : MultipliersState). m.counted.rows ≡ m.form.rows) (sym c.self-2.view_is) told in (
+    let whole : counted_rows s.saturations.items s.form.rows ≡ s.form.rows = subst (λ (m : MultipliersState). m.counted.rows ≡ m.form.rows) (sym c.self-2.view_is) told in (
       c.self-2.invariant.0,
       record {
         count = c.self-2.invariant.1.count;

@@ -11,12 +11,12 @@ pub invariant_of-self : goal.invariant_of-self
 invariant_of-self g c =
     let s = c.self.inside in
     let kept = c.self.invariant.0 in
-    let form = counted_form s.saturations.items s.form.now in
-    let exists : c.args.row < length s.form.now.rows = subst (λ (m : MultipliersState). c.args.row < length m.form.rows) (sym c.self.view_is) c.requires.row in
-    let row : c.args.row < length form.rows = omega (arith, length-counted s.saturations.items s.form.now.rows c.self.invariant.1.count) in
+    let form = counted_form s.saturations.items s.form in
+    let exists : c.args.row < length s.form.rows = subst (λ (m : MultipliersState). c.args.row < length m.form.rows) (sym c.self.view_is) c.requires.row in
+    let row : c.args.row < length form.rows = omega (arith, length-counted s.saturations.items s.form.rows c.self.invariant.1.count) in
     let before : c.index-before.result.now ≡ get_or s.multipliers.items c.args.row 0 = get_or_read s.multipliers.items c.args.row c.index-before.result.now (omega (arith, row, kept.count)) c.index-before.ensures 0 in
-    let Within : Change → Type 0 = λ change. (change.row < length form.rows) × IsWithinShare s.form.now s.share change.row change.before in
-    let within : IsWithinShare s.form.now s.share c.args.row c.index-before.result.now = subst (λ (n : ℕ). IsWithinShare s.form.now s.share c.args.row n) (sym before) (kept.each_within c.args.row row) in (
+    let Within : Change → Type 0 = λ change. (change.row < length form.rows) × IsWithinShare s.form s.share change.row change.before in
+    let within : IsWithinShare s.form s.share c.args.row c.index-before.result.now = subst (λ (n : ℕ). IsWithinShare s.form s.share c.args.row n) (sym before) (kept.each_within c.args.row row) in (
       record {
         scale_from_one = kept.scale_from_one;
         total_is = kept.total_is;

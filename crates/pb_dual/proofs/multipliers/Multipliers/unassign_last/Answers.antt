@@ -32,4 +32,4 @@ invariant_of-self g c =
     let sum : c.revalue.new.sum ≡ parts inside.costs.items stored = c.revalue.ensures.sum ∙ (ap (λ (xs : List ℕ). parts xs new) c.deref.ensures.value ∙ ap (parts inside.costs.items) (sym end)) in
     let are = AreValues-pop old stored inside.lits.items front (vec_capacity inside.lits) (vec_capacity c.pop.new.self) l c.self.invariant.0.values_are within.0 within.1 (end ∙ marks) whole c.in-Some.ensures.capacity in
     let below : inside.root < length inside.lits.items = omega (arith, c.requires, ap (λ (s : MultipliersState). s.root) c.self.view_is, ap (λ (s : MultipliersState). length s.trail) c.self.view_is) in
-    (kept_on c.self.invariant.0 front stored c.revalue.new.sum (vec_capacity c.pop.new.self) (ap (λ (xs : List (Option Bool)). length xs) end ∙ same) are sum, saturations-pop inside.form.now inside.saturations.items inside.root inside.lits.items front l whole below c.self.invariant.1)
+    (kept_on c.self.invariant.0 front stored c.revalue.new.sum (vec_capacity c.pop.new.self) (ap (λ (xs : List (Option Bool)). length xs) end ∙ same) are sum, saturations-pop inside.form inside.saturations.items inside.root inside.lits.items front l whole below c.self.invariant.1)

@@ -4,8 +4,8 @@ use Rattle.pb_normal.specs.NormalForm.{NormalForm, KeepsCost, KeepsFeasible}
 use Rattle.pb_engine.specs.Clauses.{AreClausesOf}
 use Rattle.pb_search.proofs.piece_tables.PieceTables.new.Goals as goal
 
-pub invariant_of-result : goal.invariant_of-result
-invariant_of-result g c = record {
+pub of_parts-requires : goal.of_parts-requires
+of_parts-requires g c = record {
   vars = ap (λ (f : NormalForm). f.vars) c.in_ok-rows.ensures ∙ c.requires.vars;
   few_variables = c.vars-vars.ensures.proper.variable_count;
   feasible = subst (λ (f : NormalForm). KeepsFeasible c.args.instance.now f) (sym c.in_ok-rows.ensures) c.requires.feasible;

@@ -1,0 +1,18 @@
+use Rattle.std.proofs.Common.{◌≡◌, ◌∙◌, List, ap, sym, subst}
+use Rattle.std.specs.Prelude.{ℤ}
+use Rattle.std.proofs.lemmas.Int.{to_z-of_z}
+use mir.Val.{to_z, of_z}
+use Rattle.pb_inst.proofs.NumberWidth.{number_width}
+use Rattle.pb_inst.specs.Literal.{Literal}
+use Rattle.pb_normal.specs.NormalForm.{NormalForm}
+use Rattle.pb_dual.specs.Multipliers.{MultipliersState, IsBelowCosts}
+use Rattle.pb_lagrange.proofs.relaxation.Relaxation.fixed_literal.Goals as goal
+
+pub returns-clause-bound : goal.returns-clause-bound
+returns-clause-bound g c =
+    let m = c.catch_up.new.self in let bound = c.bound-bound.result in
+    let back : to_z number_width (of_z number_width bound) ≡ bound = to_z-of_z number_width bound (record { sfits = c.bound-bound.type_inv }) in
+    let own : IsBelowCosts m.form m.trail bound = subst (λ (n : MultipliersState). IsBelowCosts n.form n.trail bound) c.self-2.view_is c.bound-bound.ensures.bound in
+    let form : m.form ≡ c.args.slacks.now.form = c.catch_up.ensures.form ∙ (ap (λ (n : MultipliersState). n.form) c.self.view_is ∙ c.requires.form_is) in
+    let here : IsBelowCosts c.args.slacks.now.form c.args.slacks.now.trail bound = subst (λ (f : NormalForm). IsBelowCosts f c.args.slacks.now.trail bound) form (subst (λ (t : List Literal). IsBelowCosts m.form t bound) c.catch_up.ensures.trail own) in
+    subst (λ (z : ℤ). IsBelowCosts c.args.slacks.now.form c.args.slacks.now.trail z) (sym back) here

@@ -1,0 +1,98 @@
+//! The search of a whole instance under literals, again and again.
+
+ghost use Rattle.std.specs.Prelude.{◌≡◌, ◌⊎◌, ◌≤◌, [], ◌∷◌, false, All, IfOk, Some, IsSomeAnd};
+ghost use Rattle.pb_normal.specs.NormalForm.{KeepsCost, KeepsFeasible};
+ghost use Rattle.pb_inst.specs.Cubes.{MakesTrue};
+ghost use Rattle.pb_inst.specs.declared.TheConstants.{MAX_VARS};
+ghost use Rattle.pb_search.specs.Held.{IsNotAfter};
+ghost use Rattle.pb_search.specs.Budget.{IsLeftOf};
+
+use crate::Share;
+use crate::outcome::Outcome;
+use crate::whole_search_at::WholeSearchAt;
+use pb_inst::{Assignment, Best, Lit, Memory};
+use pb_normal::{EitherWidth, Normal};
+use std::alloc::Global;
+use std::marker::Model;
+
+/// What the searches of a whole instance need. It owns all of it, so that it may be kept from one question to the next, with
+/// what the searches so far have taught the order of decisions and the multipliers. Contracts see the normal form that it was
+/// made of; the instance may be any one whose normal form that is.
+pub struct WholeSearch {
+    at_width: EitherWidth<WholeSearchAt<u64>, WholeSearchAt<u128>>,
+}
+
+impl Model for WholeSearch {
+    ghost use Rattle.pb_normal.specs.NormalForm.{NormalForm};
+    ghost use Rattle.pb_normal.specs.Widths.{either};
+
+    ghost Value = { NormalForm };
+
+    ghost view = { λ s. either s.at_width };
+}
+
+// By hand, so that letting go of a search is a call wherever it is done.
+impl Drop for WholeSearch {
+    fn drop(self) {
+        let WholeSearch { at_width: _ } = self;
+    }
+}
+
+impl WholeSearch {
+    ghost use Rattle.pb_search.specs.Done.{IsDone};
+
+    /// Makes all that the searches need, over a normal form. Fails where memory is refused.
+    pub fn new(alloc: Global, normal: &Normal) -> Result<WholeSearch, Memory>
+        ensures { IfOk result (λ s. s ≡ normal.now) }
+    {
+        let at_width = match normal.form() {
+            EitherWidth::Narrow(form) => EitherWidth::Narrow(WholeSearchAt::new(alloc, form)?),
+            EitherWidth::Wide(form) => EitherWidth::Wide(WholeSearchAt::new(alloc, form)?),
+        };
+        Ok(WholeSearch { at_width })
+    }
+
+    /// Searches the assignments that make a cube true, whose literals are of the instance's variables: the piece of that cube.
+    /// Its decisions are taken off a budget, of which so many are left, if there is one, so that several calls can share it. It
+    /// answers `Cut` where it would need one more, and without a budget always `Whole`. After `Whole` no feasible assignment
+    /// of the piece is before the best one. In any case the best one is not after what it was, is none only where it was none,
+    /// and the search may run again. It takes no memory, and asks the share as `Search::run` does.
+    pub fn run<S: Share>(
+        &mut self,
+        cube: &[Lit],
+        best: &mut Best<'_>,
+        share: &mut S,
+        left: &mut Option<u64>,
+    ) -> Outcome
+        requires vars { self.old.vars ≡ best.old.problem.vars }
+        requires feasible { KeepsFeasible best.old.problem self.old }
+        requires costs { KeepsCost best.old.problem self.old }
+        requires few { self.old.vars ≤ MAX_VARS }
+        requires variables { All (λ l. l.var ≤ self.old.vars) cube.now }
+        ensures done { result ≡ Outcome.Whole → IsDone (record { problem = best.old.problem; cubes = cube.now ∷ [] }) 0 best.new.held }
+        ensures used_up { result ≡ Outcome.Cut → left.new ≡ Some 0 }
+        ensures budget { IsLeftOf left.old left.new }
+        ensures not_after { IsNotAfter best.old.problem best.old.held best.new.held }
+        ensures own { S.lends share.old ≡ false → (best.new ≡ best.old) ⊎ IsSomeAnd best.new.held (λ s. MakesTrue s.assignment cube.now) }
+        ensures kept { S.keeps share.old share.new }
+        ensures same_lending { S.lends share.new ≡ S.lends share.old }
+        ensures same_instance { best.new.problem ≡ best.old.problem }
+        ensures unchanged { self.new ≡ self.old }
+    {
+        match &mut self.at_width {
+            EitherWidth::Narrow(search) => search.search(cube, best, share, left),
+            EitherWidth::Wide(search) => search.search(cube, best, share, left),
+        }
+    }
+
+    /// The values of an assignment from outside are the first that further searches try. It may be any one: no answer depends
+    /// on it.
+    pub fn suggest(&mut self, values: &Assignment)
+        ensures { self.new ≡ self.old }
+    {
+        match &mut self.at_width {
+            EitherWidth::Narrow(search) => search.suggest(values),
+            EitherWidth::Wide(search) => search.suggest(values),
+        }
+    }
+}

@@ -1,0 +1,90 @@
+//! The search of a whole instance under literals, which counts in numbers of one width.
+
+ghost use Rattle.std.specs.Prelude.{◌≡◌, ◌⊎◌, ◌≤◌, [], ◌∷◌, false, All, IfOk, Some, IsSomeAnd};
+ghost use Rattle.pb_normal.specs.NormalForm.{KeepsCost, KeepsFeasible};
+ghost use Rattle.pb_inst.specs.Cubes.{MakesTrue};
+ghost use Rattle.pb_inst.specs.declared.TheConstants.{MAX_VARS};
+ghost use Rattle.pb_search.specs.Held.{IsNotAfter};
+ghost use Rattle.pb_search.specs.Budget.{IsLeftOf};
+
+use crate::Share;
+use crate::outcome::Outcome;
+use crate::piece_search::search_under;
+use crate::search_state::SearchState;
+use pb_engine::{Count, clause_laws};
+use pb_inst::{Assignment, Best, Lit, Memory};
+use pb_normal::Form;
+use std::alloc::Global;
+use std::marker::Model;
+
+/// An engine for the rows of a normal form, which all searches use again, and the room for decisions and assignments. They
+/// count in numbers of type `C`. Contracts see the form.
+pub struct WholeSearchAt<C: Count> {
+    state: SearchState<C>,
+}
+
+impl<C: Count> Model for WholeSearchAt<C> {
+    ghost use Rattle.pb_normal.specs.NormalForm.{NormalForm};
+
+    ghost Value = { NormalForm };
+
+    ghost use Rattle.std.specs.Prelude.{[]};
+    ghost use Rattle.pb_search.specs.Layout.{IsMade};
+
+    ghost view = { λ s. s.state.engine.form };
+
+    ghost invariant = { λ s. IsMade s.state.engine.form [] s.state };
+}
+
+// By hand, so that letting go of a search is a call wherever it is done, and its parts are written out here alone.
+impl<C: Count> Drop for WholeSearchAt<C> {
+    fn drop(self) {
+        let WholeSearchAt { state: _ } = self;
+    }
+}
+
+impl<C: Count> WholeSearchAt<C> {
+    ghost use Rattle.pb_search.specs.Done.{IsDone};
+
+    /// Makes all that the searches need, over a normal form. Fails where memory is refused.
+    pub fn new(alloc: Global, form: &Form<C>) -> Result<WholeSearchAt<C>, Memory>
+        ensures { IfOk result (λ s. s ≡ form.now) }
+    {
+        let state = SearchState::new(alloc, form, &[])?;
+        Ok(WholeSearchAt { state })
+    }
+
+    /// Searches the assignments that make the cube true, or stops where it would need one decision more than are left.
+    pub fn search<S: Share>(
+        &mut self,
+        cube: &[Lit],
+        best: &mut Best<'_>,
+        share: &mut S,
+        left: &mut Option<u64>,
+    ) -> Outcome
+        requires vars { self.old.vars ≡ best.old.problem.vars }
+        requires feasible { KeepsFeasible best.old.problem self.old }
+        requires costs { KeepsCost best.old.problem self.old }
+        requires few { self.old.vars ≤ MAX_VARS }
+        requires variables { All (λ l. l.var ≤ self.old.vars) cube.now }
+        ensures done { result ≡ Outcome.Whole → IsDone (record { problem = best.old.problem; cubes = cube.now ∷ [] }) 0 best.new.held }
+        ensures used_up { result ≡ Outcome.Cut → left.new ≡ Some 0 }
+        ensures budget { IsLeftOf left.old left.new }
+        ensures not_after { IsNotAfter best.old.problem best.old.held best.new.held }
+        ensures own { S.lends share.old ≡ false → (best.new ≡ best.old) ⊎ IsSomeAnd best.new.held (λ s. MakesTrue s.assignment cube.now) }
+        ensures kept { S.keeps share.old share.new }
+        ensures same_lending { S.lends share.new ≡ S.lends share.old }
+        ensures same_instance { best.new.problem ≡ best.old.problem }
+        ensures unchanged { self.new ≡ self.old }
+    {
+        clause_laws();
+        search_under(&mut self.state, cube, best, share, left)
+    }
+
+    /// The values of the assignment are tried first from now on.
+    pub fn suggest(&mut self, values: &Assignment)
+        ensures { self.new ≡ self.old }
+    {
+        self.state.order.suggest(values);
+    }
+}
