@@ -1,3 +1,4 @@
+pub mod Form
 pub mod Under
 pub mod Sought
 pub mod Explained

@@ -1,18 +1,18 @@
 //! The questions' search, and the least assignment under assumptions.
 
-ghost use Rattle.std.specs.Prelude.{◌≡◌, ◌≤◌, [], false, None, All, IfOk, IfNone};
+ghost use Rattle.std.specs.Prelude.{◌≡◌, ◌≤◌, false, None, length, All, IfOk, IfNone, IfSome, IsTrue};
+ghost use Rattle.std.specs.Option.{is_some};
+ghost use Rattle.pb_inst.specs.Cubes.{MakesTrue};
 ghost use Rattle.pb_inst.specs.declared.TheConstants.{MAX_VARS};
-ghost use Rattle.pb_normal.specs.NormalForm.{KeepsCost, KeepsFeasible};
+ghost use Rattle.pb_questions.specs.Form.{IsFormOf};
 ghost use Rattle.pb_questions.specs.Under.{named_literals, HoldsLeastUnder, HoldsUnder};
 
-use pb_cubes::Pieces;
-use pb_inst::{Best, Instance, Lit, Memory};
-use pb_normal::Normal;
-use pb_search::{Alone, Outcome, Search};
+use pb_inst::{Assignment, Best, Instance, Lit, Memory};
+use pb_search::{Alone, Outcome, WholeSearch};
 use std::alloc::Global;
 use std::marker::Model;
 
-/// The questions on one instance. Contracts see its `Problem`.
+/// Questions on one instance, asked of its search. Contracts see the instance's `Problem`.
 ///
 /// Each question is asked under assumptions: literals that are to be true. They may repeat, and where two contradict each
 /// other nothing is feasible under them. A variable over the number of the instance's is free: literals of it are left
@@ -21,7 +21,10 @@ use std::marker::Model;
 pub struct Questions<'a> {
     alloc: Global,
     instance: &'a Instance,
-    search: Search<'a>,
+    search: WholeSearch,
+    suggestion: Option<&'a Assignment>,
+    /// Room for the next assignment that is found, where some was lent.
+    room: Option<Assignment>,
 }
 
 impl<'a> Model for Questions<'a> {
@@ -29,11 +32,12 @@ impl<'a> Model for Questions<'a> {
 
     ghost Value = { Problem };
 
-    ghost use Rattle.std.specs.Prelude.{◌≡◌, []};
+    ghost use Rattle.std.specs.Prelude.{◌≡◌, length, IfSome};
+    ghost use Rattle.pb_questions.specs.Form.{IsFormOf};
 
     ghost view = { λ q. q.instance.now };
 
-    ghost invariant = { λ q. q.search.division ≡ record { problem = q.instance.now; cubes = [] } };
+    ghost invariant = { λ q. IsFormOf q.instance.now q.search × IfSome q.suggestion (λ s. length s.now ≡ q.instance.now.vars) × IfSome q.room (λ r. length r ≡ q.instance.now.vars) };
 }
 
 /// What a search under assumptions held at its end.
@@ -46,26 +50,41 @@ pub struct Answer<'a> {
 }
 
 impl<'a> Questions<'a> {
-    /// Makes the search of all questions, over a normal form of the instance and pieces without a cube. Fails where memory
-    /// is refused.
+    /// Questions that are asked of a search of the instance. A suggestion is an assignment to its variables, of which nothing
+    /// else is known. Where it is feasible and makes a question's assumptions true, the search begins with it as the best one.
     pub fn new(
         alloc: Global,
         instance: &'a Instance,
-        normal: &'a Normal,
-        pieces: &'a Pieces,
-    ) -> Result<Questions<'a>, Memory>
-        requires vars { normal.now.vars ≡ instance.now.vars }
-        requires feasible { KeepsFeasible instance.now normal.now }
-        requires costs { KeepsCost instance.now normal.now }
-        requires pieces { pieces.now ≡ record { vars = instance.now.vars; cubes = [] } }
-        ensures { IfOk result (λ questions. questions ≡ instance.now) }
+        search: WholeSearch,
+        suggestion: Option<&'a Assignment>,
+    ) -> Questions<'a>
+        requires search { IsFormOf instance.now search }
+        requires suggestion { IfSome suggestion (λ s. length s.now ≡ instance.now.vars) }
+        ensures { result ≡ instance.now }
     {
-        let search = Search::new(alloc, instance, normal, pieces)?;
-        Ok(Questions {
+        Questions {
             alloc,
             instance,
             search,
-        })
+            suggestion,
+            room: None,
+        }
+    }
+
+    /// Lends an assignment to as many variables as the instance's for the next one that is found, so that its question takes no
+    /// memory for it.
+    pub fn lend_room(&mut self, room: Assignment)
+        requires { length room ≡ self.old.vars }
+        ensures { self.new ≡ self.old }
+    {
+        self.room = Some(room);
+    }
+
+    /// The search, with what the questions taught it.
+    pub fn into_search(self) -> WholeSearch
+        ensures { IsFormOf self.entry result }
+    {
+        self.search
     }
 
     /// Searches for the least assignment under the assumptions, with at most `nodes` decisions where a budget is given.
@@ -81,9 +100,20 @@ impl<'a> Questions<'a> {
         ensures no_budget { IfNone nodes (IfOk result (λ answer. answer.cut ≡ false)) }
         ensures unchanged { self.new ≡ self.old }
     {
-        let named = self.named(assumptions)?;
         let mut left = nodes;
+        if self.names_all(assumptions) {
+            return self.search_under(assumptions, &mut left);
+        }
+        let named = self.named(assumptions)?;
         self.search_under(&named, &mut left)
+    }
+
+    /// Whether all literals are of the instance's variables.
+    fn names_all(&self, assumptions: &[Lit]) -> bool
+        ensures { IsTrue result → All (λ l. l.var ≤ self.now.vars) assumptions.now }
+    {
+        let vars = self.instance.vars();
+        assumptions.iter().all(|lit| lit.var() <= vars)
     }
 
     /// The literals of the instance's variables, in order. Fails where memory is refused.
@@ -112,8 +142,10 @@ impl<'a> Questions<'a> {
         ensures no_budget { IfNone left.old ((left.new ≡ None) × IfOk result (λ answer. answer.cut ≡ false)) }
         ensures unchanged { self.new ≡ self.old }
     {
-        let mut best = Best::none(self.alloc, self.instance)?;
-        let outcome = self.search.run_under(cube, &mut best, &mut Alone, left);
+        let mut best = self.first_best(cube)?;
+        // A call tells that the variables are no more than an instance may have.
+        let _ = self.instance.vars();
+        let outcome = self.search.run(cube, &mut best, &mut Alone, left);
         // A call tells that what is held is a solution.
         let _ = best.cost();
         Ok(Answer {
@@ -122,16 +154,60 @@ impl<'a> Questions<'a> {
         })
     }
 
+    /// What a search of the assignments that make the cube true begins with: the suggestion, where there is one and it is such an
+    /// assignment and feasible. Fails where memory is refused.
+    fn first_best(&mut self, cube: &[Lit]) -> Result<Best<'a>, Memory>
+        requires { All (λ l. l.var ≤ self.old.vars) cube.now }
+        ensures same_instance { IfOk result (λ best. best.problem ≡ self.old) }
+        ensures under { IfOk result (λ best. HoldsUnder self.old cube.now best.held) }
+        ensures unchanged { self.new ≡ self.old }
+    {
+        let room = self.take_room()?;
+        let mut best = Best::within(self.instance, room);
+        if let Some(values) = self.suggestion
+            && meets(values, cube)
+        {
+            let _ = best.take(values);
+        }
+        Ok(best)
+    }
+
+    /// The room that was lent, or else some that is new. Fails where memory is refused.
+    fn take_room(&mut self) -> Result<Assignment, Memory>
+        ensures room { IfOk result (λ room. length room ≡ self.old.vars) }
+        ensures unchanged { self.new ≡ self.old }
+    {
+        match self.room.take() {
+            Some(room) => Ok(room),
+            None => Assignment::new(self.alloc, self.instance.vars()),
+        }
+    }
+
+    /// Whether the instance has an objective.
+    pub fn has_objective(&self) -> bool
+        ensures { result ≡ is_some self.now.objective }
+    {
+        self.instance.has_objective()
+    }
+
     /// The allocator of what the questions make.
     pub(crate) fn alloc(&self) -> Global {
         self.alloc
     }
 
     /// The number of the instance's variables.
-    pub(crate) fn vars(&self) -> u32
+    pub fn vars(&self) -> u32
         ensures value { result ≡ self.now.vars }
         ensures few { result ≤ MAX_VARS }
     {
         self.instance.vars()
     }
+}
+
+/// Whether the assignment makes the cube true.
+fn meets(values: &Assignment, cube: &[Lit]) -> bool
+    requires { All (λ l. l.var ≤ length values.now) cube.now }
+    ensures { IsTrue result → MakesTrue values.now cube.now }
+{
+    cube.iter().all(|lit| values.satisfies(*lit))
 }

@@ -1,13 +1,36 @@
 //! Questions on one instance beside the listing of all assignments.
 
+ghost use Rattle.std.specs.Prelude.{◌≡◌, length};
+ghost use Rattle.pb_questions.specs.Form.{IsFormOf};
+
 use super::instances::{lit, tied};
 use super::listing::Random;
-use pb_cubes::Pieces;
 use pb_inst::{Assignment, Instance, Lit, Number};
 use pb_normal::normalise;
 use pb_questions::{Among, Explanation, Fixed, Questions, VariableStatus};
+use pb_search::WholeSearch;
 use std::alloc::Global;
 use std::process::Abort;
+
+/// The instance's search.
+fn search_of(rt: &impl Abort, alloc: Global, instance: &Instance) -> WholeSearch
+    ensures { IsFormOf instance.now result }
+{
+    let normal = normalise(alloc, instance).expect(rt, "memory");
+    WholeSearch::new(alloc, &normal).expect(rt, "memory")
+}
+
+/// Random values for at most 16 variables.
+fn random_values(rt: &impl Abort, alloc: Global, vars: u32, random: &mut Random) -> Assignment
+    ensures { length result ≡ vars }
+{
+    let mut values = Assignment::new(alloc, vars).expect(rt, "memory");
+    let bits = u64::from(random.below(65536));
+    if values.words() > 0 {
+        values.set_word(0, bits);
+    }
+    values
+}
 
 /// The literals of these numbers.
 fn lits(rt: &impl Abort, alloc: Global, numbers: &[i32]) -> Vec<Lit> {
@@ -154,26 +177,49 @@ fn expect_all(
     expect_fixed(rt, alloc, questions, assumed, Among::Least, &listed);
 }
 
-/// Asks under so many random literals, some of them of variables over the instance's.
-fn expect_questions(
+/// Asks without a suggestion, and then with one.
+fn expect_questions(rt: &impl Abort, alloc: Global, instance: &Instance, random: &mut Random) {
+    let search = search_of(rt, alloc, instance);
+    let mut questions = Questions::new(alloc, instance, search, None);
+    expect_some(rt, alloc, instance, &mut questions, random);
+    let values = random_values(rt, alloc, instance.vars(), random);
+    expect_suggested(rt, alloc, instance, &values, random);
+}
+
+/// Asks a search that tries these values first and may begin with them.
+fn expect_suggested<'a>(
+    rt: &impl Abort,
+    alloc: Global,
+    instance: &'a Instance,
+    values: &'a Assignment,
+    random: &mut Random,
+)
+    requires { length values.now ≡ instance.now.vars }
+{
+    let mut search = search_of(rt, alloc, instance);
+    search.suggest(values);
+    let mut questions = Questions::new(alloc, instance, search, Some(values));
+    questions.lend_room(random_values(rt, alloc, instance.vars(), random));
+    expect_some(rt, alloc, instance, &mut questions, random);
+}
+
+/// Asks ten times, each time under random literals, some of them of variables over the instance's.
+fn expect_some(
     rt: &impl Abort,
     alloc: Global,
     instance: &Instance,
+    questions: &mut Questions<'_>,
     random: &mut Random,
-    count: u32,
 ) {
     let vars = instance.vars();
-    let pieces = Pieces::new(vars, Vec::new(alloc)).expect(rt, "pieces");
-    let normal = normalise(alloc, instance).expect(rt, "memory");
-    let mut questions = Questions::new(alloc, instance, &normal, &pieces).expect(rt, "memory");
-    for _ in 0..count {
+    for _ in 0..10 {
         let mut numbers = Vec::new(alloc);
         for _ in 0..random.below(5) {
             let number = random.literal(vars.saturating_add(1));
             numbers.push(number).expect(rt, "memory");
         }
         let assumed = lits(rt, alloc, &numbers);
-        expect_all(rt, alloc, instance, &mut questions, &assumed);
+        expect_all(rt, alloc, instance, questions, &assumed);
     }
 }
 
@@ -184,7 +230,7 @@ fn questions_are_answered_as_the_listing_does(rt: HostRuntime) {
     for _ in 0..40 {
         let vars = random.below(10).saturating_add(1);
         let instance = random.instance(&rt, alloc, vars);
-        expect_questions(&rt, alloc, &instance, &mut random, 20);
+        expect_questions(&rt, alloc, &instance, &mut random);
     }
 }
 
@@ -193,9 +239,8 @@ fn questions_are_answered_as_the_listing_does(rt: HostRuntime) {
 fn a_cut_question_spoils_none(rt: HostRuntime) {
     let alloc = rt.alloc();
     let tied = tied(&rt, alloc);
-    let pieces = Pieces::new(tied.vars(), Vec::new(alloc)).expect(&rt, "pieces");
-    let normal = normalise(alloc, &tied).expect(&rt, "memory");
-    let mut questions = Questions::new(alloc, &tied, &normal, &pieces).expect(&rt, "memory");
+    let search = search_of(&rt, alloc, &tied);
+    let mut questions = Questions::new(alloc, &tied, search, None);
     let cut = questions.solve_under(&[], Some(0)).expect(&rt, "memory");
     assert!(rt; cut.cut);
     for numbers in [&[][..], &[-2], &[-1, -2], &[1, -1], &[9, -9]] {
