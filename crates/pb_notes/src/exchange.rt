@@ -10,19 +10,19 @@ use std::alloc::Global;
 use std::io;
 use std::marker::Model;
 
-/// At most so many calls of `borrow` pass from one look to the next.
+/// Each look comes at most so many calls of `borrow` after the one before it.
 const MOST_APART: u32 = 8;
 
-/// Over so many variables each call looks.
-const VARIABLES_OF_ALL_LOOKS: u32 = 8192;
+/// So many variables pass in the calls of `borrow` from one look to the next.
+const VARIABLES_OF_A_LOOK: u32 = 8192;
 
-/// Of so many calls of `borrow` the first one looks at the notes, and the others do not. The calls come after equally many
-/// decisions, which take the longer the more variables there are. So with more variables fewer of them pass, and some tens of
-/// milliseconds lie between two looks.
+/// Each look comes so many calls of `borrow` after the one before it, where no piece begins in between. The calls come after
+/// equally many decisions, and a decision takes the longer the more variables there are. So the more variables, the fewer calls
+/// there are from one look to the next: one from 4,097 variables on.
 pub fn looks_apart(vars: u32) -> u32
     ensures in_range { (1 ≤ result) × (result ≤ 8) }
 {
-    (VARIABLES_OF_ALL_LOOKS / vars.max(1)).clamp(1, MOST_APART)
+    (VARIABLES_OF_A_LOOK / vars.max(1)).clamp(1, MOST_APART)
 }
 
 /// What came of a look at the note of one task.
@@ -114,6 +114,13 @@ impl<'n, N: Notes> Exchange<'n, N> {
         })
     }
 
+    /// A piece is about to be searched: the next call of `borrow` looks. No file is touched.
+    pub fn begin(&mut self)
+        ensures { self.new ≡ self.old }
+    {
+        self.pause = 0;
+    }
+
     /// Keeps an assignment of the search to be written at the next look, where it costs less than what is written or to be
     /// written. One of another number of variables is passed over. No file is touched.
     pub fn offer(&mut self, cost: Number, assignment: &Assignment)
@@ -131,7 +138,7 @@ impl<'n, N: Notes> Exchange<'n, N> {
         is_below(cost, self.written) && is_below(cost, self.due)
     }
 
-    /// Looks, at the first call and then at each `looks_apart`-th one: writes what is to be written, and reads one note, at the
+    /// Looks, at the first call after `begin` and then at each `looks_apart`-th one: writes what is to be written, and reads one note, at the
     /// first look the task's own, or, where there is none, that of the next task that has one, and later that of the next other
     /// task in turn. Where the task's own note turns out to tell less than what is to be written, that one is read.
     ///

@@ -1,11 +1,22 @@
 //! The share of a worker with tasks that are not on its board: the notes that they exchange.
-ghost use Rattle.std.specs.Prelude.{⊤, true};
+ghost use Rattle.std.specs.Prelude.{◌≡◌, ⊤, true};
 
 use pb_inst::{Assignment, Memory, Number};
 use pb_notes::{Exchange, Notes};
-use pb_search::Share;
+use pb_search::{Alone, Share};
 use std::alloc::Global;
 use std::io;
+
+/// A share with others who are not on a worker's board.
+pub trait Beside: Share {
+    /// A piece is about to be searched.
+    fn begin(&mut self)
+        ensures { Self.lends self.new ≡ Self.lends self.old };
+}
+
+impl Beside for Alone {
+    fn begin(&mut self) {}
+}
 
 /// Where the workers of a task exchange notes with other tasks on the same instance, and which task is theirs.
 #[derive(Clone, Copy)]
@@ -72,6 +83,15 @@ impl<'n, N: Notes> Share for Beyond<'n, N> {
         match &mut self.exchange {
             Some(exchange) => exchange.borrow(below, into),
             None => false,
+        }
+    }
+}
+
+impl<'n, N: Notes> Beside for Beyond<'n, N> {
+    /// So that what others found bounds the piece from its root on.
+    fn begin(&mut self) {
+        if let Some(exchange) = &mut self.exchange {
+            exchange.begin();
         }
     }
 }

@@ -4,5 +4,5 @@
 mod beyond;
 mod sharing;
 
-pub use beyond::{Beyond, Correspondence, NoNotes};
+pub use beyond::{Beside, Beyond, Correspondence, NoNotes};
 pub use sharing::BoardShare;

@@ -6,6 +6,7 @@ ghost use Rattle.pb_board.specs.Seats.{BoardView, SeatView};
 ghost use Rattle.pb_share.specs.Keys.{IsKeyOf};
 ghost use Rattle.pb_share.specs.Sharing.{BoardShareView, KeepsClaims};
 
+use crate::beyond::Beside;
 use pb_board::{Board, Seat};
 use pb_inst::{Assignment, Number};
 use pb_notes::next_other;
@@ -23,7 +24,7 @@ const HIGHEST: Number = 9_223_372_036_854_775_807;
 /// A worker's ways to the others: its seat on the board, its own row, and the rows of the others, which it reads in turn. Beside
 /// the board it has a share with others who are not on it, `Alone` where there are none.
 #[derive(Drop)]
-pub struct BoardShare<'b, S: Share + Drop> {
+pub struct BoardShare<'b, S: Beside + Drop> {
     board: &'b Board,
     seat: Seat,
     worker: u32,
@@ -32,7 +33,7 @@ pub struct BoardShare<'b, S: Share + Drop> {
     beside: S,
 }
 
-impl<'b, S: Share + Drop> Model for BoardShare<'b, S> {
+impl<'b, S: Beside + Drop> Model for BoardShare<'b, S> {
     ghost Value = { BoardShareView };
 
     ghost view = { λ s. record { board = s.board.now; worker = s.worker; seat = s.seat; lends_beside = S.lends s.beside } };
@@ -51,7 +52,7 @@ impl<'b> BoardShare<'b, Alone> {
     }
 }
 
-impl<'b, S: Share + Drop> BoardShare<'b, S> {
+impl<'b, S: Beside + Drop> BoardShare<'b, S> {
     /// The same with a share beside the board, which is told of each assignment that is offered, and is asked where the board
     /// has nothing to lend.
     pub fn beside(board: &'b Board, seat: Seat, worker: u32, beside: S) -> BoardShare<'b, S>
@@ -89,16 +90,17 @@ impl<'b, S: Share + Drop> BoardShare<'b, S> {
         seat
     }
 
-    /// Claims the next number of the board. Asks that the seat has fewer than 2^32 claims.
+    /// Claims the next number of the board, whose piece is about to be searched. Asks that the seat has fewer than 2^32 claims.
     pub fn claim(&mut self) -> u64
         requires { length self.old.seat.claimed < 2 ^ 32 }
         ensures { self.new ≡ record self.old { seat = record self.old.seat { claimed = self.old.seat.claimed ++ result ∷ [] } } }
     {
+        self.beside.begin();
         self.board.claim(&mut self.seat)
     }
 }
 
-impl<'b, S: Share + Drop> Share for BoardShare<'b, S> {
+impl<'b, S: Beside + Drop> Share for BoardShare<'b, S> {
     ghost keeps = { KeepsClaims };
 
     // A board of one worker has no other row to read.
@@ -126,7 +128,7 @@ impl<'b, S: Share + Drop> Share for BoardShare<'b, S> {
     }
 }
 
-impl<'b, S: Share + Drop> BoardShare<'b, S> {
+impl<'b, S: Beside + Drop> BoardShare<'b, S> {
     /// Where some worker offered a lesser key than that of `below`, reads the row of the next other worker in turn.
     fn borrow_from_row(&mut self, below: Number, into: &mut Assignment) -> bool
         ensures kept { KeepsClaims self.old self.new }

@@ -17,8 +17,8 @@ use pb_cubes::Pieces;
 use pb_inst::{Best, Instance, Memory};
 use pb_normal::Normal;
 use pb_notes::Notes;
-use pb_search::{Search, SearchTables, Share};
-use pb_share::{Beyond, BoardShare, Correspondence, NoNotes};
+use pb_search::{Search, SearchTables};
+use pb_share::{Beside, Beyond, BoardShare, Correspondence, NoNotes};
 use std::alloc::Global;
 
 /// The whole work of one worker: it claims numbers from the board until it gets one that is no piece, and searches each
@@ -110,7 +110,7 @@ pub(crate) fn work_over<'i, N: Notes, G: Gate>(
 }
 
 /// Searches the pieces that the share claims and the task is dealt, each within the budget, and answers their numbers.
-fn search_claimed<S: Share + Drop, G: Gate>(
+fn search_claimed<S: Beside + Drop, G: Gate>(
     alloc: Global,
     search: &mut Search<'_>,
     count: u32,
@@ -162,7 +162,7 @@ fn decisions_of(search: &Search<'_>, nodes: Option<u64>) -> Option<u64>
 }
 
 /// Claims the next number, and answers it where it is a piece's.
-fn claim_piece<S: Share + Drop>(share: &mut BoardShare<'_, S>, count: u32) -> Option<u32>
+fn claim_piece<S: Beside + Drop>(share: &mut BoardShare<'_, S>, count: u32) -> Option<u32>
     requires { length share.old.seat.claimed < 2 ^ 32 }
     ensures piece { IfSome result (λ piece. (piece < count) × (share.new.seat.claimed ≡ share.old.seat.claimed ++ piece ∷ [])) }
     ensures none { IfNone result (EndsPast count share.new.seat.claimed × ((task : Option TaskView) → pieces_among task count share.new.seat.claimed ≡ pieces_among task count share.old.seat.claimed)) }

@@ -131,6 +131,8 @@ enum Move {
     Borrow(Number, Option<u64>),
     /// All calls before the next look. They lend nothing.
     Pause(Number),
+    /// A piece begins.
+    Begin,
     /// The place has a fault from now on, or has none.
     Fail(bool),
     Close,
@@ -180,6 +182,7 @@ fn makes(
         Move::Offer(cost, bits) => exchange.offer(cost, &assignment(alloc, VARS, bits)?),
         Move::Borrow(below, bits) => return Ok(lent(alloc, exchange, below)? == bits),
         Move::Pause(below) => return is_quiet(alloc, exchange, below),
+        Move::Begin => exchange.begin(),
         Move::Fail(fails) => shelf.fails.set(fails),
         Move::Close => exchange.close(),
         Move::Calls(calls) => return Ok(shelf.had_calls(calls)),
@@ -220,6 +223,21 @@ const SCENES: &[(&str, u32, &[Move])] = &[
             Move::Put(2, 5, 0b1010),
             Move::Borrow(100, Some(0b1010)),
             Move::Calls(b"r2"),
+        ],
+    ),
+    (
+        "the first call of a piece looks",
+        3,
+        &[
+            Move::Borrow(100, None),
+            Move::Calls(b"r1r2r0"),
+            Move::Borrow(100, None),
+            Move::Calls(b""),
+            Move::Begin,
+            Move::Borrow(100, None),
+            Move::Calls(b"r2"),
+            Move::Pause(100),
+            Move::Calls(b""),
         ],
     ),
     (
