@@ -36,6 +36,7 @@ STEPS = [
     Step("recipes", "tests/recipes.py"),
     Step("ways", "tests/ways.py", after="library"),
     Step("packages", "tests/packages.py", after="library"),
+    Step("python", "tests/python_package.py", after="library"),
     Step("budgets", "tests/budgets.py"),
     Step("texts", "tests/texts.py"),
     Step("faults", "tests/faults.py"),

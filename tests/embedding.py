@@ -31,7 +31,12 @@ WATCH = ["valgrind", "--quiet", "--error-exitcode=9", "--leak-check=full", "--er
 ALONE, AND_ALL_THAT_FOLLOW = {}, {"REFUSE_ON": "1"}
 C_AROUND = '#include "pbcube.h"\n#include <inttypes.h>\n#include <stdio.h>\nint main(void)\n{\n%sreturn 0;\n}\n'
 RUST_AROUND = "use pbcube::Solver;\nfn main() -> Result<(), pbcube::Error> {\n%sOk(())\n}\n"
-DOCUMENTATION = "import doctest, pbcube, sys; sys.exit(doctest.testmod(pbcube).failed)"
+DOCUMENTATION = """import doctest, pbcube, sys
+runner = doctest.DocTestRunner()
+for shown in doctest.DocTestFinder().find(pbcube, "pbcube", module=False, globs=vars(pbcube).copy()):
+    runner.run(shown)
+sys.exit(runner.failures or runner.tries < 20)
+"""
 CARGO = '[package]\nname = "shown"\nversion = "0.1.0"\nedition = "2021"\n\n[dependencies]\npbcube = { path = "%s" }\n'
 
 

@@ -74,7 +74,7 @@ def other_versions():
         ("include/pbcube.h", f'#define PBCUBE_VERSION "{version()}"'),
         ("bindings/rust/Cargo.toml", f'version = "{version()}"'),
         ("bindings/python/pbcube/__init__.py", f'__version__ = "{version()}"'),
-        ("bindings/python/pbcube/__init__.py", f'_LIBRARY = "libpbcube.so.{version().split(".")[0]}"'),
+        ("bindings/python/pbcube/library.py", f'_LIBRARY = "libpbcube.so.{version().split(".")[0]}"'),
         ("packaging/changelog", f"pbcube ({version()}) unstable; urgency=low"),
         ("examples/clients/pbcube.msc", f'  "version": "{version()}",'),
         *((f"docs/{name}.1", f".Ql {name} {version()}") for name in PROGRAMS),

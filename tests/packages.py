@@ -41,6 +41,9 @@ model = pbcube.Model()
 x, y = model.variables(2)
 model.minimise(3 * x + 2 * y)
 model.add(x + y >= 1)
+here = model.solve()
+pbcube.searches._is_small = lambda _: False  # so that a child searches, which has to find the library too
+assert model.solve(time_limit=60) == here
 print(pbcube.__version__, model.solve().cost, pbcube._library._name)
 """
 CMAKE = """cmake_minimum_required(VERSION 3.13)
@@ -57,7 +60,8 @@ PLACED = [
     *(f"share/man/man1/{name}.1" for name in PROGRAMS),
     *(f"lib/{name}" for name in ("libpbcube.a", "libpbcube.so", SONAME, SHARED)),
     *("lib/pkgconfig/pbcube.pc", "lib/cmake/pbcube/pbcubeConfig.cmake", "lib/cmake/pbcube/pbcubeConfigVersion.cmake"),
-    *("include/pbcube.h", f"{PYTHON_FOLDER}/__init__.py", f"{PYTHON_FOLDER}/py.typed"),
+    "include/pbcube.h",
+    *(f"{PYTHON_FOLDER}/{it.name}" for it in (TOP / "bindings/python/pbcube").glob("*.*")),
 ]
 
 

@@ -1,0 +1,244 @@
+"""Literals, sums of them with coefficients, and constraints."""
+
+from __future__ import annotations
+
+import math
+from dataclasses import dataclass, field
+from decimal import Decimal
+from fractions import Fraction
+from operator import index
+from typing import Iterable, Mapping, Optional, Tuple, Union
+
+from .errors import Error, ForeignLiteral
+
+MOST_VARIABLES = 1_048_576
+_GREATEST_SUM = 2**126 - 1
+
+Exact = Union[int, Fraction]
+Number = Union[int, float, Fraction, Decimal]
+Terms = Tuple[Tuple[Exact, int], ...]
+Owners = Tuple[Tuple[int, int], ...]
+"""Of each model whose variables occur: its own number, and the greatest number of a variable."""
+
+
+def exact(number: object) -> Exact:
+    """The number, whole or as a fraction, with the value that it has: a float is what Python holds, and 0.1 is not 1/10."""
+    if isinstance(number, Fraction):
+        return tidy(number)
+    try:
+        return index(number)  # type: ignore[arg-type]
+    except TypeError:
+        pass
+    if not hasattr(number, "as_integer_ratio"):
+        raise TypeError(f"no number: {number!r}")
+    try:
+        return tidy(Fraction(*number.as_integer_ratio()))
+    except (OverflowError, ValueError):
+        raise Error("NotFinite", f"{number} is no finite number: leave out a bound that is infinite") from None
+
+
+def tidy(number: Exact) -> Exact:
+    """The number, whole where its value is."""
+    return number.numerator if number.denominator == 1 else number
+
+
+def whole(terms: Terms, bound: Exact = 0) -> Tuple[int, list[int], int]:
+    """The least factor by which the coefficients and the bound are whole; then coefficients and literals in turn, and the bound,
+    multiplied by it. Raises Error where they are too large a sum."""
+    factor = math.lcm(bound.denominator, *{coefficient.denominator for coefficient, _ in terms})
+    numbers = [number for coefficient, literal in terms for number in (int(coefficient * factor), literal)]
+    greatest = int(bound * factor)
+    if sum(map(abs, numbers[::2]), abs(greatest)) > _GREATEST_SUM:
+        rounded = ", once all are whole: round them, as by Fraction(number).limit_denominator(1000)"
+        advice = rounded if factor > 1 else ": take smaller units"
+        raise Error("TooLarge", f"the numbers of a statement add up to at most 2**126 - 1{advice}")
+    return factor, numbers, greatest
+
+
+def _joined(one: Owners, other: Owners) -> Owners:
+    if one == other or not other:
+        return one
+    greatest = dict(one)
+    for owner, number in other:
+        greatest[owner] = max(number, greatest.get(owner, 0))
+    return tuple(greatest.items())
+
+
+def check_owners(owners: Owners, known: Mapping[int, int]) -> None:
+    """Raises ForeignLiteral unless each variable is of a model that is known, and up to the number that is known of it."""
+    if any(number > known.get(owner, 0) for owner, number in owners):
+        raise ForeignLiteral()
+
+
+@dataclass(frozen=True, eq=False)
+class Literal:
+    """A variable, or its negation `~x`, which is worth 1 where the variable is False.
+
+    `model.variable` makes one. One that is made by its number alone is of every model."""
+
+    number: int
+    name: Optional[str] = field(default=None, repr=False)
+    owner: Optional[int] = field(default=None, repr=False)
+
+    def __post_init__(self) -> None:
+        if not 1 <= abs(index(self.number)) <= MOST_VARIABLES:
+            raise Error("BadVariable")
+
+    @property
+    def owners(self) -> Owners:
+        """As those of a sum."""
+        return () if self.owner is None else ((self.owner, abs(self.number)),)
+
+    def __invert__(self) -> Literal:
+        return Literal(-self.number, self.name, self.owner)
+
+    def __mul__(self, coefficient: Number) -> Sum:
+        return Sum(((exact(coefficient), self.number),), 0, self.owners)
+
+    __rmul__ = __mul__
+
+    def __truediv__(self, divisor: Number) -> Sum:
+        return self * 1 / divisor
+
+    def __neg__(self) -> Sum:
+        return self * -1
+
+    def __add__(self, other: Expression) -> Sum:
+        return self * 1 + other
+
+    def __radd__(self, other: Number) -> Sum:
+        return self * 1 + other
+
+    def __sub__(self, other: Expression) -> Sum:
+        return self * 1 - other
+
+    def __rsub__(self, other: Number) -> Sum:
+        return self * -1 + other
+
+    def __ge__(self, bound: Expression) -> Constraint:
+        return self * 1 >= bound
+
+    def __le__(self, bound: Expression) -> Constraint:
+        return self * 1 <= bound
+
+    def __eq__(self, bound: object) -> Constraint:  # type: ignore[override]
+        return self * 1 == bound
+
+    __hash__ = object.__hash__
+
+    def __bool__(self) -> bool:
+        raise TypeError("a literal has no truth value: an answer tells it")
+
+
+@dataclass(frozen=True, eq=False)
+class Sum:
+    """A sum of literals with coefficients, and a number. Each `+` makes a new one: of very many parts, take their `total`."""
+
+    terms: Terms = ()
+    constant: Exact = 0
+    owners: Owners = field(default=(), repr=False)
+
+    def __add__(self, other: Expression) -> Sum:
+        added = as_sum(other)
+        return Sum(self.terms + added.terms, tidy(self.constant + added.constant), _joined(self.owners, added.owners))
+
+    __radd__ = __add__
+
+    def __mul__(self, factor: Number) -> Sum:
+        by = exact(factor)
+        return Sum(tuple((tidy(by * coefficient), literal) for coefficient, literal in self.terms), tidy(by * self.constant), self.owners)
+
+    __rmul__ = __mul__
+
+    def __truediv__(self, divisor: Number) -> Sum:
+        return self * (1 / Fraction(exact(divisor)))
+
+    def __neg__(self) -> Sum:
+        return self * -1
+
+    def __sub__(self, other: Expression) -> Sum:
+        return self + as_sum(other) * -1
+
+    def __rsub__(self, other: Number) -> Sum:
+        return self * -1 + other
+
+    def _stands(self, relation: str, other: object) -> Constraint:
+        left = self - as_sum(other)
+        return Constraint(left.terms, relation, -left.constant, left.owners)
+
+    def __ge__(self, other: Expression) -> Constraint:
+        return self._stands(">=", other)
+
+    def __le__(self, other: Expression) -> Constraint:
+        return self._stands("<=", other)
+
+    def __eq__(self, other: object) -> Constraint:  # type: ignore[override]
+        return self._stands("==", other)
+
+    __hash__ = object.__hash__
+
+    def __bool__(self) -> bool:
+        raise TypeError("a sum has no truth value: compare it")
+
+
+Expression = Union[Literal, Sum, Number]
+"""What a sum may be made of."""
+
+
+def as_sum(value: object) -> Sum:
+    """The sum that this is, of a literal or a number too."""
+    if isinstance(value, Sum):
+        return value
+    if isinstance(value, Literal):
+        return value * 1
+    try:
+        return Sum(constant=exact(value))
+    except TypeError:
+        raise TypeError(f"no sum of literals: {value!r}") from None
+
+
+def as_literal(value: object) -> Literal:
+    """The literal that this is."""
+    if isinstance(value, Literal):
+        return value
+    raise TypeError(f"no literal: {value!r}")
+
+
+def total(parts: Iterable[Expression]) -> Sum:
+    """The sum of all parts, 0 of none, in time by their number, where `sum` takes it by the square of that."""
+    sums = [as_sum(part) for part in parts]
+    owners: Owners = ()
+    for each in sums:
+        owners = _joined(owners, each.owners)
+    terms = tuple(term for each in sums for term in each.terms)
+    return Sum(terms, tidy(sum(each.constant for each in sums)), owners)
+
+
+@dataclass(frozen=True)
+class Constraint:
+    """A sum of literals that is at least, at most or exactly a number."""
+
+    terms: Terms
+    relation: str
+    bound: Exact
+    owners: Owners = field(default=(), repr=False, compare=False)
+
+    def __bool__(self) -> bool:
+        raise TypeError("a constraint has no truth value: add it to a model")
+
+
+def as_constraint(value: object) -> Constraint:
+    """The constraint that this is. What Python itself compared holds always or never."""
+    if isinstance(value, bool):
+        return Constraint((), ">=", 0 if value else 1)
+    if isinstance(value, Constraint):
+        return value
+    raise TypeError(f"no constraint: {value!r}")
+
+
+def lower_bounds(constraint: Constraint) -> list[Constraint]:
+    """The constraint as sums that are at least a number."""
+    negated = tuple((-coefficient, literal) for coefficient, literal in constraint.terms)
+    turned = Constraint(negated, ">=", -constraint.bound, constraint.owners)
+    kept = Constraint(constraint.terms, ">=", constraint.bound, constraint.owners)
+    return {">=": [kept], "<=": [turned], "==": [kept, turned]}[constraint.relation]
