@@ -6,7 +6,10 @@
 Without a word it takes the programs that the merge gate built: pbcube, pbcube_pieces, pbcube_task and
 pbcube_join. Each runs its own rows, in a new folder with the files below.
 """
+import bz2
+import errno
 import hashlib
+import lzma
 import os
 import stat
 import subprocess
@@ -16,9 +19,14 @@ from dataclasses import dataclass, field
 from pathlib import Path
 
 sys.dont_write_bytecode = True
-from lib import built, side_by_side, version
+from lib import built, reason, side_by_side, version
+
 SECONDS = 60
 FULL = "/dev/full"  # takes no byte
+CLOSED = "|"  # a pipe that nobody reads
+MISSING = reason(errno.ENOENT)
+FOLDER = reason(errno.EISDIR)
+NO_ROOM = reason(errno.ENOSPC)
 
 TIE = "* #variable= 3 #constraint= 2\nmin: 2 x1 3 x2 1 x3 ;\n1 x1 1 x2 >= 1 ;\n1 x2 1 x3 >= 1 ;\n"
 OWN_CUBES = "p inccnf\n1 20 0\na 1 0\n"  # one, of twenty variables
@@ -63,6 +71,12 @@ FILES = {
     "none_feasible.opb": "1 x1 >= 1 ;\n1 x1 = 0 ;\n",
     "no_objective.opb": "* #variable= 3 #constraint= 1\n1 x2>=1;\n",
     "product.opb": "1 x1 x2 >= 1 ;\n",
+    "over.opb": "1 x1 1 x0 >= 1 ;\n",
+    "maximum.opb": "max: 1 x1 ;\n1 x1 >= 0 ;\n",
+    "soft.opb": "soft: 9 ;\n[2] 1 x1 >= 1 ;\n",
+    "marked.opb": "\ufeff1 x1 >= 1 ;\n",
+    "weighted.wcnf": "p wcnf 2 2 9\n9 1 2 0\n1 -1 0\n",
+    "hard.wcnf": "h 1 2 0\n1 -1 0\n",
     "older_spelling.opb": "* a comment\n+1*x1 >= 1 ;\n",
     "one_clause.cnf": "p cnf 2 2\n1 2 0\n-1 2 0\n",
     "own_cube.icnf": "p inccnf\n1 2 0\na 1 0\n",
@@ -105,6 +119,7 @@ FILES = {
     "unread/0.report": FIRST,
     **PARTS,
 }
+PACKED = {"packed.xz": lzma.compress(TIE.encode()), "packed.bz2": bz2.compress(TIE.encode())}
 # names of reports, and the numbers of the pieces that they tell
 NUMBERS = {
     "names/007.out": 7,
@@ -119,6 +134,8 @@ NUMBERS = {
 }
 UNREADABLE = ("broken.opb", "broken.cubes", "unread/index")  # folders: opened, and then not read
 SOCKET = "7.out"  # neither a folder nor opened
+UNOPENED = "private.opb"  # a file that nobody may open, but for root
+IS_ROOT = os.geteuid() == 0
 
 
 @dataclass(frozen=True)
@@ -143,12 +160,30 @@ def helped(words, *parts):
     return Row(words, out=parts)
 
 
+def closed(*words):
+    """Rows of runs that write to a pipe which nobody reads: they end in silence."""
+    return [Row(it, status=1, out_to=CLOSED) for it in words]
+
+
+def unopened(name, *words):
+    """Rows of runs that may not open the file, where there is such a file."""
+    why = f"{name}: cannot read {UNOPENED}: {reason(errno.EACCES)}\n"
+    return [] if IS_ROOT else [Row(f"{it} {UNOPENED}".strip(), err=why, status=1) for it in words]
+
+
+def hinted(words, kind, hint):
+    """A row of a run that refuses its text for this fault at line 1, and tells this hint."""
+    return Row(words, f"c refused: {kind} at line 1\n{UNSUPPORTED}", f"pbcube: {hint}\n")
+
+
 def told_version(name):
     told = f"{name} {version()}\n"
-    return [Row("--version", told), Row("-V", told), Row("--version", err=f"{name}: cannot write\n", status=1, out_to=FULL)]
+    return [Row("--version", told), Row("-V", told), Row("--version", err=f"{name}: cannot write: {NO_ROOM}\n", status=1, out_to=FULL)]
 
 
 UNSUPPORTED = "s UNSUPPORTED\n"
+IS_WCNF = "begins as WCNF, which is not read: write it as OPB, with the weights in min:"
+PRODUCT = hinted("product.opb", "NonLinear", "line 1, column 6: 'x2': no product is read: write a variable of its own for it")
 PBCUBE = [
     Row("tie.opb", SECOND, status=30),
     Row("--format opb --workers 64 --split 0 no_objective.opb", "s SATISFIABLE\nv -x1 x2 -x3\n", status=10),
@@ -163,7 +198,20 @@ PBCUBE = [
     Row("--nodes 1000000000 tie.opb", SECOND, status=30),
     Row("--nodes 0 none_feasible.opb", "s UNSATISFIABLE\n", status=20),
     # refused texts, with a hint where there is one
-    Row("product.opb", f"c refused: NonLinear at line 1\n{UNSUPPORTED}"),
+    PRODUCT,
+    hinted("over.opb", "BadVariable", "line 1, column 8: 'x0': variables are numbered from 1 to 1048576"),
+    hinted("maximum.opb", "Syntax", "line 1, column 1: 'max:': write min: of the negated sum"),
+    hinted(
+        "soft.opb",
+        "Syntax",
+        "line 1, column 1: 'soft:': no soft constraint is read: give each a variable that satisfies it, with its weight in min:",
+    ),
+    hinted("marked.opb", "Syntax", "marked.opb begins with a byte order mark: save it as ASCII, without one"),
+    hinted("weighted.wcnf", "Unfinished", f"weighted.wcnf {IS_WCNF}"),
+    hinted("--format cnf weighted.wcnf", "BadHeader", f"weighted.wcnf {IS_WCNF}"),
+    hinted("--format cnf hard.wcnf", "BadHeader", f"hard.wcnf {IS_WCNF}"),
+    hinted("packed.xz", "Unfinished", "packed.xz is compressed by xz: unxz it first"),
+    hinted("packed.bz2", "Unfinished", "packed.bz2 is compressed by bzip2: bunzip2 it first"),
     Row("--cubes over.cubes tie.opb", f"c refused cubes: BadVariable at line 1\n{UNSUPPORTED}"),
     Row("--split 2 none_feasible.opb", f"c refused split: BadSplit\n{UNSUPPORTED}"),
     Row(
@@ -178,17 +226,19 @@ PBCUBE = [
         "pbcube: tie.opb begins as OPB: --format opb reads it\n",
     ),
     # files that are not there or cannot be read: both are opened before one is read, and the input is first in each
-    Row("none.opb", err="pbcube: cannot read none.opb\n", status=1),
-    Row("broken.opb", err="pbcube: cannot read broken.opb\n", status=1),
-    Row("--cubes none.cubes tie.opb", err="pbcube: cannot read none.cubes\n", status=1),
-    Row("--cubes broken.cubes tie.opb", err="pbcube: cannot read broken.cubes\n", status=1),
-    Row("--cubes none.cubes none.opb", err="pbcube: cannot read none.opb\n", status=1),
-    Row("--cubes none.cubes broken.opb", err="pbcube: cannot read none.cubes\n", status=1),
-    Row("--cubes broken.cubes broken.opb", err="pbcube: cannot read broken.opb\n", status=1),
-    Row("--cubes broken.cubes product.opb", f"c refused: NonLinear at line 1\n{UNSUPPORTED}"),
+    Row("none.opb", err=f"pbcube: cannot read none.opb: {MISSING}\n", status=1),
+    Row("broken.opb", err=f"pbcube: cannot read broken.opb: {FOLDER}\n", status=1),
+    Row("--cubes none.cubes tie.opb", err=f"pbcube: cannot read none.cubes: {MISSING}\n", status=1),
+    Row("--cubes broken.cubes tie.opb", err=f"pbcube: cannot read broken.cubes: {FOLDER}\n", status=1),
+    Row("--cubes none.cubes none.opb", err=f"pbcube: cannot read none.opb: {MISSING}\n", status=1),
+    Row("--cubes none.cubes broken.opb", err=f"pbcube: cannot read none.cubes: {MISSING}\n", status=1),
+    Row("--cubes broken.cubes broken.opb", err=f"pbcube: cannot read broken.opb: {FOLDER}\n", status=1),
+    Row("--cubes broken.cubes product.opb", PRODUCT.out, PRODUCT.err),
+    *unopened("pbcube", "", "--cubes none.cubes"),
     # outputs that fail: the standard error's is ignored
-    Row("tie.opb", err="pbcube: cannot write\n", status=1, out_to=FULL),
-    Row("--help", err="pbcube: cannot write\n", status=1, out_to=FULL),
+    *closed("tie.opb", "none_feasible.opb", "product.opb", "--workers 2 --split 1 tie.opb", "--help", "--version"),
+    Row("tie.opb", err=f"pbcube: cannot write: {NO_ROOM}\n", status=1, out_to=FULL),
+    Row("--help", err=f"pbcube: cannot write: {NO_ROOM}\n", status=1, out_to=FULL),
     Row("none.opb", status=1, err_to=FULL),
     Row("--nothing", status=2, err_to=FULL),
     Row("tie.opb", status=1, out_to=FULL, err_to=FULL),
@@ -250,8 +300,8 @@ PIECES = [
         files={"eleven/index": index_of(OWN_CUBES, "cnf", 20, 11)},
     ),
     Row("--cubes hundred.cubes --out hundred tie.opb", "pieces 101\n", files={"hundred/007.opb": TIE_WITH_CUBE}),
-    Row("--out untold tie.opb", err="pbcube_pieces: cannot write\n", status=1, out_to=FULL, files={"untold/0.opb": TIE}),
-    Row("--out pieces none.opb", err="pbcube_pieces: cannot read none.opb\n", status=1),
+    Row("--out untold tie.opb", err=f"pbcube_pieces: cannot write: {NO_ROOM}\n", status=1, out_to=FULL, files={"untold/0.opb": TIE}),
+    Row("--out pieces none.opb", err=f"pbcube_pieces: cannot read none.opb: {MISSING}\n", status=1),
     Row("--out pieces product.opb", err="pbcube_pieces: product.opb: NonLinear at line 1\n", status=1),
     Row(
         "--cubes second_over.cubes --out pieces tie.opb",
@@ -265,16 +315,24 @@ PIECES = [
     ),
     Row("--format cnf --out pieces tie.opb", err="pbcube_pieces: tie.opb: BadHeader at line 1\n", status=1),
     # folders and files that cannot be made or written
-    Row("--out product.opb tie.opb", err="pbcube_pieces: cannot use product.opb\n", status=1),
+    Row("--out product.opb tie.opb", err=f"pbcube_pieces: cannot use product.opb: {reason(errno.EEXIST)}\n", status=1),
     Row("--out with_index tie.opb", err="pbcube_pieces: with_index holds an index already\n", status=1),
     Row(
         "--split 1 --out with_piece tie.opb",
-        err="pbcube_pieces: cannot write with_piece/0.opb\n",
+        err=f"pbcube_pieces: cannot write with_piece/0.opb: {reason(errno.EEXIST)}\n",
         status=1,
         files={"with_piece/0.opb": "kept\n"},
     ),
-    Row("--out unwritten tie.opb", err="pbcube_pieces: cannot write unwritten/0.opb\n", status=1, may_write_files=False),
-    Row("--help", err="pbcube_pieces: cannot write\n", status=1, out_to=FULL),
+    Row(
+        "--out unwritten tie.opb",
+        err=f"pbcube_pieces: cannot write unwritten/0.opb: {reason(errno.EFBIG)}\n",
+        status=1,
+        may_write_files=False,
+    ),
+    Row("--help", err=f"pbcube_pieces: cannot write: {NO_ROOM}\n", status=1, out_to=FULL),
+    Row("--out unread_by_any tie.opb", status=1, out_to=CLOSED, files={"unread_by_any/0.opb": TIE}),
+    *closed("--help"),
+    *unopened("pbcube_pieces", "--out pieces"),
     refused("tie.opb", "error: the following required arguments were not provided"),
     *told_version("pbcube_pieces"),
 ]
@@ -325,12 +383,14 @@ TASK = [
     Row("--cubes second_over.cubes --task 0 --tasks 1 tie.opb", f"c refused cubes: BadVariable at line 2\n{UNSUPPORTED}"),
     Row("--split 4 --task 0 --tasks 1 tie.opb", f"c refused split: BadSplit\n{UNSUPPORTED}"),
     Row("--format cnf --task 0 --tasks 1 tie.opb", f"c refused: BadHeader at line 1\n{UNSUPPORTED}"),
-    Row("--task 0 --tasks 1 none.opb", err="pbcube_task: cannot read none.opb\n", status=1),
-    Row("--task 0 --tasks 1 broken.opb", err="pbcube_task: cannot read broken.opb\n", status=1),
-    Row("--cubes none.cubes --task 0 --tasks 1 tie.opb", err="pbcube_task: cannot read none.cubes\n", status=1),
+    Row("--task 0 --tasks 1 none.opb", err=f"pbcube_task: cannot read none.opb: {MISSING}\n", status=1),
+    Row("--task 0 --tasks 1 broken.opb", err=f"pbcube_task: cannot read broken.opb: {FOLDER}\n", status=1),
+    Row("--cubes none.cubes --task 0 --tasks 1 tie.opb", err=f"pbcube_task: cannot read none.cubes: {MISSING}\n", status=1),
     # outputs that fail
-    Row("--task 0 --tasks 1 tie.opb", err="pbcube_task: cannot write\n", status=1, out_to=FULL),
-    Row("--help", err="pbcube_task: cannot write\n", status=1, out_to=FULL),
+    Row("--task 0 --tasks 1 tie.opb", err=f"pbcube_task: cannot write: {NO_ROOM}\n", status=1, out_to=FULL),
+    Row("--help", err=f"pbcube_task: cannot write: {NO_ROOM}\n", status=1, out_to=FULL),
+    *closed("--task 0 --tasks 1 tie.opb", "--task 0 --tasks 1 product.opb", "--help"),
+    *unopened("pbcube_task", "--task 0 --tasks 1"),
     Row("--task 0 --tasks 1 none.opb", status=1, err_to=FULL),
     # refused words
     refused("--task 0 tie.opb", "--tasks <T>"),
@@ -379,7 +439,7 @@ JOIN = [
     # folders
     Row("--pieces 3 tie.opb 2 reports", SECOND, status=30),
     Row("--pieces 1 tie.opb empty", "s UNKNOWN\n", states([0])),
-    rejected("--pieces 1 tie.opb none", "cannot read none"),
+    rejected("--pieces 1 tie.opb none", f"cannot read none: {MISSING}"),
     # folders with an index
     Row("tie.opb cut", SECOND, status=30),
     Row("--pieces 3 tie.opb cut", SECOND, status=30),
@@ -393,7 +453,7 @@ JOIN = [
     rejected("tie.opb too_many", "too_many/index: line 1 tells no number of pieces"),
     rejected("tie.opb torn", "torn/index: line 3 is not that of an index of the instance"),
     rejected("tie.opb longer", "longer/index: line 6 is not that of an index of the instance"),
-    rejected("tie.opb unread", "unread/index: cannot be read"),
+    rejected("tie.opb unread", f"unread/index: cannot be read: {FOLDER}"),
     rejected("tie.opb reports", "the number of pieces is told neither by --pieces nor by an index"),
     rejected("tie.opb", "the number of pieces is told neither by --pieces nor by an index"),
     # reports that are rejected
@@ -401,8 +461,8 @@ JOIN = [
     rejected("--pieces 3 tie.opb torn-1.out", "torn-1.out: Unfinished at line 3"),
     rejected("--pieces 3 tie.opb wrong-1.out", "wrong-1.out: the o line is not the cost of the assignment"),
     rejected("--pieces 3 tie.opb report.out", "report.out: the name has no number of a piece before its last dot"),
-    rejected(f"--pieces 3 tie.opb {SOCKET}", f"{SOCKET}: cannot be read"),
-    rejected("--pieces 1 none.opb", "cannot read none.opb"),
+    rejected(f"--pieces 3 tie.opb {SOCKET}", f"{SOCKET}: cannot be read: {reason(errno.ENXIO)}"),
+    rejected("--pieces 1 none.opb", f"cannot read none.opb: {MISSING}"),
     # reports of tasks
     Row("--tasks 2 tie.opb parts", SECOND, status=30),
     Row("--tasks 2 tie.opb parts/second.report parts/first.report", SECOND, status=30),
@@ -423,18 +483,20 @@ JOIN = [
     rejected("--tasks 2 tie.opb torn.part", "torn.part: Unfinished at line 7"),
     rejected("--tasks 2 tie.opb others.part", "others.part: OtherTask at line 3"),
     rejected("--tasks 1 tie.opb out/0.out", "out/0.out: Heading at line 1"),
-    rejected(f"--tasks 1 tie.opb {SOCKET}", f"{SOCKET}: cannot be read"),
-    rejected("--tasks 1 tie.opb none", "cannot read none"),
-    rejected("--tasks 1 none.opb", "cannot read none.opb"),
+    rejected(f"--tasks 1 tie.opb {SOCKET}", f"{SOCKET}: cannot be read: {reason(errno.ENXIO)}"),
+    rejected("--tasks 1 tie.opb none", f"cannot read none: {MISSING}"),
+    rejected("--tasks 1 none.opb", f"cannot read none.opb: {MISSING}"),
     rejected("--tasks 1 product.opb", "product.opb: NonLinear at line 1"),
-    Row("--tasks 2 tie.opb parts", err="pbcube_join: cannot write\n", status=1, out_to=FULL),
+    Row("--tasks 2 tie.opb parts", err=f"pbcube_join: cannot write: {NO_ROOM}\n", status=1, out_to=FULL),
     Row("--tasks 1 tie.opb", "s UNKNOWN\n", err_to=FULL),
     refused("--tasks 0 tie.opb", "0 is not in 1..=4294967295"),
     refused("--tasks 4294967296 tie.opb", "4294967296 is not in 1..=4294967295"),
     refused("--tasks 1 --pieces 1 tie.opb", "--pieces and --tasks cannot be used together"),
     rejected("--pieces 3 product.opb", "product.opb: NonLinear at line 1"),
-    Row("--pieces 1 tie.opb", err="pbcube_join: cannot write\n", status=1, out_to=FULL),
-    Row("--help", err="pbcube_join: cannot write\n", status=1, out_to=FULL),
+    Row("--pieces 1 tie.opb", err=f"pbcube_join: cannot write: {NO_ROOM}\n", status=1, out_to=FULL),
+    Row("--help", err=f"pbcube_join: cannot write: {NO_ROOM}\n", status=1, out_to=FULL),
+    *closed("--pieces 3 tie.opb 2 out/0.out piece-001.out", "--tasks 2 tie.opb parts", "--help"),
+    *unopened("pbcube_join", "--pieces 1"),
     refused("--pieces 0 tie.opb", "0 is not in 1..="),
     refused("--format wcnf --pieces 1 tie.opb", "opb, cnf and icnf"),
     *(number_row(name, number) for name, number in NUMBERS.items()),
@@ -452,9 +514,21 @@ def make_files(room):
     for name, text in {**FILES, **dict.fromkeys(NUMBERS, "s UNKNOWN\n")}.items():
         (room / name).parent.mkdir(parents=True, exist_ok=True)
         (room / name).write_text(text)
+    for name, data in PACKED.items():
+        (room / name).write_bytes(data)
     for name in UNREADABLE:
         (room / name).mkdir()
+    (room / UNOPENED).touch(mode=0)
     os.mknod(room / SOCKET, stat.S_IFSOCK | 0o600)
+
+
+def opened(name):
+    """The file of this name, to be written."""
+    if name != CLOSED:
+        return open(name or os.devnull, "w")
+    read, write = os.pipe()
+    os.close(read)
+    return open(write, "w")
 
 
 def run(program, row, room):
@@ -462,7 +536,7 @@ def run(program, row, room):
     # help tells the name by which a program is called, which is not that of each file
     call = "exec -a \"$0\" \"$@\"" if row.may_write_files else "trap '' XFSZ; ulimit -f 0; exec -a \"$0\" \"$@\""
     words = ["bash", "-c", call, name_of(program), program, *row.words.split()]
-    with open(row.out_to or os.devnull, "w") as out, open(row.err_to or os.devnull, "w") as err:
+    with opened(row.out_to) as out, opened(row.err_to) as err:
         ran = subprocess.run(
             words,
             cwd=room,

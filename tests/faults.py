@@ -9,6 +9,7 @@ refused; each open, read and write fails; each read and write moves one byte. A 
 exactly the report of want of memory, or with status 1 and its line on standard error. Of pbcube_pieces and pbcube_join, which
 end with status 1 and a line where memory is refused, and of pbcube_task only the requests for memory are tried. Without a C compiler nothing is run.
 """
+import errno
 import os
 import subprocess
 import sys
@@ -18,7 +19,7 @@ from pathlib import Path
 
 sys.dont_write_bytecode = True
 from commands import ROWS, TIE, index_of, part, name_of
-from lib import SECONDS, Ended, built, preloaded, ran, side_by_side
+from lib import SECONDS, Ended, built, preloaded, ran, reason, side_by_side
 
 QUIET_RUNS = 3  # how many runs without a fault end the count, since the order of events is another in each run
 MOST_CALLS = 10_000
@@ -53,7 +54,8 @@ NO_MEMORY = {
     "pbcube_task": Ended("c refused: Memory\ns UNKNOWN\n", "", 0),
     "pbcube_join": Ended("", "pbcube_join: out of memory\n", 1),
 }
-CANNOT_WRITE = "pbcube: cannot write\n"
+CANNOT_WRITE = "pbcube: cannot write: "
+FAILED = f"{reason(errno.EIO)}\n"  # what faults.c tells of reads and writes
 
 
 @dataclass(frozen=True)
@@ -79,6 +81,7 @@ def solved(words, out, status):
 
 TIE_REPORT = "o 3\ns OPTIMUM FOUND\nv -x1 x2 -x3\n"
 UNSUPPORTED = "s UNSUPPORTED\n"
+PRODUCT = "pbcube: line 1, column 6: 'x2': no product is read: write a variable of its own for it\n"
 CASES = [
     solved("tie.opb", TIE_REPORT, 30),
     solved("negative.opb", "o -2\ns OPTIMUM FOUND\nv -x1 x2\n", 30),
@@ -88,12 +91,12 @@ CASES = [
     solved("--format icnf cube.icnf", "s SATISFIABLE\nv -1 2 0\n", 10),
     solved("--cubes long.cubes tie.opb", TIE_REPORT, 30),
     solved("--cubes over.cubes tie.opb", f"c refused cubes: BadVariable at line 1\n{UNSUPPORTED}", 0),
-    solved("product.opb", f"c refused: NonLinear at line 1\n{UNSUPPORTED}", 0),
+    Case("product.opb", Ended(f"c refused: NonLinear at line 1\n{UNSUPPORTED}", PRODUCT, 0)),
     solved("long.opb", f"s SATISFIABLE\nv{''.join(f' -x{i}' for i in range(1, 1000))} x1000\n", 10),
     Case("--split 2 contradiction.opb", Ended(f"c refused split: BadSplit\n{UNSUPPORTED}", "", 0)),
     Case("clauses.cnf", Ended(f"c refused: Unfinished at line 1\n{UNSUPPORTED}", "pbcube: clauses.cnf begins as DIMACS CNF: --format cnf reads it\n", 0)),
     Case("older.opb", Ended(f"c refused: Syntax at line 2\n{UNSUPPORTED}", "pbcube: line 2, column 1: '+1*x1'\n", 0)),
-    Case("none.opb", Ended("", "pbcube: cannot read none.opb\n", 1)),
+    Case("none.opb", Ended("", f"pbcube: cannot read none.opb: {reason(errno.ENOENT)}\n", 1)),
 ]
 # command lines of each program, and their statuses: what is written is taken from a run without a fault
 COMMAND_LINES = {
@@ -121,13 +124,13 @@ class Fault:
             return self.may_end_unwritten(case.ordinary, ended)
         if self.kind == "read" and case.is_refused() and ended == case.without_hint():
             return True
-        return ended in [Ended("", f"pbcube: cannot read {file}\n", 1) for file in case.files()]
+        return ended in [Ended("", f"pbcube: cannot read {file}: {FAILED}", 1) for file in case.files()]
 
     def may_end_unwritten(self, ordinary, ended):
         """A report that is not taken whole is a fault; a line on standard error that is not taken is none."""
         if ordinary.err and ended.out == ordinary.out:
             return ordinary.err.startswith(ended.err) and ended.status == ordinary.status
-        said = "" if self.how == "on" else CANNOT_WRITE
+        said = "" if self.how == "on" else CANNOT_WRITE + FAILED
         return ended.out != ordinary.out and ordinary.out.startswith(ended.out) and ended.err == said and ended.status == 1
 
 
@@ -231,7 +234,7 @@ def unreported(bench):
     """Whether words that find no memory end with a line where the report of that is not taken, as how many runs well and badly."""
     with open("/dev/full", "w") as full:
         ended, is_come = bench.run_with(Fault("memory", "on"), 1, "tie.opb", out=full)
-    if is_come and ended == Ended("", CANNOT_WRITE, 1):
+    if is_come and ended == Ended("", f"{CANNOT_WRITE}{reason(errno.ENOSPC)}\n", 1):
         return 1, 0
     print(f"faults: {bench.program.name}: no memory, and an output that fails: {ended}")
     return 0, 1

@@ -47,6 +47,11 @@ def version():
     return (TOP / "VERSION").read_text().strip()
 
 
+def reason(number):
+    """How a program tells why the system refused a call, by the number of the error."""
+    return f"{os.strerror(number)} (os error {number})"
+
+
 def examples():
     """The instances of examples/, each a file whose ending is its format."""
     return sorted(it for it in (TOP / "examples").iterdir() if it.suffix[1:] in FORMATS)

@@ -62,7 +62,7 @@ fn read_file<'a, F: Folders>(folders: &mut F, name: &'a str) -> Result<Vec<u8>, 
     match folders.read(name) {
         Ok(text) => Ok(text),
         Err(error) if error.kind() == ErrorKind::OutOfMemory => Err(DivisionFault::Memory),
-        Err(_) => Err(DivisionFault::CannotRead(name)),
+        Err(error) => Err(DivisionFault::CannotRead(name, error)),
     }
 }
 

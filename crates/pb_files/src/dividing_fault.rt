@@ -4,12 +4,13 @@ ghost use Rattle.std.specs.Prelude.{◌≡◌};
 use crate::pieces_fault::PiecesFault;
 use pb_report::Refusal;
 use std::alloc::AllocError;
+use std::io;
 
 /// What keeps an instance from being read and divided.
-#[derive(Clone, Copy, Debug, PartialEq, Eq)]
+#[derive(Clone, Copy, Debug)]
 pub enum DivisionFault<'a> {
-    /// The file cannot be opened or read.
-    CannotRead(&'a str),
+    /// The file cannot be opened or read, for this reason.
+    CannotRead(&'a str, io::Error),
     /// The instance, the cubes, the split or the number of cubes is refused. The name is that of the cube file for its cubes, and
     /// else that of the instance's file.
     Refused(&'a str, Refusal),
@@ -26,7 +27,7 @@ impl From<AllocError> for DivisionFault<'_> {
 impl<'a> From<DivisionFault<'a>> for PiecesFault<'a> {
     fn from(fault: DivisionFault<'a>) -> PiecesFault<'a> {
         match fault {
-            DivisionFault::CannotRead(name) => PiecesFault::CannotRead(name),
+            DivisionFault::CannotRead(name, reason) => PiecesFault::CannotRead(name, reason),
             DivisionFault::Refused(name, Refusal::Input(fault) | Refusal::Cubes(fault)) => {
                 PiecesFault::Refused(name, fault)
             }

@@ -40,13 +40,13 @@ fn make_room<'a, F: Folders>(
 ) -> Result<(), PiecesFault<'a>>
     ensures { OnOk result (MakesRoom F.makes F.looks folder.now index.now folders.old folders.new) }
 {
-    if folders.make_folder(folder).is_err() {
-        return Err(PiecesFault::CannotUse(folder));
+    if let Err(error) = folders.make_folder(folder) {
+        return Err(PiecesFault::CannotUse(folder, error));
     }
     match folders.exists(index) {
         Ok(false) => Ok(()),
         Ok(true) => Err(PiecesFault::HoldsIndex(folder)),
-        Err(_) => Err(PiecesFault::CannotUse(folder)),
+        Err(error) => Err(PiecesFault::CannotUse(folder, error)),
     }
 }
 
@@ -94,7 +94,6 @@ fn write_one<'a, F: Folders>(
     match written {
         Ok(()) => {}
         Err(WriteFault::Memory) => return Err(PiecesFault::Memory),
-        Err(WriteFault::Write) => return Err(PiecesFault::CannotWrite(file)),
         Err(fault) => return Err(PiecesFault::HasNoText(file, fault)),
     }
     put_file(folders, file, &text)
@@ -135,6 +134,6 @@ fn cannot_write<'a>(file: String, error: &io::Error) -> PiecesFault<'a> {
     if error.kind() == ErrorKind::OutOfMemory {
         PiecesFault::Memory
     } else {
-        PiecesFault::CannotWrite(file)
+        PiecesFault::CannotWrite(file, *error)
     }
 }

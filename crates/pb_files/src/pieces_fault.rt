@@ -10,9 +10,9 @@ use thiserror::Error;
 /// What keeps pieces from being written, with the name of the file that it was met at.
 #[derive(Debug, Drop, Error)]
 pub enum PiecesFault<'a> {
-    /// The file cannot be opened or read.
-    #[error("cannot read {0}")]
-    CannotRead(&'a str),
+    /// The file cannot be opened or read, for this reason.
+    #[error("cannot read {0}: {1}")]
+    CannotRead(&'a str, io::Error),
     /// The file is refused.
     #[error("{0}: {1}")]
     Refused(&'a str, ReadFault),
@@ -22,15 +22,15 @@ pub enum PiecesFault<'a> {
     /// All cubes together are more than there may be.
     #[error("there are too many cubes")]
     TooManyCubes,
-    /// The folder cannot be made or looked into.
-    #[error("cannot use {0}")]
-    CannotUse(&'a str),
+    /// The folder cannot be made or looked into, for this reason.
+    #[error("cannot use {0}: {1}")]
+    CannotUse(&'a str, io::Error),
     /// The folder holds an index.
     #[error("{0} holds an index already")]
     HoldsIndex(&'a str),
-    /// The file cannot be made or written.
-    #[error("cannot write {0}")]
-    CannotWrite(String),
+    /// The file cannot be made or written, for this reason.
+    #[error("cannot write {0}: {1}")]
+    CannotWrite(String, io::Error),
     /// The file's piece has no text.
     #[error("{0}: {1}")]
     HasNoText(String, WriteFault),

@@ -51,7 +51,7 @@ pub fn unreadable<'a>(name: &'a str, error: &io::Error) -> ReportsFault<'a> {
     if error.kind() == ErrorKind::OutOfMemory {
         ReportsFault::Memory
     } else {
-        ReportsFault::CannotRead(name)
+        ReportsFault::CannotRead(name, *error)
     }
 }
 
@@ -129,6 +129,6 @@ pub fn read_file<F: Files>(name: &str, files: &mut F) -> Result<Vec<u8>, Unread>
     match files.read(name) {
         Ok(text) => Ok(text),
         Err(error) if error.kind() == ErrorKind::OutOfMemory => Err(Unread::Memory),
-        Err(_) => Err(Unread::Refused(Refusal::Unreadable)),
+        Err(error) => Err(Unread::Refused(Refusal::Unreadable(error))),
     }
 }

@@ -4,6 +4,7 @@ use pb_parts::PartFault;
 use pb_read::ReadFault;
 use pb_report::ReportFault;
 use std::alloc::{AllocError, AllocFailed};
+use std::io;
 use thiserror::Error;
 
 /// Why an index is not that of the instance.
@@ -24,14 +25,14 @@ pub enum IndexFault {
 }
 
 /// Why the file of a report or an index was not taken.
-#[derive(Clone, Copy, Debug, PartialEq, Eq, Error)]
+#[derive(Clone, Copy, Debug, Error)]
 pub enum Refusal {
     /// Its name tells no piece.
     #[error("the name has no number of a piece before its last dot")]
     NoNumber,
-    /// It cannot be opened or read.
-    #[error("cannot be read")]
-    Unreadable,
+    /// It cannot be opened or read, for this reason.
+    #[error("cannot be read: {0}")]
+    Unreadable(io::Error),
     /// Its lines are no report.
     #[error("{0}")]
     Faulty(ReportFault),
@@ -52,9 +53,9 @@ pub enum Refusal {
 /// What keeps reports from being joined, with the name of the file that it was met at.
 #[derive(Debug, Drop, Error)]
 pub enum ReportsFault<'a> {
-    /// The instance cannot be opened or read, or the folder of reports.
-    #[error("cannot read {0}")]
-    CannotRead(&'a str),
+    /// The instance cannot be opened or read, or the folder of reports, for this reason.
+    #[error("cannot read {0}: {1}")]
+    CannotRead(&'a str, io::Error),
     /// The instance is refused.
     #[error("{0}: {1}")]
     Refused(&'a str, ReadFault),

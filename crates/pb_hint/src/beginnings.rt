@@ -12,6 +12,18 @@ pub enum Beginning {
     /// It has the first bytes of what gzip writes.
     #[error("is compressed by gzip: gunzip it first")]
     Gzip,
+    /// It has the first bytes of what xz writes.
+    #[error("is compressed by xz: unxz it first")]
+    Xz,
+    /// It has the first bytes of what bzip2 writes.
+    #[error("is compressed by bzip2: bunzip2 it first")]
+    Bzip2,
+    /// It has the bytes that editors put before texts in Unicode.
+    #[error("begins with a byte order mark: save it as ASCII, without one")]
+    ByteOrderMark,
+    /// Its first line that is no comment is the header of WCNF, or a hard clause of its newer form.
+    #[error("begins as WCNF, which is not read: write it as OPB, with the weights in min:")]
+    Wcnf,
     /// Its first line that is no comment is the header of DIMACS CNF.
     #[error("begins as DIMACS CNF: --format cnf reads it")]
     Cnf,
@@ -29,7 +41,11 @@ impl Beginning {
         ensures { result ≡ is_of self format }
     {
         match self {
-            Beginning::Gzip => false,
+            Beginning::Gzip
+            | Beginning::Xz
+            | Beginning::Bzip2
+            | Beginning::ByteOrderMark
+            | Beginning::Wcnf => false,
             Beginning::Cnf => format == Format::Cnf,
             Beginning::Icnf => format == Format::Icnf,
             Beginning::Opb => format == Format::Opb,
@@ -39,8 +55,8 @@ impl Beginning {
 
 /// What the text begins as, where its first bytes or its first lines tell.
 pub fn begins_as(text: &[u8]) -> Option<Beginning> {
-    if text.starts_with(b"\x1f\x8b") {
-        return Some(Beginning::Gzip);
+    if let Some(begins) = first_bytes(text) {
+        return Some(begins);
     }
     for line in text.lines() {
         let line = line.trim();
@@ -54,12 +70,36 @@ pub fn begins_as(text: &[u8]) -> Option<Beginning> {
     None
 }
 
+/// What a text is by its first bytes alone.
+fn first_bytes(text: &[u8]) -> Option<Beginning> {
+    if text.starts_with(b"\x1f\x8b") {
+        Some(Beginning::Gzip)
+    } else if text.starts_with(b"\xfd7zXZ\x00") {
+        Some(Beginning::Xz)
+    } else if text.starts_with(b"BZh") {
+        Some(Beginning::Bzip2)
+    } else if is_marked(text) {
+        Some(Beginning::ByteOrderMark)
+    } else {
+        None
+    }
+}
+
+/// Whether a byte order mark of UTF-8 or of UTF-16 comes first.
+fn is_marked(text: &[u8]) -> bool {
+    text.starts_with(b"\xef\xbb\xbf")
+        || text.starts_with(b"\xff\xfe")
+        || text.starts_with(b"\xfe\xff")
+}
+
 /// What a line is the header of.
 fn header(line: &[u8]) -> Option<Beginning> {
     if line.starts_with(b"p cnf ") {
         Some(Beginning::Cnf)
     } else if line.starts_with(b"p inccnf") {
         Some(Beginning::Icnf)
+    } else if line.starts_with(b"p wcnf ") || line.starts_with(b"h ") {
+        Some(Beginning::Wcnf)
     } else if line.starts_with(b"min:") || line.starts_with(b"* #variable=") {
         Some(Beginning::Opb)
     } else {

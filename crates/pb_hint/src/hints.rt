@@ -3,10 +3,13 @@ ghost use Rattle.std.specs.Prelude.{◌≡◌, Some, false};
 ghost use Rattle.pb_hint.specs.Beginnings.{is_of};
 ghost use Rattle.pb_hint.specs.Places.{StandsIn};
 
+use crate::advice::Advice;
 use crate::beginnings::{Beginning, begins_as};
 use crate::places::{Place, locate, moved, start_of_line};
-use crate::{dimacs, opb};
+use crate::{dimacs, opb, products, variables};
+use pb_inst::MAX_VARS;
 use pb_read::{Format, ReadFault, ReadKind};
+use std::ops::Range;
 use thiserror::Error;
 
 /// What may help with a text that was refused.
@@ -18,6 +21,9 @@ pub enum Hint<'t> {
     /// The first word that cannot stand where it does.
     #[error("{0}")]
     At(Place<'t>),
+    /// Such a word, and what to write in its place.
+    #[error("{0}: {1}")]
+    Mend(Place<'t>, Advice),
 }
 
 /// A hint on a text that was refused in this format, for this fault, if there is one to give. It tells of another format than
@@ -25,22 +31,54 @@ pub enum Hint<'t> {
 pub fn hint_on<'t>(format: Format, text: &'t [u8], fault: ReadFault) -> Option<Hint<'t>>
     ensures another_format { (begins : _) → result ≡ Some (Hint.Begins begins) → is_of begins format ≡ false }
     ensures place { (place : _) → result ≡ Some (Hint.At place) → StandsIn text.now place }
+    ensures advised { (place : _) → (advice : _) → result ≡ Some (Hint.Mend place advice) → StandsIn text.now place }
 {
     if let Some(begins) = begins_as(text) {
         if !begins.is_of(format) {
             return Some(Hint::Begins(begins));
         }
     }
-    if fault.kind != ReadKind::Syntax && fault.kind != ReadKind::Unfinished {
-        return None;
+    let place = locate(text, word_at_fault(format, text, fault)?)?;
+    match advice_on(format, text, fault.kind, place.word) {
+        Some(advice) => Some(Hint::Mend(place, advice)),
+        None => Some(Hint::At(place)),
     }
-    let bounds = match format {
-        Format::Opb => opb::misplaced(text)?,
-        Format::Cnf | Format::Icnf => {
-            let start = start_of_line(text, fault.line);
-            let misplaced = dimacs::misplaced(text.get(start..)?, format == Format::Icnf)?;
-            moved(misplaced, start)
+}
+
+/// The bounds of the word that the fault is likely to be of.
+fn word_at_fault(format: Format, text: &[u8], fault: ReadFault) -> Option<Range<usize>> {
+    let start = start_of_line(text, fault.line);
+    let rest = text.get(start..)?;
+    let bounds = match (fault.kind, format) {
+        // What a token of OPB may be depends on those before it, which may stand on earlier lines.
+        (ReadKind::Syntax | ReadKind::Unfinished, Format::Opb) => return opb::misplaced(text),
+        (ReadKind::Syntax | ReadKind::Unfinished, Format::Cnf | Format::Icnf) => {
+            dimacs::misplaced(rest, format == Format::Icnf)?
         }
+        (ReadKind::NonLinear, _) => products::second_literal(rest)?,
+        (ReadKind::BadVariable, _) => {
+            variables::misnumbered(format, rest, greatest(format, text)?)?
+        }
+        _ => return None,
     };
-    Some(Hint::At(locate(text, bounds)?))
+    Some(moved(bounds, start))
+}
+
+/// The greatest number that a variable may have.
+fn greatest(format: Format, text: &[u8]) -> Option<u64> {
+    match format {
+        Format::Cnf => variables::told(text),
+        Format::Opb | Format::Icnf => Some(u64::from(MAX_VARS)),
+    }
+}
+
+/// What to write in place of the word that a fault is of, where that is known.
+fn advice_on(format: Format, text: &[u8], kind: ReadKind, word: &[u8]) -> Option<Advice> {
+    match kind {
+        ReadKind::NonLinear => Some(Advice::Linearise),
+        ReadKind::BadVariable => Some(Advice::Renumber(greatest(format, text)?)),
+        _ if word == b"max:".as_slice() => Some(Advice::Minimise),
+        _ if word == b"soft:".as_slice() => Some(Advice::Harden),
+        _ => None,
+    }
 }

@@ -62,7 +62,8 @@ fn misplaced_on(line: &[u8], expected: Expected) -> Result<Expected, Range<usize
     }
 }
 
-fn ends_word(byte: u8) -> bool {
+/// Whether a byte is no part of a word.
+pub fn ends_word(byte: u8) -> bool {
     matches!(
         byte,
         b' ' | b'\t' | b'\r' | b'\n' | b';' | b'>' | b'<' | b'='
@@ -123,9 +124,14 @@ fn is_number(word: &[u8]) -> bool {
     are_digits(digits)
 }
 
-fn is_literal(word: &[u8]) -> bool {
-    let variable = word.strip_prefix(b"~").unwrap_or(word);
-    variable.strip_prefix(b"x").is_some_and(are_digits)
+/// Whether a word is a variable or a negated one.
+pub fn is_literal(word: &[u8]) -> bool {
+    variable(word).is_some_and(are_digits)
+}
+
+/// What stands behind the `x` of a literal.
+pub fn variable(word: &[u8]) -> Option<&[u8]> {
+    word.strip_prefix(b"~").unwrap_or(word).strip_prefix(b"x")
 }
 
 /// Whether there are digits alone, one at least.

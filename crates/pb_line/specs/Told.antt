@@ -10,5 +10,5 @@ use Rattle.pb_line.specs.declared.faults.Told.TheVariants.{NoMemory, Unwritten, 
 -- written; or there is none for want of memory
 abbrev pub IsToldOf : ErrorKind → Told → Type 0
 IsToldOf kind (Written status) = (IsShown kind × (status ≡ 0)) ⊎ ((kind ≢ OutOfMemory) × (IsShown kind → ⊥) × (status ≡ 2))
-IsToldOf kind Unwritten = IsShown kind
+IsToldOf kind (Unwritten reason) = IsShown kind
 IsToldOf kind NoMemory = kind ≡ OutOfMemory

@@ -6,7 +6,7 @@ ghost use Rattle.pb_line.specs.Told.{IsToldOf};
 
 use clap::Error;
 use clap::error::ErrorKind;
-use std::io::Write;
+use std::io::{self, Write};
 
 /// What became of a fault of the words.
 #[derive(Clone, Copy)]
@@ -14,8 +14,8 @@ pub enum Told {
     /// Its text was written, and this is the exit status: 0 after help and the version, which go to the output, and 2 after a
     /// mistake, which goes to the standard error.
     Written(u8),
-    /// The output did not take the text.
-    Unwritten,
+    /// The output did not take the text, for this reason.
+    Unwritten(io::Error),
     /// Memory ran out, and nothing was written.
     NoMemory,
 }
@@ -34,6 +34,6 @@ pub fn tell_fault<W: Write, E: Write>(fault: &Error, out: &mut W, err: &mut E) -
     }
     match write!(out, "{fault}") {
         Ok(()) => Told::Written(0),
-        Err(_) => Told::Unwritten,
+        Err(fault) => Told::Unwritten(fault),
     }
 }

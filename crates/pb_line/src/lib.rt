@@ -2,9 +2,11 @@
 #![tactic(auto)]
 
 pub mod dividing;
+mod failures;
 mod faults;
 mod formats;
 pub mod joining;
+mod last_fault;
 mod lines;
 mod matched;
 mod options;
@@ -13,8 +15,10 @@ pub mod tasks;
 mod version;
 mod words;
 
+pub use failures::tell_failure;
 pub use faults::{Told, tell_fault};
 pub use formats::format_of;
+pub use last_fault::{LastFault, Noting};
 pub use options::{
     MAX_NODES, cubes_option, file_operand, format_option, named, nodes_option, split_option,
     workers_option,

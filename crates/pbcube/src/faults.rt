@@ -4,8 +4,8 @@ use thiserror::Error;
 /// What keeps the program from a report.
 #[derive(Clone, Copy, Debug, Error)]
 pub enum ProgramFault<'a> {
-    #[error("pbcube: cannot read {0}")]
+    #[error("cannot read {0}")]
     CannotRead(&'a str),
-    #[error("pbcube: cannot write")]
+    #[error("cannot write")]
     CannotWrite,
 }

@@ -30,7 +30,7 @@ fn tell_hint_on<E: Write>(alloc: Global, name: &str, format: Format, text: &[u8]
     if let Err(fault) = read(alloc, format, text) {
         let _ = match hint_on(format, text, fault) {
             Some(Hint::Begins(beginning)) => writeln!(err, "pbcube: {name} {beginning}"),
-            Some(Hint::At(place)) => writeln!(err, "pbcube: {place}"),
+            Some(hint) => writeln!(err, "pbcube: {hint}"),
             None => Ok(()),
         };
     }

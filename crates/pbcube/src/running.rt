@@ -11,19 +11,20 @@ use crate::files::Files;
 use crate::hinting::tell_hint;
 use clap::Error;
 use pb_line::solving::{Line, line};
-use pb_line::{Told, tell_fault};
+use pb_line::{LastFault, Noting, Told, tell_failure, tell_fault};
 use pb_solve::{Device, Format, Options, Ran, RunFault, Status, report_memory, run};
 use std::alloc::Global;
-use std::io::{Empty, Read, Seek, Write};
+use std::io::{self, Empty, Read, Seek, Write};
 use std::thread::Threads;
 
 /// Runs the program on its words, its own name first, and answers its exit status. The input is fetched first, and where it
-/// can be opened the cube file, if there is one.
+/// can be opened the cube file, if there is one. Where the files and the output note their faults, these tell why something failed.
 pub fn program<'a, R: Threads + Sync, F: Files, W: Write, E: Write>(
     rt: &R,
     alloc: Global,
     words: &'a [&'a str],
     files: &mut F,
+    faults: &LastFault,
     out: &mut Device<W>,
     err: &mut E,
 ) -> u8
@@ -34,23 +35,23 @@ pub fn program<'a, R: Threads + Sync, F: Files, W: Write, E: Write>(
 {
     let line = match line(alloc, words) {
         Ok(line) => line,
-        Err(fault) => return end_at_line(&fault, out, err),
+        Err(fault) => return end_at_line(&fault, faults, out, err),
     };
     let (name, format) = (line.file, line.format);
-    match run_on_files(rt, alloc, line, files, out) {
+    match run_on_files(rt, alloc, line, files, faults, out) {
         Ok((ran, mut input)) => end_of_run(alloc, name, format, ran, &mut input, err),
-        Err(fault) => end_at_fault(fault, err),
+        Err(fault) => end_at_fault(fault, faults.get(), err),
     }
 }
 
 /// The program's end where its words found no memory.
-pub fn out_of_memory<W: Write, E: Write>(out: &mut Device<W>, err: &mut E) -> u8
+pub fn out_of_memory<W: Write, E: Write>(faults: &LastFault, out: &mut Device<W>, err: &mut E) -> u8
     requires { out.old.failed ≡ false }
     ensures { EndsWithoutMemory (W.contents out.old.held) (W.contents out.new.held) result }
 {
     match report_memory(out) {
         Ok(status) => status.exit_status(),
-        Err(_) => end_at_fault(ProgramFault::CannotWrite, err),
+        Err(_) => end_at_fault(ProgramFault::CannotWrite, faults.get(), err),
     }
 }
 
@@ -60,6 +61,7 @@ fn run_on_files<'a, R: Threads + Sync, F: Files, W: Write>(
     alloc: Global,
     line: Line<'a>,
     files: &mut F,
+    faults: &LastFault,
     out: &mut Device<W>,
 ) -> Result<(Ran, F::Input), ProgramFault<'a>>
     requires { out.old.failed ≡ false }
@@ -83,7 +85,7 @@ fn run_on_files<'a, R: Threads + Sync, F: Files, W: Write>(
         return Err(ProgramFault::CannotRead(file));
     };
     let Some(name) = cubes else {
-        return match run_alone(rt, alloc, &mut input, options, out) {
+        return match run_alone(rt, alloc, &mut input, options, faults, out) {
             Ok(ran) => Ok((ran, input)),
             Err(fault) => Err(fault_on(file, file, fault)),
         };
@@ -91,7 +93,7 @@ fn run_on_files<'a, R: Threads + Sync, F: Files, W: Write>(
     let Some(cubes) = files.fetch(name) else {
         return Err(ProgramFault::CannotRead(name));
     };
-    match run_with_cubes(rt, alloc, &mut input, cubes, options, out) {
+    match run_with_cubes(rt, alloc, &mut input, cubes, options, faults, out) {
         Ok(ran) => Ok((ran, input)),
         Err(fault) => Err(fault_on(file, name, fault)),
     }
@@ -102,11 +104,12 @@ fn run_alone<R: Threads + Sync, I: Read, W: Write>(
     alloc: Global,
     input: &mut I,
     options: Options,
+    faults: &LastFault,
     out: &mut Device<W>,
 ) -> Result<Ran, RunFault>
     requires { out.old.failed ≡ false }
 {
-    let mut input = Device::new(input);
+    let mut input = Device::new(Noting::new(input, faults));
     run(
         rt,
         alloc,
@@ -123,12 +126,13 @@ fn run_with_cubes<R: Threads + Sync, I: Read + Drop, W: Write>(
     input: &mut I,
     cubes: I,
     options: Options,
+    faults: &LastFault,
     out: &mut Device<W>,
 ) -> Result<Ran, RunFault>
     requires { out.old.failed ≡ false }
 {
-    let mut input = Device::new(input);
-    let mut cubes = Device::new(cubes);
+    let mut input = Device::new(Noting::new(input, faults));
+    let mut cubes = Device::new(Noting::new(cubes, faults));
     run(rt, alloc, &mut input, Some(&mut cubes), options, out)
 }
 
@@ -160,21 +164,26 @@ fn end_of_run<I: Read + Seek, E: Write>(
 }
 
 /// The end where the words ask for no run: help, the version, a refusal, or no memory.
-fn end_at_line<W: Write, E: Write>(fault: &Error, out: &mut Device<W>, err: &mut E) -> u8
+fn end_at_line<W: Write, E: Write>(
+    fault: &Error,
+    faults: &LastFault,
+    out: &mut Device<W>,
+    err: &mut E,
+) -> u8
     requires { out.old.failed ≡ false }
     ensures { EndsBy (EndsWithoutMemory (W.contents out.old.held) (W.contents out.new.held)) (kind_of fault.now) result }
 {
     match tell_fault(fault, out, err) {
         Told::Written(status) => status,
-        Told::Unwritten => end_at_fault(ProgramFault::CannotWrite, err),
-        Told::NoMemory => out_of_memory(out, err),
+        Told::Unwritten(reason) => end_at_fault(ProgramFault::CannotWrite, Some(reason), err),
+        Told::NoMemory => out_of_memory(faults, out, err),
     }
 }
 
-/// One line to the standard error, whose own faults are ignored.
-fn end_at_fault<E: Write>(fault: ProgramFault<'_>, err: &mut E) -> u8
+/// One line to the standard error with the reason, unless whoever read the output wants no more.
+fn end_at_fault<E: Write>(fault: ProgramFault<'_>, reason: Option<io::Error>, err: &mut E) -> u8
     ensures { result ≡ 1 }
 {
-    let _ = writeln!(err, "{fault}");
+    tell_failure("pbcube", fault, reason, err);
     1
 }

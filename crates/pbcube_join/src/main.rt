@@ -8,7 +8,7 @@ mod running;
 
 use crate::running::{out_of_memory, program};
 use pb_files::Files;
-use pb_line::{texts_of, words_of};
+use pb_line::{LastFault, Noting, texts_of, words_of};
 use pb_solve::Device;
 use std::fs;
 use std::io::{self, ErrorKind};
@@ -43,7 +43,8 @@ impl Files for SystemFiles<'_> {
 
 /// Runs the program on the system's words, files and outputs. Words that are no text end with status 2.
 fn main(rt: HostRuntime) -> ExitCode {
-    let mut out = Device::new(rt.stdout());
+    let faults = LastFault::new();
+    let mut out = Device::new(Noting::new(rt.stdout(), &faults));
     let mut err = rt.stderr();
     let texts = match texts_of(&rt) {
         Ok(texts) => texts,
@@ -57,7 +58,7 @@ fn main(rt: HostRuntime) -> ExitCode {
     };
     let mut files = SystemFiles { rt: &rt };
     let status = match words_of(rt.alloc(), &texts) {
-        Ok(words) => program(rt.alloc(), &words, &mut files, &mut out, &mut err),
+        Ok(words) => program(rt.alloc(), &words, &mut files, &faults, &mut out, &mut err),
         Err(_) => out_of_memory(&mut err),
     };
     ExitCode::from(status)

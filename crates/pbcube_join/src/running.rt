@@ -20,18 +20,20 @@ use pb_files::{
 use pb_inst::Instance;
 use pb_join::{JoinFault, Joined, PieceState, join};
 use pb_line::joining::{Line, line};
-use pb_line::{Told, tell_fault};
+use pb_line::{LastFault, Told, tell_failure, tell_fault};
 use pb_read::Format;
 use pb_solve::{Device, Status};
 use std::alloc::Global;
 use std::io::{self, Write};
 
 /// Runs the program on its words, its own name first, and answers its exit status. Where the words are refused nothing is
-/// written; nor, where clap has no fault in them, is it after any other fault, unless the output has failed.
+/// written; nor, where clap has no fault in them, is it after any other fault, unless the output has failed. Where the output notes its
+/// faults, these tell why it failed.
 pub fn program<'a, F: Files, W: Write, E: Write>(
     alloc: Global,
     words: &'a [&'a str],
     files: &mut F,
+    faults: &LastFault,
     out: &mut Device<W>,
     err: &mut E,
 ) -> u8
@@ -48,7 +50,7 @@ pub fn program<'a, F: Files, W: Write, E: Write>(
     };
     match join_asked(alloc, line, files, out, err) {
         Ok(status) => status.exit_status(),
-        Err(fault) => end_at_fault(&fault, err),
+        Err(fault) => end_at_fault(&fault, faults.get(), err),
     }
 }
 
@@ -56,7 +58,7 @@ pub fn program<'a, F: Files, W: Write, E: Write>(
 pub fn out_of_memory<E: Write>(err: &mut E) -> u8
     ensures { result ≡ 1 }
 {
-    end_at_fault(&ReportsFault::Memory, err)
+    end_at_fault(&ReportsFault::Memory, None, err)
 }
 
 /// Joins what the line names, the reports of tasks where it tells their number and else those of pieces, and names what is
@@ -173,15 +175,19 @@ fn end_at_line<W: Write, E: Write>(fault: &Error, out: &mut Device<W>, err: &mut
 {
     match tell_fault(fault, out, err) {
         Told::Written(status) => status,
-        Told::Unwritten => end_at_fault(&ReportsFault::CannotWrite, err),
+        Told::Unwritten(reason) => end_at_fault(&ReportsFault::CannotWrite, Some(reason), err),
         Told::NoMemory => out_of_memory(err),
     }
 }
 
-/// One line to the standard error, whose own faults are ignored.
-fn end_at_fault<E: Write>(fault: &ReportsFault<'_>, err: &mut E) -> u8
+/// One line to the standard error, with the reason where the output failed, unless whoever read it wants no more.
+fn end_at_fault<E: Write>(fault: &ReportsFault<'_>, of_output: Option<io::Error>, err: &mut E) -> u8
     ensures { result ≡ 1 }
 {
-    let _ = writeln!(err, "pbcube_join: {fault}");
+    let reason = match fault {
+        ReportsFault::CannotWrite => of_output,
+        _ => None,
+    };
+    tell_failure("pbcube_join", fault, reason, err);
     1
 }

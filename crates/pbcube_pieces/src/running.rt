@@ -11,7 +11,7 @@ ghost use Rattle.pbcube_pieces.specs.Writing.{Divides, DividesAsAsked};
 use clap::Error;
 use pb_files::{Folders, PiecesFault, prepare, write_pieces};
 use pb_line::dividing::{Line, line};
-use pb_line::{Told, tell_fault};
+use pb_line::{Told, tell_failure, tell_fault};
 use std::alloc::Global;
 use std::io::{self, Write};
 
@@ -38,7 +38,7 @@ pub fn program<'a, F: Folders, W: Write, E: Write>(
     };
     match tell(pieces, out) {
         Ok(()) => 0,
-        Err(_) => end_unwritten(err),
+        Err(reason) => end_unwritten(reason, err),
     }
 }
 
@@ -82,23 +82,24 @@ fn end_at_line<W: Write, E: Write>(fault: &Error, out: &mut W, err: &mut E) -> u
 {
     match tell_fault(fault, out, err) {
         Told::Written(status) => status,
-        Told::Unwritten => end_unwritten(err),
+        Told::Unwritten(reason) => end_unwritten(reason, err),
         Told::NoMemory => out_of_memory(err),
     }
 }
 
-/// The end where the output did not take all. One line to the standard error, whose own faults are ignored.
-fn end_unwritten<E: Write>(err: &mut E) -> u8
+/// The end where the output did not take all. One line to the standard error with the reason, unless whoever read the output wants
+/// no more.
+fn end_unwritten<E: Write>(reason: io::Error, err: &mut E) -> u8
     ensures { result ≡ 1 }
 {
-    let _ = writeln!(err, "pbcube_pieces: cannot write");
+    tell_failure("pbcube_pieces", "cannot write", Some(reason), err);
     1
 }
 
-/// One line to the standard error, whose own faults are ignored.
+/// One line to the standard error.
 fn end_at_fault<E: Write>(fault: &PiecesFault<'_>, err: &mut E) -> u8
     ensures { result ≡ 1 }
 {
-    let _ = writeln!(err, "pbcube_pieces: {fault}");
+    tell_failure("pbcube_pieces", fault, None, err);
     1
 }

@@ -1,13 +1,15 @@
 //! What keeps the program from a report.
 use pb_solve::RunFault;
+use std::io;
 use thiserror::Error;
 
 /// What keeps the program from a report.
 #[derive(Clone, Copy, Debug, Error)]
 pub enum ProgramFault<'a> {
-    #[error("pbcube_task: cannot read {0}")]
-    CannotRead(&'a str),
-    #[error("pbcube_task: cannot write")]
+    /// The file cannot be opened or read, for this reason.
+    #[error("cannot read {0}")]
+    CannotRead(&'a str, io::Error),
+    #[error("cannot write")]
     CannotWrite,
 }
 

@@ -12,7 +12,7 @@ mod searching;
 use crate::places::Places;
 use crate::running::{out_of_memory, program};
 use pb_files::Folders;
-use pb_line::{texts_of, words_of};
+use pb_line::{LastFault, Noting, texts_of, words_of};
 use pb_notes::Folder;
 use pb_solve::Device;
 use std::alloc::Global;
@@ -80,13 +80,14 @@ impl<'a> Places<Folder<'a, HostRuntime>> for SystemPlaces<'a> {
 
 /// Runs the program on the system's words, files and outputs. Words that are no text end with status 2.
 fn main(rt: HostRuntime) -> ExitCode {
-    let mut out = Device::new(rt.stdout());
+    let faults = LastFault::new();
+    let mut out = Device::new(Noting::new(rt.stdout(), &faults));
     let mut err = rt.stderr();
     let texts = match texts_of(&rt) {
         Ok(texts) => texts,
         Err(fault) => {
             return if fault.kind() == ErrorKind::OutOfMemory {
-                ExitCode::from(out_of_memory(&mut out, &mut err))
+                ExitCode::from(out_of_memory(&faults, &mut out, &mut err))
             } else {
                 ExitCode::from(2)
             };
@@ -101,10 +102,11 @@ fn main(rt: HostRuntime) -> ExitCode {
             &words,
             &mut folders,
             &places,
+            &faults,
             &mut out,
             &mut err,
         ),
-        Err(_) => out_of_memory(&mut out, &mut err),
+        Err(_) => out_of_memory(&faults, &mut out, &mut err),
     };
     ExitCode::from(status)
 }

@@ -13,16 +13,16 @@ use crate::searching::search;
 use clap::Error;
 use pb_files::{DivisionFault, Folders, prepare};
 use pb_line::tasks::{Line, line};
-use pb_line::{Told, tell_fault};
+use pb_line::{LastFault, Told, tell_failure, tell_fault};
 use pb_notes::Notes;
 use pb_report::report_refusal;
 use pb_solve::{Device, SolveFault, Status, report_memory};
 use std::alloc::Global;
-use std::io::Write;
+use std::io::{self, Write};
 use std::thread::Threads;
 
 /// Runs the program on its words, its own name first, and answers its exit status. Whatever the notes are, what is written is
-/// right.
+/// right. Where the output notes its faults, these tell why it failed.
 pub fn program<
     'a,
     R: Threads + Sync,
@@ -37,6 +37,7 @@ pub fn program<
     words: &'a [&'a str],
     folders: &mut F,
     places: &P,
+    faults: &LastFault,
     out: &mut Device<W>,
     err: &mut E,
 ) -> u8
@@ -46,22 +47,22 @@ pub fn program<
 {
     let line = match line(alloc, words) {
         Ok(line) => line,
-        Err(fault) => return end_at_line(&fault, out, err),
+        Err(fault) => return end_at_line(&fault, faults, out, err),
     };
     match run_task(rt, alloc, &line, folders, places, out, err) {
         Ok(status) => status.exit_status(),
-        Err(fault) => end_at_fault(fault, err),
+        Err(fault) => end_at_fault(fault, faults.get(), err),
     }
 }
 
 /// The program's end where its words found no memory.
-pub fn out_of_memory<W: Write, E: Write>(out: &mut Device<W>, err: &mut E) -> u8
+pub fn out_of_memory<W: Write, E: Write>(faults: &LastFault, out: &mut Device<W>, err: &mut E) -> u8
     requires { out.old.failed ≡ false }
     ensures { EndsWithoutMemory (W.contents out.old.held) (W.contents out.new.held) result }
 {
     match report_memory(out) {
         Ok(status) => status.exit_status(),
-        Err(_) => end_at_fault(ProgramFault::CannotWrite, err),
+        Err(_) => end_at_fault(ProgramFault::CannotWrite, faults.get(), err),
     }
 }
 
@@ -115,28 +116,38 @@ fn report_undivided<'a, W: Write>(
     ensures { IfOk result (ReportsNoSearch (W.contents out.old.held) (W.contents out.new.held)) }
 {
     match fault {
-        DivisionFault::CannotRead(name) => Err(ProgramFault::CannotRead(name)),
+        DivisionFault::CannotRead(name, reason) => Err(ProgramFault::CannotRead(name, reason)),
         DivisionFault::Refused(_, refusal) => Ok(report_refusal(out, refusal)?),
         DivisionFault::Memory => Ok(report_memory(out)?),
     }
 }
 
 /// The end where the words ask for no run: help, the version, a refusal, or no memory.
-fn end_at_line<W: Write, E: Write>(fault: &Error, out: &mut Device<W>, err: &mut E) -> u8
+fn end_at_line<W: Write, E: Write>(
+    fault: &Error,
+    faults: &LastFault,
+    out: &mut Device<W>,
+    err: &mut E,
+) -> u8
     requires { out.old.failed ≡ false }
     ensures { EndsBy (EndsWithoutMemory (W.contents out.old.held) (W.contents out.new.held)) (kind_of fault.now) result }
 {
     match tell_fault(fault, out, err) {
         Told::Written(status) => status,
-        Told::Unwritten => end_at_fault(ProgramFault::CannotWrite, err),
-        Told::NoMemory => out_of_memory(out, err),
+        Told::Unwritten(reason) => end_at_fault(ProgramFault::CannotWrite, Some(reason), err),
+        Told::NoMemory => out_of_memory(faults, out, err),
     }
 }
 
-/// One line to the standard error, whose own faults are ignored.
-fn end_at_fault<E: Write>(fault: ProgramFault<'_>, err: &mut E) -> u8
+/// One line to the standard error with the reason, unless whoever read the output wants no more. A file that cannot be read has its
+/// own reason.
+fn end_at_fault<E: Write>(fault: ProgramFault<'_>, of_output: Option<io::Error>, err: &mut E) -> u8
     ensures { result ≡ 1 }
 {
-    let _ = writeln!(err, "{fault}");
+    let reason = match fault {
+        ProgramFault::CannotRead(_, reason) => Some(reason),
+        ProgramFault::CannotWrite => of_output,
+    };
+    tell_failure("pbcube_task", fault, reason, err);
     1
 }

@@ -1,0 +1,23 @@
+//! How a program tells what it could not do.
+ghost use Rattle.std.specs.Prelude.{◌≡◌, IfSome};
+ghost use Rattle.std.specs.IoError.{error_kind};
+
+use std::fmt::Display;
+use std::io::{Error, ErrorKind, Write};
+
+/// One line to the standard error, unless whoever read the output wants no more: the program's name, what it could not do, and
+/// the system's reason, where it is known. Faults of the standard error are ignored.
+pub fn tell_failure<F: Display + Drop, E: Write>(
+    program: &str,
+    failure: F,
+    reason: Option<Error>,
+    err: &mut E,
+)
+    ensures silent { IfSome reason (λ fault. error_kind fault ≡ ErrorKind.BrokenPipe → err.new ≡ err.old) }
+{
+    let _ = match reason {
+        Some(reason) if reason.kind() == ErrorKind::BrokenPipe => Ok(()),
+        Some(reason) => writeln!(err, "{program}: {failure}: {reason}"),
+        None => writeln!(err, "{program}: {failure}"),
+    };
+}
