@@ -19,6 +19,12 @@ int32_t pb_c_clause(pbcube *solver, const int32_t *literals, size_t count);
 int32_t pb_c_discard(pbcube *solver);
 uint32_t pb_c_variables(pbcube *solver);
 int32_t pb_c_solve(pbcube *solver, uint64_t nodes);
+int32_t pb_c_solve_under(pbcube *solver, const int32_t *literals, size_t count, uint64_t nodes);
+int32_t pb_c_suggest(pbcube *solver, const uint8_t *values, size_t count);
+int32_t pb_c_explain(pbcube *solver, const int32_t *literals, size_t count, uint64_t nodes,
+                     int32_t *core, size_t room, size_t *core_count);
+int32_t pb_c_fixed(pbcube *solver, const int32_t *literals, size_t count, int32_t among, uint64_t nodes,
+                   uint8_t *statuses, size_t room);
 int32_t pb_c_cost(pbcube *solver, int64_t *cost);
 size_t pb_c_cost_text(pbcube *solver, char *room, size_t size);
 int32_t pb_c_value(pbcube *solver, uint32_t variable);
@@ -57,12 +63,18 @@ int pbcube_end_objective(pbcube *solver)
     return solver ? pb_c_end_objective(solver) : PBCUBE_NULL;
 }
 
-int pbcube_clause(pbcube *solver, const int32_t *literals, size_t count)
+/* The array, or where it is empty a pointer that is not null. */
+static const int32_t *array_of(const int32_t *literals, size_t count)
 {
     static const int32_t none = 0;
+    return count > 0 ? literals : &none;
+}
+
+int pbcube_clause(pbcube *solver, const int32_t *literals, size_t count)
+{
     if (!solver || (!literals && count > 0))
         return PBCUBE_NULL;
-    return pb_c_clause(solver, count > 0 ? literals : &none, count);
+    return pb_c_clause(solver, array_of(literals, count), count);
 }
 
 int pbcube_discard(pbcube *solver)
@@ -78,6 +90,38 @@ uint32_t pbcube_variables(pbcube *solver)
 int pbcube_solve(pbcube *solver, uint64_t decisions)
 {
     return solver ? pb_c_solve(solver, decisions) : PBCUBE_NULL;
+}
+
+int pbcube_solve_under(pbcube *solver, const int32_t *literals, size_t count, uint64_t decisions)
+{
+    if (!solver || (!literals && count > 0))
+        return PBCUBE_NULL;
+    return pb_c_solve_under(solver, array_of(literals, count), count, decisions);
+}
+
+int pbcube_suggest(pbcube *solver, const uint8_t *values, size_t count)
+{
+    static const uint8_t none = 0;
+    if (!solver || (!values && count > 0))
+        return PBCUBE_NULL;
+    return pb_c_suggest(solver, count > 0 ? values : &none, count);
+}
+
+int pbcube_explain(pbcube *solver, const int32_t *literals, size_t count, uint64_t decisions, int32_t *core, size_t *core_count)
+{
+    int32_t none;
+    if (!solver || !core_count || ((!literals || !core) && count > 0))
+        return PBCUBE_NULL;
+    return pb_c_explain(solver, array_of(literals, count), count, decisions, count > 0 ? core : &none, count, core_count);
+}
+
+int pbcube_fixed(pbcube *solver, const int32_t *literals, size_t count, int among, uint64_t decisions,
+                 uint8_t *statuses, size_t size)
+{
+    uint8_t none;
+    if (!solver || (!literals && count > 0) || (!statuses && size > 0))
+        return PBCUBE_NULL;
+    return pb_c_fixed(solver, array_of(literals, count), count, among, decisions, size > 0 ? statuses : &none, size);
 }
 
 int pbcube_cost(pbcube *solver, int64_t *cost)
@@ -117,6 +161,7 @@ const char *pbcube_name(int number)
     case PBCUBE_SATISFIABLE: return "Satisfiable";
     case PBCUBE_FOUND: return "Found";
     case PBCUBE_UNSATISFIABLE: return "Unsatisfiable";
+    case PBCUBE_CORE: return "Core";
     case PBCUBE_OPTIMUM: return "Optimum";
     case PBCUBE_UNSUPPORTED: return "Unsupported";
     case PBCUBE_BAD_VARIABLE: return "BadVariable";
@@ -124,11 +169,11 @@ const char *pbcube_name(int number)
     case PBCUBE_TOO_MANY: return "TooMany";
     case PBCUBE_MEMORY: return "Memory";
     case PBCUBE_UNENDED: return "Unended";
-    case PBCUBE_CLOSED: return "Closed";
     case PBCUBE_NO_ANSWER: return "NoAnswer";
     case PBCUBE_BAD_ARGUMENT: return "BadArgument";
     case PBCUBE_OUT_OF_RANGE: return "OutOfRange";
     case PBCUBE_NULL: return "Null";
+    case PBCUBE_BAD_LENGTH: return "BadLength";
     default: return "unnamed";
     }
 }

@@ -8,11 +8,11 @@
  * included, add up to at most 2^126 - 1, as do those of the objective; there are at most 4194304 constraints, and 16777216
  * terms. Nothing is printed. Link libpbcube.a; no thread is started, and memory comes from malloc.
  *
- * A call that answers a number below 0 changed nothing, but that pbcube_solve may have closed the solver where it wanted memory.
- * A solver is owned by its caller until pbcube_free, and everything that it gives is copied. It may go from thread to thread, but
- * is in one call at a time. To share work among threads, give each a solver of its own with the same statements and one cube of
- * the division as unit clauses, and take the answer that comes first: the least cost, and of equal costs the one with 0 at the
- * first variable where they differ. */
+ * Statements may follow questions, and questions statements. A call that answers a number below 0 changed nothing. A solver is
+ * owned by its caller until pbcube_free, and everything that it gives is copied. It may go from thread to thread, but is in one
+ * call at a time. To share work among threads, give each a solver of its own with the same statements and one cube of the division
+ * as unit clauses, and take the answer that comes first: the least cost, and of equal costs the one with 0 at the first variable
+ * where they differ. */
 #ifndef PBCUBE_H
 #define PBCUBE_H
 
@@ -25,11 +25,12 @@ extern "C" {
 
 typedef struct pbcube pbcube;
 
-enum pbcube_answer { /* of pbcube_solve and pbcube_run */
+enum pbcube_answer { /* of pbcube_solve, pbcube_solve_under and pbcube_run; the other questions say what they mean by them */
     PBCUBE_UNKNOWN = 1,        /* the search was cut by its budget, and found nothing; or of pbcube_run: memory was refused */
     PBCUBE_SATISFIABLE = 10,   /* there is no objective; the first feasible assignment was found */
     PBCUBE_FOUND = 11,         /* the search was cut; what was found is feasible, and may not be the least */
     PBCUBE_UNSATISFIABLE = 20, /* no assignment is feasible */
+    PBCUBE_CORE = 21,          /* of pbcube_explain: none is feasible under the core, which may not be minimal */
     PBCUBE_OPTIMUM = 30,       /* the least assignment was found */
     PBCUBE_UNSUPPORTED = 40    /* the text was refused; its report says why, and at which line */
 };
@@ -41,15 +42,17 @@ enum pbcube_code { /* of every call that answers an int */
     PBCUBE_TOO_MANY = -3,      /* there would be more constraints or terms than the limit */
     PBCUBE_MEMORY = -4,        /* memory was refused */
     PBCUBE_UNENDED = -5,       /* terms were given, and their sum was not ended */
-    PBCUBE_CLOSED = -6,        /* the solver was asked for an answer, and takes no more statements */
     PBCUBE_NO_ANSWER = -7,     /* nothing was found */
-    PBCUBE_BAD_ARGUMENT = -8,  /* a relation or a format is none of those below */
+    PBCUBE_BAD_ARGUMENT = -8,  /* a relation, a format or what is asked about is none of those below; a value is not 0 or 1 */
     PBCUBE_OUT_OF_RANGE = -9,  /* the cost does not fit int64_t: pbcube_cost_text gives it */
-    PBCUBE_NULL = -10          /* a pointer is null */
+    PBCUBE_NULL = -10,         /* a pointer is null */
+    PBCUBE_BAD_LENGTH = -11    /* there is not one value for each variable */
 };
 
 enum pbcube_relation { PBCUBE_AT_LEAST = 0, PBCUBE_AT_MOST = 1, PBCUBE_EQUAL = 2 };
 enum pbcube_format { PBCUBE_OPB = 0, PBCUBE_CNF = 1, PBCUBE_ICNF = 2 };
+enum pbcube_among { PBCUBE_FEASIBLE = 0, PBCUBE_LEAST = 1 };
+enum pbcube_status { PBCUBE_FALSE = 0, PBCUBE_TRUE = 1, PBCUBE_FREE = 2, PBCUBE_NOT_KNOWN = 3 };
 
 #define PBCUBE_NO_LIMIT UINT64_MAX
 #define PBCUBE_VERSION "1.0.0"
@@ -68,9 +71,28 @@ int pbcube_clause(pbcube *solver, const int32_t *literals, size_t count);
 int pbcube_discard(pbcube *solver);
 uint32_t pbcube_variables(pbcube *solver); /* how many there are so far; of null 0 */
 
-/* Solving, with at most so many decisions, or PBCUBE_NO_LIMIT. A solver may be solved again with another budget; it begins anew.
- * What was found is kept until a later search ends, which also takes it away where that one finds nothing. */
+/* Solving, with at most so many decisions, or PBCUBE_NO_LIMIT. What was found is kept until a later search ends, which also takes
+ * it away where that one finds nothing. pbcube_solve_under searches among the assignments that make the literals true; a literal
+ * of a variable that no statement names is left out. From one question to the next, up to the next statement, a solver keeps its
+ * search. */
 int pbcube_solve(pbcube *solver, uint64_t decisions);
+int pbcube_solve_under(pbcube *solver, const int32_t *literals, size_t count, uint64_t decisions);
+
+/* Values that searches try first: a byte 0 or 1 for each variable there is. Only a search that is cut depends on them. */
+int pbcube_suggest(pbcube *solver, const uint8_t *values, size_t count);
+
+/* Why nothing is feasible under the literals: PBCUBE_UNSATISFIABLE or PBCUBE_CORE, with some of them that are enough for that in
+ * the core and their number in core_count. Of PBCUBE_UNSATISFIABLE something is feasible without any one of them. The core is
+ * another array with room for `count` literals. PBCUBE_SATISFIABLE, where something is feasible, and PBCUBE_UNKNOWN write
+ * nothing. */
+int pbcube_explain(pbcube *solver, const int32_t *literals, size_t count, uint64_t decisions, int32_t *core, size_t *core_count);
+
+/* Which variables have one value in all assignments that are asked about: all that are feasible under the literals, or those of
+ * them that cost least. PBCUBE_SATISFIABLE writes a pbcube_status for each variable, that of variable 1 first, as many as fit;
+ * PBCUBE_UNKNOWN too, with PBCUBE_NOT_KNOWN among them; PBCUBE_UNSATISFIABLE, where nothing is feasible, writes nothing. What was
+ * found before stays with this question and the one above. */
+int pbcube_fixed(pbcube *solver, const int32_t *literals, size_t count, int among, uint64_t decisions,
+                 uint8_t *statuses, size_t size);
 
 /* Reading what was found. The cost is 0 without an objective; where a code is answered none is written. A value is 0 or 1. The
  * text of the cost is decimal, of at most 39 bytes: as many of them as fit are written, with no zero at the end, and its length is

@@ -35,6 +35,7 @@ STEPS = [
     Step("joins", "tests/joins.py"),
     Step("recipes", "tests/recipes.py"),
     Step("ways", "tests/ways.py", after="library"),
+    Step("questions", "tests/questions.py", after="library"),
     Step("packages", "tests/packages.py", after="library"),
     Step("python", "tests/python_package.py", after="library"),
     Step("budgets", "tests/budgets.py"),

@@ -22,6 +22,7 @@ static bool some_are_refused;
 static void null_pointers(void)
 {
     int64_t cost = 5;
+    size_t count = 5;
     EXPECT(pbcube_term(NULL, 1, 1) == PBCUBE_NULL);
     EXPECT(pbcube_end(NULL, PBCUBE_AT_LEAST, 1) == PBCUBE_NULL);
     EXPECT(pbcube_end_objective(NULL) == PBCUBE_NULL);
@@ -29,6 +30,9 @@ static void null_pointers(void)
     EXPECT(pbcube_discard(NULL) == PBCUBE_NULL);
     EXPECT(pbcube_variables(NULL) == 0);
     EXPECT(pbcube_solve(NULL, PBCUBE_NO_LIMIT) == PBCUBE_NULL);
+    EXPECT(pbcube_solve_under(NULL, NULL, 0, 0) == PBCUBE_NULL && pbcube_suggest(NULL, NULL, 0) == PBCUBE_NULL);
+    EXPECT(pbcube_explain(NULL, NULL, 0, 0, NULL, &count) == PBCUBE_NULL && count == 5);
+    EXPECT(pbcube_fixed(NULL, NULL, 0, PBCUBE_LEAST, 0, NULL, 0) == PBCUBE_NULL);
     EXPECT(pbcube_cost(NULL, &cost) == PBCUBE_NULL && cost == 5);
     EXPECT(pbcube_cost_text(NULL, NULL, 0) == 0);
     EXPECT(pbcube_value(NULL, 1) == PBCUBE_NULL);
@@ -61,10 +65,86 @@ static void in_order(pbcube *solver)
     EXPECT(pbcube_cost_text(solver, text, sizeof text) == 1 && text[0] == '2' && pbcube_cost_text(solver, NULL, 0) == 1);
     EXPECT(pbcube_value(solver, 1) == 0 && pbcube_value(solver, 2) == 1);
     EXPECT(pbcube_value(solver, 0) == PBCUBE_BAD_VARIABLE && pbcube_value(solver, 3) == PBCUBE_BAD_VARIABLE);
-    EXPECT(pbcube_term(solver, 1, 1) == PBCUBE_CLOSED && pbcube_end(solver, PBCUBE_EQUAL, 0) == PBCUBE_CLOSED);
-    EXPECT(pbcube_clause(solver, clause, 2) == PBCUBE_CLOSED && pbcube_end_objective(solver) == PBCUBE_CLOSED);
+    EXPECT(pbcube_term(solver, 1, 1) == PBCUBE_OK && pbcube_solve(solver, 0) == PBCUBE_UNENDED);
+    EXPECT(pbcube_discard(solver) == PBCUBE_OK);
+    EXPECT(pbcube_value(solver, 2) == 1); /* as before */
     EXPECT(pbcube_solve(solver, 0) == PBCUBE_UNKNOWN && pbcube_value(solver, 1) == PBCUBE_NO_ANSWER); /* in place of the optimum */
     EXPECT(pbcube_cost(solver, &cost) == PBCUBE_NO_ANSWER && cost == 2);
+}
+
+/* min: 3 x1 + 2 x2 where x1 or x2 is 1, and x3 or x4. */
+static void tell_pairs(pbcube *solver)
+{
+    const int32_t clause[] = {1, 2}, other[] = {3, 4};
+    EXPECT(pbcube_term(solver, 3, 1) == PBCUBE_OK && pbcube_term(solver, 2, 2) == PBCUBE_OK);
+    EXPECT(pbcube_end_objective(solver) == PBCUBE_OK);
+    EXPECT(pbcube_clause(solver, clause, 2) == PBCUBE_OK && pbcube_clause(solver, other, 2) == PBCUBE_OK);
+}
+
+static void questions(pbcube *solver)
+{
+    const int32_t none[] = {-3, -1, -2, -1}, some[] = {-2, 9};
+    const uint8_t values[] = {1, 0, 1, 0};
+    int32_t core[4] = {7, 7, 7, 7};
+    uint8_t statuses[5] = {9, 9, 9, 9, 9};
+    int64_t cost = 5;
+    size_t count = 9;
+    tell_pairs(solver);
+    EXPECT(pbcube_solve_under(solver, some, 2, PBCUBE_NO_LIMIT) == PBCUBE_OPTIMUM); /* no statement names x9 */
+    EXPECT(pbcube_cost(solver, &cost) == PBCUBE_OK && cost == 3 && pbcube_value(solver, 9) == PBCUBE_BAD_VARIABLE);
+    EXPECT(pbcube_explain(solver, some, 2, PBCUBE_NO_LIMIT, core, &count) == PBCUBE_SATISFIABLE && count == 9 && core[0] == 7);
+    EXPECT(pbcube_explain(solver, none, 4, PBCUBE_NO_LIMIT, core, &count) == PBCUBE_UNSATISFIABLE && count == 2);
+    EXPECT((core[0] == -2 && core[1] == -1 && core[2] == 7) || (core[0] == -1 && core[1] == -2 && core[2] == 7));
+    EXPECT(pbcube_fixed(solver, some, 1, PBCUBE_FEASIBLE, PBCUBE_NO_LIMIT, statuses, 5) == PBCUBE_SATISFIABLE);
+    EXPECT(statuses[0] == PBCUBE_TRUE && statuses[1] == PBCUBE_FALSE && statuses[2] == PBCUBE_FREE && statuses[4] == 9);
+    EXPECT(pbcube_fixed(solver, NULL, 0, PBCUBE_LEAST, PBCUBE_NO_LIMIT, statuses, 1) == PBCUBE_SATISFIABLE);
+    EXPECT(statuses[0] == PBCUBE_FALSE && statuses[1] == PBCUBE_FALSE); /* there was room for one */
+    EXPECT(pbcube_fixed(solver, none, 4, PBCUBE_LEAST, PBCUBE_NO_LIMIT, statuses, 4) == PBCUBE_UNSATISFIABLE);
+    EXPECT(statuses[3] == PBCUBE_FREE); /* as it was */
+    EXPECT(pbcube_cost(solver, &cost) == PBCUBE_OK && cost == 3); /* what was found stays */
+    EXPECT(pbcube_fixed(solver, NULL, 0, PBCUBE_FEASIBLE, 0, statuses, 4) == PBCUBE_UNKNOWN && statuses[0] == PBCUBE_NOT_KNOWN);
+    EXPECT(pbcube_suggest(solver, values, 4) == PBCUBE_OK && pbcube_solve(solver, 0) == PBCUBE_FOUND);
+    EXPECT(pbcube_cost(solver, &cost) == PBCUBE_OK && cost == 3 && pbcube_value(solver, 3) == 1);
+    EXPECT(pbcube_explain(solver, none, 4, 0, core, &count) == PBCUBE_UNKNOWN || count <= 4);
+    EXPECT(pbcube_clause(solver, none + 2, 1) == PBCUBE_OK && pbcube_solve(solver, PBCUBE_NO_LIMIT) == PBCUBE_OPTIMUM);
+    EXPECT(pbcube_cost(solver, &cost) == PBCUBE_OK && cost == 3);
+    pbcube_free(solver);
+}
+
+/* After each refusal everything is as it was. */
+static void misuse(pbcube *solver)
+{
+    const int32_t zero[] = {1, 0}, great[] = {1048577}, one[] = {1};
+    const uint8_t values[] = {1, 0, 1, 0, 1}, two[] = {1, 0, 2, 0};
+    int32_t core[2] = {7, 7};
+    uint8_t statuses[4] = {9, 9, 9, 9};
+    int64_t cost = 5;
+    size_t count = 9;
+    tell_pairs(solver);
+    EXPECT(pbcube_solve(solver, PBCUBE_NO_LIMIT) == PBCUBE_OPTIMUM);
+    EXPECT(pbcube_solve_under(solver, zero, 2, 0) == PBCUBE_BAD_VARIABLE);
+    EXPECT(pbcube_solve_under(solver, great, 1, 0) == PBCUBE_BAD_VARIABLE);
+    EXPECT(pbcube_explain(solver, zero, 2, 0, core, &count) == PBCUBE_BAD_VARIABLE);
+    EXPECT(pbcube_fixed(solver, great, 1, PBCUBE_LEAST, 0, statuses, 4) == PBCUBE_BAD_VARIABLE);
+    EXPECT(pbcube_fixed(solver, one, 1, 2, 0, statuses, 4) == PBCUBE_BAD_ARGUMENT);
+    EXPECT(pbcube_fixed(solver, one, 1, -1, 0, statuses, 4) == PBCUBE_BAD_ARGUMENT);
+    EXPECT(pbcube_suggest(solver, values, 3) == PBCUBE_BAD_LENGTH && pbcube_suggest(solver, values, 5) == PBCUBE_BAD_LENGTH);
+    EXPECT(pbcube_suggest(solver, NULL, 0) == PBCUBE_BAD_LENGTH && pbcube_suggest(solver, two, 4) == PBCUBE_BAD_ARGUMENT);
+    EXPECT(pbcube_solve_under(solver, NULL, 1, 0) == PBCUBE_NULL && pbcube_suggest(solver, NULL, 4) == PBCUBE_NULL);
+    EXPECT(pbcube_explain(solver, NULL, 1, 0, core, &count) == PBCUBE_NULL);
+    EXPECT(pbcube_explain(solver, one, 1, 0, NULL, &count) == PBCUBE_NULL);
+    EXPECT(pbcube_explain(solver, one, 1, 0, core, NULL) == PBCUBE_NULL);
+    EXPECT(pbcube_fixed(solver, NULL, 1, PBCUBE_LEAST, 0, statuses, 4) == PBCUBE_NULL);
+    EXPECT(pbcube_fixed(solver, one, 1, PBCUBE_LEAST, 0, NULL, 4) == PBCUBE_NULL);
+    EXPECT(pbcube_term(solver, 1, 4) == PBCUBE_OK);
+    EXPECT(pbcube_solve_under(solver, zero, 2, 0) == PBCUBE_UNENDED);
+    EXPECT(pbcube_explain(solver, one, 1, 0, core, &count) == PBCUBE_UNENDED);
+    EXPECT(pbcube_fixed(solver, one, 1, PBCUBE_LEAST, 0, statuses, 4) == PBCUBE_UNENDED);
+    EXPECT(count == 9 && core[0] == 7 && core[1] == 7 && statuses[0] == 9 && statuses[3] == 9);
+    EXPECT(pbcube_cost(solver, &cost) == PBCUBE_OK && cost == 2 && pbcube_variables(solver) == 4);
+    EXPECT(pbcube_end(solver, PBCUBE_AT_LEAST, 1) == PBCUBE_OK); /* the term is still there */
+    EXPECT(pbcube_solve(solver, PBCUBE_NO_LIMIT) == PBCUBE_OPTIMUM && pbcube_value(solver, 3) == 0 && pbcube_value(solver, 4) == 1);
+    pbcube_free(solver);
 }
 
 static void great_costs(pbcube *solver)
@@ -125,9 +205,11 @@ int main(int count, char **words)
     pbcube *solver = pbcube_new();
     in_order(solver);
     pbcube_free(solver);
+    questions(pbcube_new());
+    misuse(pbcube_new());
     great_costs(pbcube_new());
     texts(pbcube_new());
-    for (int number = -11; number < 42; number++)
+    for (int number = -12; number < 42; number++)
         EXPECT(pbcube_name(number)[0] != '\0');
     EXPECT(strcmp(pbcube_version(), PBCUBE_VERSION) == 0);
     return 0;

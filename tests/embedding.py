@@ -66,7 +66,7 @@ def link(program, source, words):
 def run(command, **variables):
     others = {name: text for name, text in os.environ.items() if not name.startswith("PBCUBE_")}  # which name other libraries
     environment = {**others, "PYTHONPATH": str(PYTHON), "PYTHONDONTWRITEBYTECODE": "1", **variables}
-    return subprocess.run(command, env=environment, capture_output=True, text=True, timeout=500)
+    return subprocess.run(command, env=environment, stdin=subprocess.DEVNULL, capture_output=True, text=True, timeout=500)
 
 
 def refuse_each(command, ways, may_end):

@@ -35,7 +35,7 @@ if not shutil.which("cc"):
     sys.exit(0)
 os.environ.pop("PBCUBE_LIBRARY", None)
 import pbcube
-from pbcube import Answer, Constraint, Error, ForeignLiteral, Literal, Model, Refused, Status, Sum, solve, total
+from pbcube import Answer, Constraint, Error, Explanation, ForeignLiteral, Literal, Model, Refused, Status, Sum, solve, total
 
 MODELS = 150
 IN_CHILD = 6  # of which each has to start
@@ -166,6 +166,9 @@ def foreign_facts():
         "maximise": lambda: model.maximise(x - y), "implies": lambda: model.implies(y, x), "implied": lambda: model.implies(x, y >= 1),
         "exactly": lambda: model.exactly(1, [x, y]), "at_most": lambda: model.at_most(1, [x, ~y]),
         "at_least": lambda: model.at_least(1, [y]), "total": lambda: model.add(total([x, y]) <= 1),
+        "assumed": lambda: model.solve(assuming=[x, ~y]), "explained": lambda: model.explain([y]), "fixed": lambda: model.fixed([y]),
+        "asked": lambda: model.fixed()[y], "start": lambda: model.solve(start={y: True}),
+        "answers": lambda: model.solve(start=other.solve()),
         "answer": lambda: model.solve()[y], "value": lambda: model.solve().value(x + y),
     }  # fmt: skip
     for name, call in calls.items():
@@ -178,12 +181,9 @@ def foreign_facts():
 
 
 def refusal_facts():
-    solved, model = Model(), Model()
+    model = Model()
     x = model.variable("x")
-    y = solved.variable()
-    solved.solve()
     cases = (
-        ("Closed", lambda: solved.add(y >= 1)), ("Closed", lambda: solved.clause([y])), ("Closed", lambda: solved.minimise(y)),
         ("BadVariable", lambda: Literal(0)), ("BadVariable", lambda: model.variables(-1)), ("BadVariable", lambda: model.variables(10**15)),
         ("BadVariable", lambda: model.variables(2**20)), ("NameTaken", lambda: model.variable("x")),
         ("NameTaken", lambda: model.variables("y y")), ("NotFinite", lambda: float("nan") * x),
@@ -196,7 +196,7 @@ def refusal_facts():
         yield f"{name}: {fault!r}", is_told and str(pickle.loads(pickle.dumps(fault))) == str(fault)
     yield "advice for fractions", "limit_denominator" in raised(lambda: model.add(1e-300 * x >= 1)).hint
     yield from other_refusals(model, x, Model().solve())
-    model.add(x >= 1)  # which none of these calls closed
+    model.add(x >= 1)
     yield "nothing was added", model.solve() == Answer(Status.SATISFIABLE, None, (True,), ("x",)) and model.variable("z").number == 2
 
 
@@ -210,6 +210,10 @@ def other_refusals(model, x, answer):
         (TypeError, lambda: model.add(x)), (TypeError, lambda: model.clause([1])), (TypeError, lambda: model.at_most(1.5, [x])),
         (TypeError, lambda: model.implies(x, 1)), (TypeError, lambda: model.variables([1])), (TypeError, lambda: answer[1]),
         (LookupError, lambda: answer[Literal(1)]), (LookupError, lambda: answer["x"]), (KeyError, lambda: model["y"]),
+        (ValueError, lambda: model.fixed(among="all")), (TypeError, lambda: model.solve(assuming=[1])),
+        (TypeError, lambda: model.explain("x")), (LookupError, lambda: model.fixed()["y"]),
+        (LookupError, lambda: model.fixed([x, ~x])["x"]), (KeyError, lambda: model.solve(start={"y": 1})),
+        (LookupError, lambda: model.solve(start={Literal(2): 1})), (ValueError, lambda: model.explain([x], -1)),
         (TypeError, lambda: total([x, "y"])), (LookupError, lambda: solve("1 x1 >= 2 ;")[Literal(1)]), (ZeroDivisionError, lambda: x / 0),
     )  # fmt: skip
     for at, (kind, call) in enumerate(cases):
@@ -234,9 +238,10 @@ def room_facts():
     yield "constraints", raised(lambda: model.add(sum([]) == 0)).name == "TooMany" and model.solve().cost == 1
     module._MOST_CONSTRAINTS, module._MOST_TERMS = held[1:]
     searches = sys.modules["pbcube.searches"]
-    kept, searches.search = searches.search, lambda *_: (0, None, None, ("Memory", 0))
+    kept = searches.search, searches.Kept.ask
+    searches.search = searches.Kept.ask = lambda *_: (0, None, None, ("Memory", 0))
     yield "memory", type(raised(model.solve)) is type(raised(lambda: solve(TEXT))) is MemoryError
-    searches.search = kept
+    searches.search, searches.Kept.ask = kept
 
 
 REFUSED = (
@@ -327,6 +332,91 @@ def drawn_model():
         return model, Answer(Status.UNSATISFIABLE, None, None)
     best = min(feasible, key=lambda values: sign * worth_of(aim, values))
     return model, Answer(Status.OPTIMUM, worth_of(aim, best), best) if sign else Answer(Status.SATISFIABLE, None, best)
+
+
+def question_facts():
+    """Questions of one model, with rules between them: of these tests/questions.py asks many, of this process alone."""
+    model = Model()
+    x, y, z = model.variables("x y z")
+    unnamed = model.variable()
+    model.minimise(3 * x + 2 * y)
+    model.add(x + y >= 1)
+    yield "under a literal", model.solve(assuming=[~y]).named() == {"x": True, "y": False, "z": False}
+    yield "of no rule", model.solve(assuming=[unnamed])[unnamed]
+    yield "twice of no rule", model.solve(assuming=[unnamed, ~unnamed]).status is Status.UNSATISFIABLE
+    why = model.explain([z, ~x, unnamed, ~y])
+    yield "why", why.status is Status.UNSATISFIABLE and why.is_minimal and [it.number for it in why.core] == [-1, -2]
+    why = model.explain([x, ~y])
+    yield "no core", isinstance(why, Explanation) and (why.status, why.core, why.is_minimal) == (Status.SATISFIABLE, None, False)
+    fixed = model.fixed([~x])
+    yield "fixed", (fixed[x], fixed[~x], fixed["y"], fixed[z], fixed[~z], fixed[unnamed]) == (False, True, True, None, None, None)
+    yield "fixed in the least", model.fixed(among="least").named() == {"x": False, "y": True, "z": None}
+    yield "nothing is fixed", model.fixed([x, ~x]).status is Status.UNSATISFIABLE and model.fixed([x, ~x]).named() == {}
+    cut = model.fixed(nodes=0)
+    yield "cut", cut.status is Status.UNKNOWN and not cut.is_known(x) and cut.named() == {}
+    yield "not known", isinstance(raised(lambda: cut[x]), LookupError)
+    first = model.solve(0, start={x: True, ~y: True, "z": True})
+    yield "a start", (first.status, first.cost, first[z]) == (Status.FOUND, 3, True)
+    model.add(x + z >= 2)
+    yield "a rule after questions", model.solve(start=first).cost == 3 and [it.name for it in model.explain([y, ~z]).core] == ["z"]
+    model.minimise(x + 5 * z + unnamed)
+    yield "an objective after questions", model.solve(start=model.solve()).cost == 6 and model.solve(assuming=[unnamed]).cost == 7
+    model.add(2**70 * y >= 1)
+    yield "numbers over 64 bits", model.solve(assuming=[unnamed])["y"] and model.solve(assuming=[~y]).status is Status.UNSATISFIABLE
+    yield "which ask for less", raised(lambda: model.explain([~y])).name == raised(model.fixed).name == "TooLarge"
+
+
+def start_facts():
+    """The values of a start that misses one rule are the first that a search tries: what it finds first differs from it in little."""
+    random.seed(3)
+    model = Model()
+    items = model.variables(24)
+    model.minimise(total((1 + at % 5) * item for at, item in enumerate(items)))
+    for _ in range(30):
+        model.at_least(2, random.sample(items, 5))
+    model.clause(items[:2])
+    start = {item: at > 1 for at, item in enumerate(items)}
+    plain, led = model.solve(24), model.solve(24, start=start)
+    yield "both are cut", plain.status is led.status is Status.FOUND
+    yield "a start is tried first", sum(led[item] != value for item, value in start.items()) <= 4
+    yield "and else it is not", sum(plain[item] != value for item, value in start.items()) > 8
+
+
+def kept_facts():
+    """A child answers question after question of one model. It ends with the model, and where many wait."""
+    searches = sys.modules["pbcube.searches"]
+    is_small, searches._is_small = searches._is_small, lambda _: False
+    models = []
+    for _ in range(6):
+        model = Model()
+        x, y = model.variables(2)
+        model.add(x + y == 1)
+        models.append((model, x, y, model.fixed([x])[y]))
+    yield "fixed by a child", all(fixed is False for *_, fixed in models)
+    yield f"so many wait: {waiting()}", len(waiting()) == searches._MOST_WAITING
+    model, x, y, _ = models[-1]
+    before = waiting()
+    model.add(x >= 1)
+    answers = model.solve()[x], model.explain([y]).status, model.solve(assuming=[y], time_limit=60).status
+    yield "a kept one is told more", answers == (True, Status.UNSATISFIABLE, Status.UNSATISFIABLE) and waiting() == before
+    yield "one that was ended is started anew", models[0][0].fixed([models[0][1]])[models[0][2]] is False
+    killed = waiting()[-1]
+    os.kill(killed, signal.SIGKILL)
+    yield "one that was killed while it waited too", has_ended(killed) and all(it.fixed([x])[y] is False for it, x, y, _ in models)
+    asked = []
+    thread = threading.Thread(target=lambda: asked.append(model.solve(assuming=[x], time_limit=60).status))
+    thread.start()
+    thread.join()
+    yield "in another thread", asked == [Status.SATISFIABLE] and model.solve(assuming=[x], time_limit=60).status is Status.SATISFIABLE
+    del models, model, x, y
+    yield "each ends with its model", waiting() == [] and raised(lambda: os.waitpid(-1, os.WNOHANG)).__class__ is ChildProcessError
+    searches._is_small = is_small
+
+
+def waiting():
+    """The children that wait for questions, the one that does so longest first."""
+    searches = sys.modules["pbcube.searches"]
+    return [child._process.pid for child in (it() for it in searches._waiting) if child is not None]
 
 
 def random_facts():
@@ -441,6 +531,30 @@ def interrupt_facts(send):
     run.process.wait()
 
 
+ASKED = """
+pbcube.searches._is_small = lambda _: False
+model, x = hard(), pbcube.Literal(1)
+say(model.fixed([x, ~x]).status, len(children()))
+try:
+    model.fixed()
+except KeyboardInterrupt:
+    say("interrupted", children(), model.fixed([x, ~x]).status, len(children()))
+say(model.fixed(time_limit=0.5).status, children())
+"""
+
+
+def question_end_facts():
+    """A child that is kept ends with Ctrl-C and with a time limit, and the model asks another one."""
+    run = Run(ASKED)
+    yield "a question", run.line()[0] == "Status.UNSATISFIABLE 1"
+    time.sleep(0.3)
+    run.process.send_signal(signal.SIGINT)
+    for told in ("interrupted [] Status.UNSATISFIABLE 1", "Status.UNKNOWN []"):
+        said, _ = run.line()
+        yield f"a question that is ended: {said!r}", said == told
+    yield "and then it ends", run.process.wait() == 0
+
+
 ALARMED = """
 def ring(*_):
     raise RuntimeError("rung")
@@ -511,9 +625,10 @@ def death_facts():
 
 
 def main():
-    calls = [value_facts, page_facts, wide_facts, copy_facts, random_facts, child_facts]
+    calls = [value_facts, page_facts, wide_facts, copy_facts, question_facts, start_facts, random_facts, child_facts, kept_facts]
     refusals = [foreign_facts, refusal_facts, room_facts, text_facts]
-    ends = [lambda: interrupt_facts(os.kill), lambda: interrupt_facts(os.killpg), exception_facts, limit_facts, death_facts]
+    interrupts = [lambda: interrupt_facts(os.kill), lambda: interrupt_facts(os.killpg), question_end_facts]
+    ends = [*interrupts, exception_facts, limit_facts, death_facts]
     facts = [fact for part in (*calls, *refusals, *ends) for fact in part()]
     wrong = [what for what, holds in facts if not holds]
     print(*(f"python: not so: {it}" for it in wrong), sep="\n", end="\n" if wrong else "")

@@ -5,6 +5,11 @@
  *     clause COUNT LITERAL ..
  *     solve DECISIONS                     solves what was told since the last time
  *     text FORMAT DECISIONS LENGTH BYTES  solves a text by itself
+ *     under DECISIONS COUNT LITERAL ..    solves what was told so far, under literals
+ *     explain DECISIONS COUNT LITERAL ..  tells why nothing is feasible under literals
+ *     fixed AMONG DECISIONS COUNT LITERAL ..  tells which variables are fixed under literals
+ *     suggest COUNT VALUE ..              suggests values
+ *     new                                 forgets what was told
  *
  * Each report is followed by a line '= ANSWER'. tests/told.rs does the same. */
 #include "pbcube.h"
@@ -18,6 +23,7 @@ enum { MOST = 1 << 16 };
 
 static char bytes[MOST];
 static int32_t literals[MOST];
+static int32_t core[MOST];
 
 static int64_t number(void)
 {
@@ -41,12 +47,19 @@ static void terms(pbcube *solver)
     }
 }
 
-static void clause(pbcube *solver)
+/* Reads literals, and answers how many. */
+static size_t read_literals(void)
 {
     size_t count = (size_t)number();
     expect(count <= MOST);
     for (size_t i = 0; i < count; i++)
         literals[i] = (int32_t)number();
+    return count;
+}
+
+static void clause(pbcube *solver)
+{
+    size_t count = read_literals();
     expect(pbcube_clause(solver, literals, count) == PBCUBE_OK);
 }
 
@@ -87,6 +100,60 @@ static void text(pbcube *solver)
     printf("= %d\n", answer);
 }
 
+static void under(pbcube *solver, int has_objective)
+{
+    uint64_t decisions = (uint64_t)number();
+    size_t count = read_literals();
+    report(solver, pbcube_solve_under(solver, literals, count, decisions), has_objective);
+}
+
+static void explain(pbcube *solver)
+{
+    uint64_t decisions = (uint64_t)number();
+    size_t count = read_literals(), core_count = 0;
+    int answer = pbcube_explain(solver, literals, count, decisions, core, &core_count);
+    fputs("core", stdout);
+    for (size_t i = 0; i < core_count; i++)
+        printf(" %" PRId32, core[i]);
+    printf("\n= %d\n", answer);
+}
+
+static void fixed(pbcube *solver)
+{
+    int among = (int)number();
+    uint64_t decisions = (uint64_t)number();
+    size_t count = read_literals();
+    int answer = pbcube_fixed(solver, literals, count, among, decisions, (uint8_t *)bytes, MOST);
+    fputs("fixed ", stdout);
+    for (uint32_t i = 0; answer != PBCUBE_UNSATISFIABLE && i < pbcube_variables(solver); i++)
+        putchar('0' + bytes[i]);
+    printf("\n= %d\n", answer);
+}
+
+static void suggest(pbcube *solver)
+{
+    size_t count = read_literals();
+    for (size_t i = 0; i < count; i++)
+        bytes[i] = (char)literals[i];
+    expect(pbcube_suggest(solver, (uint8_t *)bytes, count) == PBCUBE_OK);
+}
+
+/* Asks what the word says, and answers whether it is a question. */
+static int ask(pbcube *solver, const char *word, int has_objective)
+{
+    if (strcmp(word, "under") == 0)
+        under(solver, has_objective);
+    else if (strcmp(word, "explain") == 0)
+        explain(solver);
+    else if (strcmp(word, "fixed") == 0)
+        fixed(solver);
+    else if (strcmp(word, "suggest") == 0)
+        suggest(solver);
+    else
+        return 0;
+    return 1;
+}
+
 int main(void)
 {
     char word[16];
@@ -105,12 +172,13 @@ int main(void)
             expect(pbcube_end(solver, relation, bound) == PBCUBE_OK);
         } else if (strcmp(word, "clause") == 0) {
             clause(solver);
-        } else if (strcmp(word, "solve") == 0) {
-            report(solver, pbcube_solve(solver, (uint64_t)number()), has_objective);
+        } else if (strcmp(word, "solve") == 0 || strcmp(word, "new") == 0) {
+            if (word[0] == 's')
+                report(solver, pbcube_solve(solver, (uint64_t)number()), has_objective);
             pbcube_free(solver);
             solver = pbcube_new();
             has_objective = 0;
-        } else {
+        } else if (!ask(solver, word, has_objective)) {
             text(solver);
         }
     }

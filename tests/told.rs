@@ -1,6 +1,6 @@
 //! Does what tests/told.c does.
 
-use pbcube::{Format, Relation, Solver, Status};
+use pbcube::{Among, Answer, Explanation, Fixed, Format, Relation, Solver, Status, VariableStatus};
 use std::error::Error;
 use std::io::{stdin, stdout, BufRead, Read, Write};
 
@@ -32,9 +32,17 @@ impl<R: BufRead> Words<R> {
         Ok(u64::try_from(decisions).ok())
     }
 
+    fn literals(&mut self) -> Done<Vec<i32>> {
+        (0..self.number()?).map(|_: u32| self.number()).collect()
+    }
+
     fn terms(&mut self) -> Done<Vec<(i64, i32)>> {
         (0..self.number()?).map(|_: u32| Ok((self.number()?, self.number()?))).collect()
     }
+}
+
+fn joined<T: std::fmt::Display>(numbers: impl IntoIterator<Item = T>, between: &str) -> String {
+    numbers.into_iter().map(|number| format!("{between}{number}")).collect()
 }
 
 fn answer_of(status: Status) -> i32 {
@@ -48,8 +56,7 @@ fn answer_of(status: Status) -> i32 {
     }
 }
 
-fn report(out: &mut impl Write, solver: &mut Solver, decisions: Option<u64>, has_objective: bool) -> Done<()> {
-    let answer = solver.solve(decisions)?;
+fn report(out: &mut impl Write, answer: Answer, has_objective: bool) -> Done<()> {
     if let (Some(cost), true) = (answer.cost, has_objective) {
         writeln!(out, "o {cost}")?;
     }
@@ -76,6 +83,30 @@ fn text(words: &mut Words<impl BufRead>, out: &mut impl Write, solver: &mut Solv
     Ok(writeln!(out, "{}= {}", report.text, answer_of(report.status))?)
 }
 
+fn explain(words: &mut Words<impl BufRead>, out: &mut impl Write, solver: &mut Solver) -> Done<()> {
+    let decisions = words.decisions()?;
+    let (core, answer) = match solver.explain(&words.literals()?, decisions)? {
+        Explanation::Feasible => (Vec::new(), 10),
+        Explanation::Core { literals, is_minimal } => (literals, if is_minimal { 20 } else { 21 }),
+        Explanation::Unknown => (Vec::new(), 1),
+    };
+    Ok(writeln!(out, "core{}\n= {answer}", joined(core, " "))?)
+}
+
+fn fixed(words: &mut Words<impl BufRead>, out: &mut impl Write, solver: &mut Solver) -> Done<()> {
+    let among = [Among::Feasible, Among::Least][words.number::<usize>()?];
+    let decisions = words.decisions()?;
+    let (statuses, answer) = match solver.fixed(&words.literals()?, among, decisions)? {
+        Fixed::Infeasible => (Vec::new(), 20),
+        Fixed::Variables(statuses) => {
+            let is_cut = statuses.contains(&VariableStatus::Unknown);
+            (statuses, if is_cut { 1 } else { 10 })
+        }
+    };
+    let digits = statuses.into_iter().map(|status| status as u8);
+    Ok(writeln!(out, "fixed {}\n= {answer}", joined(digits, ""))?)
+}
+
 fn main() -> Done<()> {
     let (mut words, mut out) = (Words(stdin().lock()), stdout().lock());
     let (mut solver, mut has_objective) = (Solver::new()?, false);
@@ -91,13 +122,23 @@ fn main() -> Done<()> {
                 solver.add(&words.terms()?, relation, bound)?;
             }
             "clause" => {
-                let literals: Done<Vec<i32>> = (0..words.number()?).map(|_: u32| words.number()).collect();
-                solver.clause(&literals?)?;
+                solver.clause(&words.literals()?)?;
             }
             "solve" => {
                 let decisions = words.decisions()?;
-                report(&mut out, &mut solver, decisions, has_objective)?;
+                report(&mut out, solver.solve(decisions)?, has_objective)?;
                 (solver, has_objective) = (Solver::new()?, false);
+            }
+            "new" => (solver, has_objective) = (Solver::new()?, false),
+            "under" => {
+                let decisions = words.decisions()?;
+                report(&mut out, solver.solve_under(&words.literals()?, decisions)?, has_objective)?;
+            }
+            "explain" => explain(&mut words, &mut out, &mut solver)?,
+            "fixed" => fixed(&mut words, &mut out, &mut solver)?,
+            "suggest" => {
+                let values: Vec<bool> = words.literals()?.iter().map(|&value| value == 1).collect();
+                solver.suggest(&values)?;
             }
             _ => text(&mut words, &mut out, &mut solver)?,
         }

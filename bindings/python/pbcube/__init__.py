@@ -16,7 +16,10 @@ or tell the rules one by one:
     (Status.OPTIMUM, 2, False, True)
 
 Among the assignments of the least cost the answer is the first one: at the first variable where two differ, the one with
-False comes first. Ctrl-C ends a search, which then leaves the model as it was, and so does a time limit. For that a search that may
+False comes first. A model may be asked question after question, under literals that are assumed (`Model.solve`), also why there is no
+answer (`Model.explain`) and which variables have one value (`Model.fixed`), with more rules between them; it keeps its search.
+
+Ctrl-C ends a search, which then leaves the model as it was, and so does a time limit. For that a search that may
 take long runs in a process of its own, a new `sys.executable`; in a thread that is not the main one, where Ctrl-C is never raised,
 it runs in this process unless it has a time limit.
 
@@ -27,14 +30,17 @@ PREFIX/lib/pythonX/site-packages/pbcube; in c/out of the repository; in ~/.local
 
 from __future__ import annotations
 
-from .answers import Answer, Status
+from .answers import Answer, Explanation, Fixed, Status
 from .errors import Error, ForeignLiteral, Refused
 from .library import loaded as _library
 from .model import Model, solve
 from .sums import Constraint, Literal, Sum, total
 
-__all__ = ["Answer", "Constraint", "Error", "ForeignLiteral", "Literal", "Model", "Refused", "Status", "Sum", "solve", "total"]
+__all__ = [
+    "Answer", "Constraint", "Error", "Explanation", "Fixed", "ForeignLiteral", "Literal", "Model", "Refused", "Status", "Sum", "solve",
+    "total",
+]  # fmt: skip
 __version__ = "1.0.0"
 
-for _public in (Answer, Constraint, Error, ForeignLiteral, Literal, Model, Refused, Status, Sum, solve, total):
+for _public in (Answer, Constraint, Error, Explanation, Fixed, ForeignLiteral, Literal, Model, Refused, Status, Sum, solve, total):
     _public.__module__ = __name__  # by which tracebacks and pickles name them

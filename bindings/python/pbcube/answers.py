@@ -94,3 +94,61 @@ class Answer:
         cost = self.cost if self.cost is None or isinstance(self.cost, int) else str(self.cost)
         told = {"status": self.status.name, "cost": cost, "values": self.values, "named": self.named()}
         return json.dumps(told, indent=indent)
+
+
+@dataclass(frozen=True, eq=False)
+class Explanation:
+    """Why nothing is feasible under literals: `Status.UNSATISFIABLE` with a core, which are some of them under which nothing is,
+    `Status.SATISFIABLE` where something is, or `Status.UNKNOWN`. A core is minimal where something is feasible without any one of its
+    literals; one that is not was cut by the budget or the time limit before that was known."""
+
+    status: Status
+    core: Optional[Tuple[Literal, ...]] = None
+    is_minimal: bool = False
+
+
+@dataclass(frozen=True)
+class Fixed:
+    """Which variables have one value in all assignments that were asked about: `Status.SATISFIABLE` where all is known,
+    `Status.UNKNOWN` where the budget or the time limit cut it, and `Status.UNSATISFIABLE` where nothing is feasible."""
+
+    status: Status
+    statuses: Optional[bytes] = field(repr=False)
+    names: Tuple[Optional[str], ...] = field(default=(), repr=False)
+    owners: Tuple[Tuple[int, int], ...] = field(default=(), repr=False, compare=False)
+
+    def __getitem__(self, literal: Union[Literal, str]) -> Optional[bool]:
+        """The value of a literal, or of the variable of a name, in all these assignments, and None where it has both.
+
+        Raises LookupError where that is not known, or nothing is feasible, or the variable is none of the model's, and ForeignLiteral
+        where it is one of another model."""
+        number = self._number(literal)
+        status = self._status(number)
+        if status == 3:
+            raise LookupError(f"of variable {abs(number)} it is not known")
+        return None if status == 2 else (status == 1) == (number > 0)
+
+    def is_known(self, literal: Union[Literal, str]) -> bool:
+        """Whether the value of a literal, or of the variable of a name, is known, or that it has both."""
+        return self._status(self._number(literal)) != 3
+
+    def named(self) -> Dict[str, Optional[bool]]:
+        """What is known of the variables that have names, by name; nothing where nothing is feasible."""
+        pairs = zip(self.names, self.statuses or b"")
+        return {name: None if status == 2 else status == 1 for name, status in pairs if name is not None and status != 3}
+
+    def _number(self, literal: Union[Literal, str]) -> int:
+        if isinstance(literal, str):
+            if literal not in self.names:
+                raise LookupError(f"no variable is named {literal!r}")
+            return self.names.index(literal) + 1
+        given = as_literal(literal)
+        check_owners(given.owners, dict(self.owners))
+        return given.number
+
+    def _status(self, number: int) -> int:
+        if self.statuses is None:
+            raise LookupError("nothing is feasible")
+        if abs(number) > len(self.statuses):
+            raise LookupError(f"no variable {abs(number)} among {len(self.statuses)}")
+        return self.statuses[abs(number) - 1]

@@ -8,7 +8,6 @@ _HINTS: Dict[str, str] = {
     "BadHeader": "the first line that is no comment has to be 'p cnf VARIABLES CLAUSES', or in iCNF 'p inccnf'",
     "BadVariable": "variables have numbers from 1 to 1048576, and in a CNF at most as many as its header says",
     "ClauseAfterCube": "put all clauses before the first cube",
-    "Closed": "a model that was solved takes no more: model.copy() does",
     "Ended": "the process of the search ended by itself, as where the system wants its memory back",
     "LateObjective": "put the one objective in front of all constraints",
     "NameTaken": "each name is that of one variable: model[name] is its literal",

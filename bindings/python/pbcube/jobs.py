@@ -6,7 +6,12 @@ from typing import Any, Optional, Tuple
 
 Statement = Tuple[str, int, Any]
 """A relation or 'min' with the bound, and coefficients and literals in turn; or 'or' with 0, and the literals of a clause."""
-Job = Tuple[str, Any, Optional[int]]
-"""What is to be solved: 'told' with statements and None, or 'text' with the bytes and the number of the format."""
+Job = Tuple[str, Any, Any]
+"""What a search is told and then asked: 'told' with statements, which add to those that it was told before, and a question; or
+'text' with the bytes and the number of the format."""
+Question = Tuple[str, Any, Any, int]
+"""What is asked under literals, in an array of 32 bits: 'solve' with the values to be tried first, as bytes 0 and 1, or None;
+'explain' with None; or 'fixed' with the number of what is asked about. Last how many variables there are to be at least."""
 Reply = Tuple[int, Optional[int], Optional[bytes], Optional[Tuple[str, int]]]
-"""A status, the cost, the values as bytes 0 and 1, and why nothing was searched: a name, and a line or 0."""
+"""A status; the cost; the values as bytes 0 and 1, a core as an array of 32 bits, or statuses as bytes; and why nothing was
+searched: a name, and a line or 0."""

@@ -1,6 +1,7 @@
 """The calls of the shared object libpbcube.so.1, and searches by them.
 
-Run as a program, this file makes one search for the process that started it. So it stands on no other file of the package.
+Run as a program, this file makes one search for the process that started it, and answers what that asks of it. So it stands on no
+other file of the package.
 """
 
 from __future__ import annotations
@@ -15,14 +16,16 @@ TYPE_CHECKING = False  # to a program; `typing` itself would take a child as lon
 if TYPE_CHECKING:
     from typing import Any
 
-    from .jobs import Job, Reply
+    from .jobs import Job, Question, Reply
 
 _LIBRARY = "libpbcube.so.1"
 NO_LIMIT = 2**64 - 1
 RELATIONS = {">=": 0, "<=": 1, "==": 2}
 FORMATS = {"opb": 0, "cnf": 1, "icnf": 2}
-CUT = (1, 11)
-"""The statuses of a search that was cut, without and with something found."""
+AMONG = {"feasible": 0, "least": 1}
+CUT = (1, 11, 21)
+"""The statuses of a question that was cut, without and with something found, and with a core that may not be minimal."""
+_LITERALS = ctypes.POINTER(ctypes.c_int32)
 _END_WITH_PARENT, _KILL = 1, 9  # PR_SET_PDEATHSIG and SIGKILL
 
 
@@ -48,9 +51,13 @@ def load(path: str) -> ctypes.CDLL:
         "term": (integer, [pointer, ctypes.c_int64, ctypes.c_int32]),
         "end": (integer, [pointer, integer, ctypes.c_int64]),
         "end_objective": (integer, [pointer]),
-        "clause": (integer, [pointer, ctypes.POINTER(ctypes.c_int32), size]),
+        "clause": (integer, [pointer, _LITERALS, size]),
         "variables": (ctypes.c_uint32, [pointer]),
         "solve": (integer, [pointer, ctypes.c_uint64]),
+        "solve_under": (integer, [pointer, _LITERALS, size, ctypes.c_uint64]),
+        "suggest": (integer, [pointer, ctypes.c_char_p, size]),
+        "explain": (integer, [pointer, _LITERALS, size, ctypes.c_uint64, _LITERALS, ctypes.POINTER(size)]),
+        "fixed": (integer, [pointer, _LITERALS, size, integer, ctypes.c_uint64, ctypes.c_char_p, size]),
         "cost_text": (size, [pointer, ctypes.c_char_p, size]),
         "value": (integer, [pointer, ctypes.c_uint32]),
         "run": (integer, [pointer, integer, ctypes.c_char_p, size, ctypes.c_uint64]),
@@ -68,27 +75,23 @@ class _Fault(Exception):
 
 
 class Search:
-    """A solver of the library that has a job, to be used in a `with` statement, which frees it."""
+    """A solver of the library, which keeps what it was told and learned from one job to the next."""
 
-    def __init__(self, library: ctypes.CDLL, job: Job) -> None:
-        self._library, self._job = library, job
-        self._is_told = False
-        self._solver: int | None = None
+    def __init__(self, library: ctypes.CDLL) -> None:
+        self._library = library
+        self._solver = library.pbcube_new()  # or None, where memory is refused
+        self._has_objective = False
 
-    def __enter__(self) -> Search:
-        self._solver = self._library.pbcube_new()
-        return self
+    def __del__(self) -> None:
+        self._library.pbcube_free(self._solver)
 
-    def __exit__(self, *_: object) -> None:
-        solver, self._solver = self._solver, None
-        self._library.pbcube_free(solver)
-
-    def run(self, nodes: int) -> Reply:
-        """What a search from the beginning finds, with at most so many decisions."""
+    def run(self, job: Job, nodes: int) -> Reply:
+        """What the job finds, with at most so many decisions. Where something is refused, what was told is told in part."""
         try:
             if not self._solver:
                 raise _Fault("Memory")
-            return self._run_text(nodes) if self._job[0] == "text" else self._run_told(nodes)
+            kind, told, asked = job
+            return self._run_text(told, asked, nodes) if kind == "text" else self._run_told(told, asked, nodes)
         except _Fault as fault:
             return (0, None, None, (fault.args[0], 0))
 
@@ -104,18 +107,38 @@ class Search:
         length = write(self._solver, room, len(room))
         return room.raw[:length].decode("ascii")
 
-    def _run_told(self, nodes: int) -> Reply:
-        statements = self._job[1]
-        for statement in () if self._is_told else statements:
+    def _run_told(self, statements: list[Any], question: Question, nodes: int) -> Reply:
+        for statement in statements:
             self._tell(*statement)
-        self._is_told = True
-        status = self._checked(self._library.pbcube_solve(self._solver, nodes))
+        kind, numbers, other, variables = question
+        if self._library.pbcube_variables(self._solver) < variables:
+            self._tell(">=", 0, array("q", (0, variables)))  # 0 times the last one
+        given = array("i", numbers)
+        ask = {"solve": self._solve, "explain": self._explain, "fixed": self._fixed}[kind]
+        return ask((ctypes.c_int32 * len(given)).from_buffer(given) if given else None, len(given), other, nodes)
+
+    def _solve(self, literals: Any, count: int, first: bytes | None, nodes: int) -> Reply:
+        library, solver = self._library, self._solver
+        variables = library.pbcube_variables(solver)
+        if first is not None:
+            self._checked(library.pbcube_suggest(solver, first[:variables].ljust(variables, b"\0"), variables))
+        status = self._checked(library.pbcube_solve_under(solver, literals, count, nodes))
         if status not in (10, 11, 30):
             return (status, None, None, None)
-        cost = int(self._text("cost_text")) if any(kind == "min" for kind, _, _ in statements) else None
-        value, solver = self._library.pbcube_value, self._solver
-        variables = range(1, self._library.pbcube_variables(solver) + 1)
-        return (status, cost, bytes(value(solver, variable) == 1 for variable in variables), None)
+        cost = int(self._text("cost_text")) if self._has_objective else None
+        value = library.pbcube_value
+        return (status, cost, bytes(value(solver, variable) == 1 for variable in range(1, variables + 1)), None)
+
+    def _explain(self, literals: Any, count: int, _: None, nodes: int) -> Reply:
+        core, core_count = (ctypes.c_int32 * count)(), ctypes.c_size_t()
+        status = self._checked(self._library.pbcube_explain(self._solver, literals, count, nodes, core, ctypes.byref(core_count)))
+        return (status, None, bytes(memoryview(core)[: core_count.value]) if status in (20, 21) else None, None)
+
+    def _fixed(self, literals: Any, count: int, among: int, nodes: int) -> Reply:
+        size = self._library.pbcube_variables(self._solver)
+        statuses = ctypes.create_string_buffer(size or 1)
+        status = self._checked(self._library.pbcube_fixed(self._solver, literals, count, among, nodes, statuses, size))
+        return (status, None, statuses.raw[:size] if status in (1, 10) else None, None)
 
     def _tell(self, kind: str, bound: int, numbers: bytes | array[int]) -> None:
         library, solver = self._library, self._solver
@@ -128,11 +151,11 @@ class Search:
             self._checked(library.pbcube_term(solver, coefficient, literal))
         if kind == "min":
             self._checked(library.pbcube_end_objective(solver))
+            self._has_objective = True
         else:
             self._checked(library.pbcube_end(solver, RELATIONS[kind], bound))
 
-    def _run_text(self, nodes: int) -> Reply:
-        _, text, format = self._job
+    def _run_text(self, text: bytes, format: int, nodes: int) -> Reply:
         status = self._checked(self._library.pbcube_run(self._solver, format, text, len(text), nodes))
         lines = {line[0]: line.split() for line in self._text("report").splitlines()}
         if "c" in lines:  # "c refused: NAME at line LINE", or "c refused: Memory"
@@ -143,22 +166,37 @@ class Search:
         return (status, cost, values, None)
 
 
+def framed(message: object) -> bytes:
+    """A message to or from another process: marshalled, behind its length."""
+    said = marshal.dumps(message)
+    return len(said).to_bytes(8, "little") + said
+
+
+def _heard() -> Any:
+    """The next message on standard input, and None at its end."""
+    length = int.from_bytes(sys.stdin.buffer.read(8), "little")
+    return marshal.loads(sys.stdin.buffer.read(length)) if length else None
+
+
 def _serve() -> None:
-    """Makes the search that standard input tells, with each of the budgets in turn until one cuts it no more, and writes what each
-    found and whether it is the last: a marshalled pair behind its length. It ends where the process that wants that has ended."""
+    """Answers one job after the other that standard input tells. To each it makes its searches, with each of the budgets in turn
+    until one cuts it no more, and writes what each found and whether it is the last. It ends with standard input, or where the
+    process that wants that has ended."""
     ctypes.CDLL(None).prctl(_END_WITH_PARENT, _KILL)
-    parent, path, job, budgets = marshal.load(sys.stdin.buffer)
+    parent, path = _heard()
     if os.getppid() != parent:
         return
-    with Search(load(path), job) as search:
+    search = Search(load(path))
+    while heard := _heard():
+        job, budgets = heard
         for nodes in budgets:
-            reply = search.run(nodes)
+            reply = search.run(job, nodes)
+            job = ("told", [], job[2]) if job[0] == "told" else job
             is_last = nodes == budgets[-1] or reply[0] not in CUT
-            said = marshal.dumps((is_last, reply))
-            sys.stdout.buffer.write(len(said).to_bytes(8, "little") + said)
+            sys.stdout.buffer.write(framed((is_last, reply)))
             sys.stdout.buffer.flush()
             if is_last:
-                return
+                break
 
 
 if __name__ == "__main__":

@@ -8,13 +8,13 @@ from array import array
 from dataclasses import dataclass
 from fractions import Fraction
 from operator import index
-from typing import Dict, Iterable, List, Optional, Union
+from typing import Dict, Iterable, List, Mapping, Optional, Tuple, Union
 
 from . import searches
-from .answers import Answer, Status
+from .answers import Answer, Explanation, Fixed, Status
 from .errors import Error, refused
-from .jobs import Job, Reply, Statement
-from .library import FORMATS, RELATIONS
+from .jobs import Question, Reply, Statement
+from .library import AMONG, FORMATS, RELATIONS
 from .sums import MOST_VARIABLES, Constraint, Exact, Expression, Literal, Sum, total
 from .sums import as_constraint, as_literal, as_sum, check_owners, lower_bounds, tidy, whole
 
@@ -48,16 +48,18 @@ class Model:
         self._statements: List[Statement] = []
         self._terms = 0
         self._objective: Optional[_Objective] = None
-        self._is_closed = False
+        self._has_wide_rules = False  # with numbers that do not fit 64 bits
+        self._kept = searches.Kept()
 
     def copy(self) -> Model:
-        """A model of the same variables and rules, which takes more also where this one was solved. The literals that this one has
-        are literals of both."""
+        """A model of the same variables and rules, which takes more without this one. The literals that this one has are literals of
+        both."""
         copied = Model()
         with self._lock:
             copied._inherited = self._known()
             copied._variables, copied._names = self._variables, dict(self._names)
             copied._statements, copied._terms, copied._objective = list(self._statements), self._terms, self._objective
+            copied._has_wide_rules = self._has_wide_rules
         return copied
 
     __copy__ = copy
@@ -170,8 +172,6 @@ class Model:
         return given
 
     def _check_room(self, terms: int, constraints: int = 0) -> None:
-        if self._is_closed:
-            raise Error("Closed")
         if self._terms + terms > _MOST_TERMS or len(self._statements) + constraints > _MOST_CONSTRAINTS:
             raise Error("TooMany")
 
@@ -179,27 +179,145 @@ class Model:
         with self._lock:
             self._check_room(terms + (self._objective.terms if self._objective else 0), 1)
             self._statements.append(statement)
+            self._has_wide_rules |= isinstance(statement[2], list)
             self._terms += terms
 
-    def solve(self, nodes: Optional[int] = None, *, time_limit: Optional[float] = None) -> Answer:
-        """Searches for the least assignment, with at most `nodes` decisions and for at most `time_limit` seconds where they are given.
+    def solve(
+        self,
+        nodes: Optional[int] = None,
+        *,
+        assuming: Iterable[Literal] = (),
+        start: Union[Answer, Mapping[Union[Literal, str], bool], None] = None,
+        time_limit: Optional[float] = None,
+    ) -> Answer:
+        """Searches for the least assignment in which the literals of `assuming` are true, with at most `nodes` decisions and for at
+        most `time_limit` seconds where they are given. Where the time is up the answer is what smaller searches before found, as
+        `Status.FOUND`, or `Status.UNKNOWN`.
 
-        After the first call no more can be added, but to a copy; another call searches again from the beginning, with a budget of
-        its own. Where the time is up the answer is what smaller searches before found, as `Status.FOUND`, or `Status.UNKNOWN`.
+        A start is an answer of this model, or values of literals or names, all others being False. Searches try these values first,
+        until another start is given; only an answer that is cut depends on them.
+
+            >>> model = Model()
+            >>> x, y = model.variables(2)
+            >>> model.minimise(3 * x + 2 * y)
+            >>> model.add(x + y >= 1)
+            >>> model.solve(assuming=[~y]).cost, model.solve().cost
+            (3, 2)
+            >>> model.add(x + y >= 2)
+            >>> model.solve(start={x: True, y: True}).cost
+            5
         """
+        given = self._own(assuming)
+        first = None if start is None else self._values_of(start)
+        reply = self._ask("solve", given, first, nodes, time_limit, 0)
+        status, found, values, _ = reply.told
+        told = None if values is None else tuple(map(bool, values)) + (False,) * (reply.variables - len(values))
+        cost = None if reply.objective is None or found is None else reply.objective.cost(found)
+        return Answer(Status(status), cost, told, reply.names, reply.owners)
+
+    def explain(self, assuming: Iterable[Literal], nodes: Optional[int] = None, *, time_limit: Optional[float] = None) -> Explanation:
+        """Tells of literals under which nothing is feasible some that are enough for that, as few as leaving out one after the other
+        gives, with at most `nodes` decisions and for at most `time_limit` seconds where they are given.
+
+            >>> model = Model()
+            >>> x, y, z = model.variables("x y z")
+            >>> model.clause([x, y])
+            >>> why = model.explain([z, ~x, ~y])
+            >>> why.status, [literal.name for literal in why.core], why.is_minimal
+            (Status.UNSATISFIABLE, ['x', 'y'], True)
+        """
+        given = self._own(assuming)
+        status, _, core, _ = self._ask("explain", given, None, nodes, time_limit, 0).told
+        if core is None:
+            return Explanation(Status(status))
+        by_number = {literal.number: literal for literal in given}
+        literals = tuple(by_number[number] for number in array("i", core))
+        return Explanation(Status.UNSATISFIABLE, literals, is_minimal=status == Status.UNSATISFIABLE.value)
+
+    def fixed(
+        self,
+        assuming: Iterable[Literal] = (),
+        among: str = "feasible",
+        nodes: Optional[int] = None,
+        *,
+        time_limit: Optional[float] = None,
+    ) -> Fixed:
+        """Tells which variables have one value in all assignments in which the literals of `assuming` are true: among those that are
+        'feasible', or those of them of the 'least' cost.
+
+            >>> model = Model()
+            >>> x, y, z = model.variables("x y z")
+            >>> model.minimise(2 * x + y + z)
+            >>> model.add(x + y + z >= 2)
+            >>> model.fixed([~x]).named()
+            {'x': False, 'y': True, 'z': True}
+            >>> model.fixed()[x] is None, model.fixed(among="least")[x]
+            (True, False)
+        """
+        if among not in AMONG:
+            raise ValueError(f"nothing to be asked about: {among!r}")
+        reply = self._ask("fixed", self._own(assuming), AMONG[among], nodes, time_limit, self._variables)
+        status, _, statuses, _ = reply.told
+        if status == Status.UNSATISFIABLE.value:
+            return Fixed(Status.UNSATISFIABLE, None, reply.names, reply.owners)
+        return Fixed(Status(status), statuses or b"\3" * reply.variables, reply.names, reply.owners)
+
+    def _values_of(self, start: Union[Answer, Mapping[Union[Literal, str], bool]]) -> bytes:
+        """The values to be tried first, as bytes 0 and 1."""
+        if isinstance(start, Answer):
+            check_owners(start.owners or (), self._known())
+            if start.values is None:
+                raise LookupError("nothing was found")
+            return bytes(start.values)
+        values = bytearray(self._variables)
+        for key, value in start.items():
+            [literal] = self._own([self[key] if isinstance(key, str) else key])
+            if abs(literal.number) > len(values):
+                raise LookupError(f"no variable {abs(literal.number)} among {len(values)}")
+            values[abs(literal.number) - 1] = bool(value) == (literal.number > 0)
+        return bytes(values)
+
+    def _ask(
+        self,
+        kind: str,
+        literals: List[Literal],
+        other: object,
+        nodes: Optional[int],
+        time_limit: Optional[float],
+        variables: int,
+    ) -> _Asked:
+        """Asks the searches that are kept, or others where these answer another thread."""
         budget, deadline = searches.budget(nodes), searches.deadline_of(time_limit)
+        numbers = array("i", (literal.number for literal in literals))
+        named = max((variables, *map(abs, numbers)))
+        question: Question = (kind, numbers.tobytes(), other, named)
         with self._lock:
-            objective, variables, names, known = self._objective, self._variables, dict(self._names), self._known()
-            statements = self._statements + ([objective.statement] if objective else [])
-            self._is_closed = True
-        status, found, values, fault = searches.search(_job(statements), budget, deadline)
-        if fault:
-            raise MemoryError if fault[0] == "Memory" else Error(fault[0])
-        told = None if values is None else tuple(map(bool, values)) + (False,) * (variables - len(values))
-        cost = None if objective is None or found is None else objective.cost(found)
+            objective, names = self._objective, dict(self._names)
+            aim, terms = (objective.statement, objective.terms + self._terms) if objective else (None, self._terms)
+            statements = searches.Statements(self._statements, len(self._statements), aim, terms)
+            every, owners = self._variables, tuple(self._known().items())
+            kept, self._kept = self._kept, searches.Kept()
+        try:
+            is_wide = self._has_wide_rules or (aim is not None and isinstance(aim[2], list))
+            told = (_ask_text if is_wide else kept.ask)(statements, question, budget, deadline)
+        finally:
+            self._kept = kept
+        if told[3]:
+            raise MemoryError if told[3][0] == "Memory" else Error(told[3][0])
         by_number = {number: name for name, number in names.items()}
-        all_names = tuple(by_number.get(number) for number in range(1, variables + 1)) if names else ()
-        return Answer(Status(status), cost, told, all_names, tuple(known.items()))
+        all_names = tuple(by_number.get(number) for number in range(1, every + 1)) if names else ()
+        return _Asked(told, every, all_names, owners, objective)
+
+
+@dataclass(frozen=True)
+class _Asked:
+    """What came of a question, and what the model was when it was asked."""
+
+    told: Reply
+    variables: int
+    names: Tuple[Optional[str], ...]
+    owners: Tuple[Tuple[int, int], ...]
+    objective: Optional[_Objective]
 
 
 def _names_of(count: object) -> List[Optional[str]]:
@@ -219,12 +337,16 @@ def _compact(numbers: List[int], *others: int) -> Union[array[int], List[int]]:
     return array("q", numbers) if fit else numbers
 
 
-def _job(statements: List[Statement]) -> Job:
-    """The statements as what is told term by term, or as a text where some number is greater than that takes."""
-    if not any(isinstance(numbers, list) for _, _, numbers in statements):
-        return ("told", statements, None)
-    lines = [_line(*it) for it in sorted(statements, key=lambda it: it[0] != "min")]  # the objective comes first, the others stay
-    return ("text", "\n".join(lines).encode("ascii"), FORMATS["opb"])
+def _ask_text(statements: searches.Statements, question: Question, nodes: int, deadline: Optional[float]) -> Reply:
+    """What is found where some number is greater than is told term by term: the statements go as a text, and each literal that is to
+    be true as one more."""
+    kind, literals, _, _ = question
+    if kind != "solve":
+        raise Error("TooLarge", "the numbers of a model are below 2**63 where it is asked for more than an answer: take smaller units")
+    units = [("or", 0, array("i", [number])) for number in array("i", literals)]
+    ordered = sorted(statements.after(None) + units, key=lambda it: it[0] != "min")  # the objective comes first, the others stay
+    text = "\n".join(_line(*it) for it in ordered).encode("ascii")
+    return searches.search(("text", text, FORMATS["opb"]), nodes, deadline)
 
 
 def _line(kind: str, bound: int, numbers: Iterable[int]) -> str:

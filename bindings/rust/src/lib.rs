@@ -18,9 +18,16 @@
 //! A literal is `n` for variable n and `-n` for its negation, which is worth 1 where the variable is false; n is from 1 to
 //! 1048576. Among the assignments of the least cost the answer is the first one: at the first variable where two differ, the
 //! one with false comes first.
+//!
+//! A solver may be asked question after question, under literals that are to be true ([`Solver::solve_under`]), also why there is
+//! no answer ([`Solver::explain`]) and which variables have one value ([`Solver::fixed`]). It keeps its search from one to the
+//! next, until something is added.
 #![warn(missing_docs)]
 
+mod questions;
 mod sys;
+
+pub use questions::{Among, Explanation, Fixed, VariableStatus};
 
 use std::fmt;
 use std::ptr::{null_mut, NonNull};
@@ -67,7 +74,7 @@ pub enum Status {
 /// Why a call changed nothing.
 #[derive(Clone, Copy, Debug, PartialEq, Eq)]
 pub enum Error {
-    /// A variable is 0 or over 1048576.
+    /// A variable is not from 1 to 1048576.
     BadVariable,
     /// The absolute numbers of a statement add up to more than 2^126 - 1.
     TooLarge,
@@ -75,8 +82,8 @@ pub enum Error {
     TooMany,
     /// Memory was refused.
     Memory,
-    /// The solver was asked for an answer, and takes no more statements.
-    Closed,
+    /// What is suggested has not one value for each variable.
+    BadLength,
     /// The library answered a number that this crate does not know.
     Unknown(i32),
 }
@@ -88,7 +95,7 @@ impl fmt::Display for Error {
             Error::TooLarge => f.write_str("a sum of coefficients is too large"),
             Error::TooMany => f.write_str("there are too many constraints or terms"),
             Error::Memory => f.write_str("out of memory"),
-            Error::Closed => f.write_str("the solver was solved, and takes no more statements"),
+            Error::BadLength => f.write_str("there is not one value for each variable"),
             Error::Unknown(number) => write!(f, "the library answered {number}"),
         }
     }
@@ -103,7 +110,7 @@ fn checked(code: i32) -> Result<i32, Error> {
         -2 => Err(Error::TooLarge),
         -3 => Err(Error::TooMany),
         -4 => Err(Error::Memory),
-        -6 => Err(Error::Closed),
+        -11 => Err(Error::BadLength),
         other => Err(Error::Unknown(other)),
     }
 }
@@ -195,21 +202,29 @@ impl Solver {
         told.map(|_| self)
     }
 
-    /// Searches for the least assignment, with at most `decisions` decisions where they are given. No more can be added
-    /// afterwards; another call searches again from the beginning, with a budget of its own.
+    /// Searches for the least assignment, with at most `decisions` decisions where they are given.
     pub fn solve(&mut self, decisions: Option<u64>) -> Result<Answer, Error> {
-        let pointer = self.pointer.as_ptr();
         // SAFETY: the solver is ours.
-        let status = status(unsafe { sys::pbcube_solve(pointer, decisions.unwrap_or(u64::MAX)) })?;
+        let code = unsafe { sys::pbcube_solve(self.pointer.as_ptr(), decisions.unwrap_or(u64::MAX)) };
+        self.answer(status(code)?)
+    }
+
+    fn answer(&mut self, status: Status) -> Result<Answer, Error> {
+        let pointer = self.pointer.as_ptr();
         if matches!(status, Status::Unknown | Status::Unsatisfiable) {
             return Ok(Answer { status, cost: None, values: None });
         }
-        // SAFETY: as before.
-        let variables = unsafe { sys::pbcube_variables(pointer) };
+        // SAFETY: the solver is ours.
         let value = |variable| unsafe { sys::pbcube_value(pointer, variable) } == 1;
-        let values = (1..=variables).map(value).collect();
+        let values = (1..=self.variables()).map(value).collect();
         let cost = self.text(sys::pbcube_cost_text).parse().ok();
         Ok(Answer { status, cost, values: Some(values) })
+    }
+
+    /// How many variables there are: the greatest one that a statement names.
+    pub fn variables(&mut self) -> u32 {
+        // SAFETY: the solver is ours.
+        unsafe { sys::pbcube_variables(self.pointer.as_ptr()) }
     }
 
     /// Solves a text by itself, apart from what the solver was told. Fails where memory is refused.

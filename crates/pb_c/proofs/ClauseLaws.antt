@@ -1,5 +1,5 @@
 -- Clauses as C tells them: the literals of numbers, one by one.
-use Rattle.std.proofs.Common.{◌≡◌, ◌≢◌, ◌↔◌, ℕ, ◌+◌, ◌<◌, ◌≤◌, ℤ, pos, unsigned_abs, List, [], ◌∷◌, ◌++◌, length, map, take, get_or, Bool, true, false, IsTrue, Result, Ok, Err, refl, sym, ap, subst, ◌∙◌, arith}
+use Rattle.std.proofs.Common.{◌≡◌, ◌≢◌, ◌↔◌, ℕ, ◌+◌, ◌<◌, ◌≤◌, ℤ, pos, unsigned_abs, List, [], ◌∷◌, ◌++◌, length, map, take, get_or, Bool, false, IsTrue, Result, Ok, Err, refl, sym, ap, subst, ◌∙◌, arith}
 use Rattle.std.specs.Prelude.{IfErr, IsErrOf}
 use Rattle.std.proofs.lemmas.Bool.{false≢true}
 use Rattle.std.proofs.lemmas.List.{length-map, map-append, take_more}
@@ -12,7 +12,7 @@ use Rattle.pb_inst.specs.declared.constraints.Term.{Term}
 use Rattle.pb_inst.specs.Constraints.{unit_term}
 use Rattle.pb_inst.specs.Literal.{Literal}
 use Rattle.pb_session.specs.declared.faults.SessionFault.{SessionFault}
-use Rattle.pb_session.specs.declared.faults.SessionFault.TheVariants.{Statement, Closed, Unended}
+use Rattle.pb_session.specs.declared.faults.SessionFault.TheVariants.{Statement, Unended, Length}
 use Rattle.pb_session.specs.Told.{Told}
 use Rattle.pb_c.specs.Called.{number_of, RefusesClause}
 
@@ -36,21 +36,20 @@ one_unit_more first now new lits l before is =
 -- where the sum of a clause's literals is refused, the clause is
 pub refused_at_end : (first now : Told) (lits : List Literal) (numbers : List ℤ) (said : Result (Unit {0}) SessionFault)
     → map number_of lits ≡ numbers → now ≡ record first { terms = map unit_term lits }
-    → (IsErrOf said Closed ↔ (now.is_closed ≡ true))
-    → (IsErrOf said (Statement refused.TooLarge) ↔ ((now.is_closed ≡ false) × (SUM_BOUND < total_magnitude now.terms + unsigned_abs (pos 1))))
-    → (IsErrOf said (Statement refused.TooMany) ↔ ((now.is_closed ≡ false) × (total_magnitude now.terms + unsigned_abs (pos 1) ≤ SUM_BOUND) × (¬ HasRoom (statements now.problem) (length now.terms))))
-    → IfErr said (λ fault. (fault ≢ Statement refused.BadVariable) × (fault ≢ Unended))
+    → (IsErrOf said (Statement refused.TooLarge) ↔ (SUM_BOUND < total_magnitude now.terms + unsigned_abs (pos 1)))
+    → (IsErrOf said (Statement refused.TooMany) ↔ ((total_magnitude now.terms + unsigned_abs (pos 1) ≤ SUM_BOUND) × (¬ HasRoom (statements now.problem) (length now.terms))))
+    → IfErr said (λ fault. (fault ≢ Statement refused.BadVariable) × (fault ≢ Unended) × (fault ≢ Length))
     → IfErr said (RefusesClause first numbers)
-refused_at_end first now lits numbers (Ok u) are told closed large many other = tt
-refused_at_end first now lits numbers (Err Unended) are told closed large many other = absurd (other.1 refl)
-refused_at_end first now lits numbers (Err Closed) are told closed large many other = ap (λ (t : Told). t.is_closed) (sym told) ∙ closed.0 refl
-refused_at_end first now lits numbers (Err (Statement refused.BadVariable)) are told closed large many other = absurd (other.0 refl)
-refused_at_end first now lits numbers (Err (Statement refused.Memory)) are told closed large many other = tt
-refused_at_end first now lits numbers (Err (Statement refused.TooLarge)) are told closed large many other =
-    let over = (large.0 refl).1 in
+refused_at_end first now lits numbers (Ok u) are told large many other = tt
+refused_at_end first now lits numbers (Err Unended) are told large many other = absurd (other.1 refl)
+refused_at_end first now lits numbers (Err Length) are told large many other = other.2 refl
+refused_at_end first now lits numbers (Err (Statement refused.BadVariable)) are told large many other = absurd (other.0 refl)
+refused_at_end first now lits numbers (Err (Statement refused.Memory)) are told large many other = tt
+refused_at_end first now lits numbers (Err (Statement refused.TooLarge)) are told large many other =
+    let over = large.0 refl in
     let sum = ap (λ (t : Told). total_magnitude t.terms) told ∙ total_magnitude-units lits in
     let count = sym (length-map lits number_of) ∙ ap length are in
     omega (arith, over, sum, count)
-refused_at_end first now lits numbers (Err (Statement refused.TooMany)) are told closed large many other = λ room.
+refused_at_end first now lits numbers (Err (Statement refused.TooMany)) are told large many other = λ room.
     let count = ap (λ (t : Told). length t.terms) told ∙ length-map lits unit_term ∙ sym (length-map lits number_of) ∙ ap length are in
-    (many.0 refl).2 (subst (λ (t : Told). HasRoom (statements t.problem) (length now.terms)) (sym told) (subst (λ (n : ℕ). HasRoom (statements first.problem) n) (sym count) room))
+    (many.0 refl).1 (subst (λ (t : Told). HasRoom (statements t.problem) (length now.terms)) (sym told) (subst (λ (n : ℕ). HasRoom (statements first.problem) n) (sym count) room))

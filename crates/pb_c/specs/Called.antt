@@ -7,13 +7,14 @@ use Rattle.pb_inst.specs.declared.constraints.Relation.TheVariants.{AtLeast, AtM
 use Rattle.pb_inst.specs.declared.faults.InstFault.TheVariants as refused
 use Rattle.pb_inst.specs.Constraints.{clause_constraint}
 use Rattle.pb_inst.specs.Incumbent.{Solution, IsSolution}
-use Rattle.pb_inst.specs.Limits.{constraint_terms, total_magnitude, HasRoom, HasVariablesWithin}
+use Rattle.pb_inst.specs.Limits.{constraint_terms, total_magnitude, HasRoom}
 use Rattle.pb_inst.specs.Literal.{Literal}
 use Rattle.pb_inst.specs.Problem.{statements}
 use Rattle.pb_read.specs.declared.format.Format.{Format}
 use Rattle.pb_read.specs.declared.format.Format.TheVariants.{Opb, Cnf, Icnf}
 use Rattle.pb_session.specs.declared.faults.SessionFault.{SessionFault}
-use Rattle.pb_session.specs.declared.faults.SessionFault.TheVariants.{Statement, Closed, Unended}
+use Rattle.pb_session.specs.declared.faults.SessionFault.TheVariants.{Statement, Unended, Length}
+use Rattle.pb_session.specs.Asked.{IsRefusal}
 use Rattle.pb_session.specs.Found.{status_of}
 use Rattle.pb_session.specs.Told.{Told, with_constraint, with_objective}
 use Rattle.pb_solve.specs.declared.options.Ran.{Ran}
@@ -57,31 +58,28 @@ pub record AddsTerm (old new : Told) (coefficient literal : ℤ) (said : Result 
   pub added : OnOk said ((l : Literal) × (number_of l ≡ literal) × (new ≡ record old { terms = old.terms ++ record { coef = coefficient; lit = l } ∷ [] }))
   pub unchanged : OnErr said (new ≡ old)
   pub bad_variable : IsErrOf said (Statement refused.BadVariable) ↔ (¬ IsVariable literal)
-  pub closed : IsErrOf said Closed ↔ (IsVariable literal × (old.is_closed ≡ true))
-  pub other : IfErr said (λ fault. (fault ≢ Unended) × (fault ≢ Statement refused.TooLarge) × (fault ≢ Statement refused.TooMany))
+  pub other : IfErr said (λ fault. (fault ≢ Unended) × (fault ≢ Length) × (fault ≢ Statement refused.TooLarge) × (fault ≢ Statement refused.TooMany))
 
 -- the sum becomes a constraint
 pub record AddsConstraint (old new : Told) (relation : Relation) (bound : ℤ) (said : Result (Unit {0}) SessionFault) : Type 0 where
   pub added : OnOk said (new ≡ record old { problem = with_constraint old.problem (record { terms = old.terms; relation = relation; bound = bound }); terms = [] })
   pub unchanged : OnErr said (new ≡ old)
-  pub closed : IsErrOf said Closed ↔ (old.is_closed ≡ true)
-  pub too_large : IsErrOf said (Statement refused.TooLarge) ↔ ((old.is_closed ≡ false) × (SUM_BOUND < total_magnitude old.terms + unsigned_abs bound))
-  pub too_many : IsErrOf said (Statement refused.TooMany) ↔ ((old.is_closed ≡ false) × (total_magnitude old.terms + unsigned_abs bound ≤ SUM_BOUND) × (¬ HasRoom (statements old.problem) (length old.terms)))
-  pub other : IfErr said (λ fault. (fault ≢ Statement refused.BadVariable) × (fault ≢ Unended))
+  pub too_large : IsErrOf said (Statement refused.TooLarge) ↔ (SUM_BOUND < total_magnitude old.terms + unsigned_abs bound)
+  pub too_many : IsErrOf said (Statement refused.TooMany) ↔ ((total_magnitude old.terms + unsigned_abs bound ≤ SUM_BOUND) × (¬ HasRoom (statements old.problem) (length old.terms)))
+  pub other : IfErr said (λ fault. (fault ≢ Statement refused.BadVariable) × (fault ≢ Unended) × (fault ≢ Length))
 
 -- the sum becomes the objective
 pub record SetsObjective (old new : Told) (said : Result (Unit {0}) SessionFault) : Type 0 where
   pub set : OnOk said (new ≡ record old { problem = with_objective old.problem old.terms; terms = [] })
   pub unchanged : OnErr said (new ≡ old)
-  pub closed : IsErrOf said Closed ↔ (old.is_closed ≡ true)
-  pub too_large : IsErrOf said (Statement refused.TooLarge) ↔ ((old.is_closed ≡ false) × (SUM_BOUND < total_magnitude old.terms))
-  pub too_many : IsErrOf said (Statement refused.TooMany) ↔ ((old.is_closed ≡ false) × (total_magnitude old.terms ≤ SUM_BOUND) × (MAX_TERMS < length old.terms + constraint_terms old.problem.constraints))
-  pub other : IfErr said (λ fault. (fault ≢ Statement refused.BadVariable) × (fault ≢ Unended))
+  pub too_large : IsErrOf said (Statement refused.TooLarge) ↔ (SUM_BOUND < total_magnitude old.terms)
+  pub too_many : IsErrOf said (Statement refused.TooMany) ↔ ((total_magnitude old.terms ≤ SUM_BOUND) × (MAX_TERMS < length old.terms + constraint_terms old.problem.constraints))
+  pub other : IfErr said (λ fault. (fault ≢ Statement refused.BadVariable) × (fault ≢ Unended) × (fault ≢ Length))
 
 -- why a clause is refused
 abbrev pub RefusesClause : Told → List ℤ → SessionFault → Type 0
 RefusesClause old literals Unended = old.terms ≢ []
-RefusesClause old literals Closed = old.is_closed ≡ true
+RefusesClause old literals Length = ⊥
 RefusesClause old literals (Statement refused.BadVariable) = ¬ All IsVariable literals
 RefusesClause old literals (Statement refused.TooLarge) = SUM_BOUND < length literals + 1
 RefusesClause old literals (Statement refused.TooMany) = ¬ HasRoom (statements old.problem) (length literals)
@@ -95,7 +93,7 @@ pub record AddsClause (old new : Told) (literals : List ℤ) (said : Result (Uni
 
 -- a clause is taken or refused for what it and the session are
 abbrev pub JudgesClause : Told → List ℤ → Result (Unit {0}) SessionFault → Type 0
-JudgesClause old literals said = OnOk said ((old.is_closed ≡ false) × All IsVariable literals) × IfErr said (RefusesClause old literals)
+JudgesClause old literals said = OnOk said (All IsVariable literals) × IfErr said (RefusesClause old literals)
 
 abbrev pub TellsTerm : (old new : Told) (coefficient literal answer : ℤ) → Type 0
 TellsTerm old new coefficient literal answer = Says answer (AddsTerm old new coefficient literal)
@@ -125,10 +123,10 @@ pub record Searches (old new : Told) (nodes : Option ℕ) (said : Result Ran Ses
   pub sound : IfOk said (λ ran. IfSome new.found (IsSolution old.problem))
   pub status : IfOk said (λ ran. ran.status ≡ status_of old.problem ran.cut new.found)
   pub no_budget : IfNone nodes (IfOk said (λ ran. ran.cut ≡ false))
-  pub closes : OnOk said (new ≡ record old { is_closed = true; found = new.found })
-  pub err : OnErr said (record new { is_closed = old.is_closed } ≡ old)
+  pub told : OnOk said (new ≡ record old { found = new.found })
+  pub unchanged : OnErr said (new ≡ old)
   pub unended : IsErrOf said Unended ↔ (old.terms ≢ [])
-  pub refused : IfErr said (λ fault. old.problem.vars ≤ MAX_VARS → HasVariablesWithin old.problem.vars (statements old.problem) → (fault ≡ Unended) ⊎ (fault ≡ Statement refused.Memory))
+  pub refused : IfErr said (IsRefusal old)
 
 abbrev pub Solves : (old new : Told) (nodes : ℕ) (answer : ℤ) → Type 0
 Solves old new nodes answer = (said : Result Ran SessionFault) × (answer ≡ ran_code said) × Searches old new (budget nodes) said

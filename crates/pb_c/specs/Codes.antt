@@ -2,7 +2,7 @@
 use Rattle.std.specs.Prelude.{ℤ, Bool, true, false, Result, Ok, Err}
 use Rattle.pb_inst.specs.declared.faults.InstFault.TheVariants as refused
 use Rattle.pb_session.specs.declared.faults.SessionFault.{SessionFault}
-use Rattle.pb_session.specs.declared.faults.SessionFault.TheVariants.{Statement, Closed, Unended}
+use Rattle.pb_session.specs.declared.faults.SessionFault.TheVariants.{Statement, Unended, Length}
 use Rattle.pb_solve.specs.declared.options.Ran.{Ran}
 use Rattle.pb_report.specs.declared.statuses.Status.{Status}
 use Rattle.pb_report.specs.declared.statuses.Status.TheVariants.{Satisfiable, Unsatisfiable, Optimum, Unsupported, Unknown}
@@ -13,8 +13,8 @@ fault_code (Statement refused.BadVariable) = number.BAD_VARIABLE
 fault_code (Statement refused.TooLarge) = number.TOO_LARGE
 fault_code (Statement refused.TooMany) = number.TOO_MANY
 fault_code (Statement refused.Memory) = number.MEMORY
-fault_code Closed = number.CLOSED
 fault_code Unended = number.UNENDED
+fault_code Length = number.BAD_LENGTH
 
 -- how a search ended, and whether it was cut
 abbrev pub answer_code : Status → (cut : Bool) → ℤ

@@ -2,3 +2,4 @@ pub mod Called
 pub mod Codes
 pub mod Copied
 pub mod Held
+pub mod Questions

@@ -1,5 +1,5 @@
 //! Telling a solver its statements.
-ghost use Rattle.std.specs.Prelude.{◌≡◌, ◌≢◌, List, [], map, false, All, OnOk, IfErr};
+ghost use Rattle.std.specs.Prelude.{◌≡◌, ◌≢◌, List, [], map, All, OnOk, IfErr};
 ghost use Rattle.pb_inst.specs.Constraints.{unit_term};
 ghost use Rattle.pb_inst.specs.Literal.{Literal};
 ghost use Rattle.pb_c.specs.Codes.{told_code};
@@ -86,7 +86,7 @@ pub extern "C" fn pb_c_clause(alloc: Global, solver: &mut Solver, literals: &[i3
 }
 
 /// The code of what a session says.
-fn code_of(said: Result<(), SessionFault>) -> i32
+pub(crate) fn code_of(said: Result<(), SessionFault>) -> i32
     ensures { result ≡ told_code said }
 {
     match said {
@@ -114,7 +114,7 @@ fn add_term(session: &mut Session, coefficient: i64, literal: i32) -> Result<(),
 /// Adds the clause of literals' numbers. Changes nothing where one of them is refused.
 fn add_clause(session: &mut Session, literals: &[i32]) -> Result<(), SessionFault>
     ensures added { AddsClause session.old session.new literals.now result }
-    ensures accepted { OnOk result ((session.old.is_closed ≡ false) × All IsVariable literals.now) }
+    ensures accepted { OnOk result (All IsVariable literals.now) }
     ensures refused { IfErr result (RefusesClause session.old literals.now) }
 {
     if session.has_terms() {

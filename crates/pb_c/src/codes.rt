@@ -19,8 +19,11 @@ pub const SATISFIABLE: i32 = 10;
 /// The search was cut by its budget, and found a feasible assignment, which may not be the least.
 pub const FOUND: i32 = 11;
 
-/// No assignment is feasible.
+/// No assignment is feasible. Of an explanation: the core is minimal.
 pub const UNSATISFIABLE: i32 = 20;
+
+/// No assignment is feasible under the core, and the budget ended before it was known to be minimal.
+pub const CORE: i32 = 21;
 
 /// The least assignment was found.
 pub const OPTIMUM: i32 = 30;
@@ -43,13 +46,10 @@ pub const MEMORY: i32 = -4;
 /// The terms of a sum were given, and it was not ended.
 pub const UNENDED: i32 = -5;
 
-/// The solver was asked for an answer: it takes no more statements.
-pub const CLOSED: i32 = -6;
-
 /// Nothing was found.
 pub const NO_ANSWER: i32 = -7;
 
-/// A relation or a format is none of those named.
+/// A relation, a format or what is asked about is none of those named, or a value is neither 0 nor 1.
 pub const BAD_ARGUMENT: i32 = -8;
 
 /// The cost does not fit 64 bits.
@@ -57,6 +57,9 @@ pub const OUT_OF_RANGE: i32 = -9;
 
 /// The solver was not made, or was freed.
 pub const EMPTY: i32 = -10;
+
+/// There is not one value for each variable.
+pub const BAD_LENGTH: i32 = -11;
 
 /// The least cost that fits 64 bits, -2^63.
 pub(crate) const LEAST_COST: Number = -9_223_372_036_854_775_808;
@@ -73,8 +76,8 @@ pub(crate) fn code_of_fault(fault: SessionFault) -> i32
         SessionFault::Statement(InstFault::TooLarge) => TOO_LARGE,
         SessionFault::Statement(InstFault::TooMany) => TOO_MANY,
         SessionFault::Statement(InstFault::Memory) => MEMORY,
-        SessionFault::Closed => CLOSED,
         SessionFault::Unended => UNENDED,
+        SessionFault::Length => BAD_LENGTH,
     }
 }
 

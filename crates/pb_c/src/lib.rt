@@ -10,12 +10,14 @@ mod handle;
 mod lifetime;
 mod literals;
 mod loose;
+mod questions;
 mod solver;
+mod telling;
 mod texts;
 
 pub use codes::{
-    BAD_ARGUMENT, BAD_VARIABLE, CLOSED, EMPTY, FOUND, MEMORY, NO_ANSWER, OK, OPTIMUM, OUT_OF_RANGE,
-    SATISFIABLE, TOO_LARGE, TOO_MANY, UNENDED, UNKNOWN, UNSATISFIABLE, UNSUPPORTED,
+    BAD_ARGUMENT, BAD_LENGTH, BAD_VARIABLE, CORE, EMPTY, FOUND, MEMORY, NO_ANSWER, OK, OPTIMUM,
+    OUT_OF_RANGE, SATISFIABLE, TOO_LARGE, TOO_MANY, UNENDED, UNKNOWN, UNSATISFIABLE, UNSUPPORTED,
 };
 pub use handle::Handle;
 pub use solver::Solver;

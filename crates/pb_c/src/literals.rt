@@ -1,8 +1,10 @@
-//! Literals, relations and formats as C writes them.
+//! Literals, relations, formats and what is asked about, as C writes them.
 ghost use Rattle.std.specs.Prelude.{◌≡◌, ◌↔◌, IfOk, IfErr, IsOk, IfSome, IfNone};
 ghost use Rattle.pb_c.specs.Called.{number_of, IsVariable, relation_number, format_number};
+ghost use Rattle.pb_c.specs.Questions.{among_number};
 
 use pb_inst::{InstFault, Lit, Relation};
+use pb_questions::Among;
 use pb_solve::Format;
 
 /// The literal of a number: variable n is n, and its negation -n. Fails with `BadVariable` where n is not from 1 to `MAX_VARS`.
@@ -12,6 +14,14 @@ pub(crate) fn literal_of(number: i32) -> Result<Lit, InstFault>
     ensures fault { IfErr result (λ fault. fault ≡ InstFault.BadVariable) }
 {
     Lit::new(number.unsigned_abs(), number > 0)
+}
+
+/// The number of a literal.
+pub(crate) fn number_of(lit: Lit) -> i32
+    ensures { result ≡ number_of lit }
+{
+    let number = lit.var() as i32;
+    if lit.positive() { number } else { -number }
 }
 
 /// The relation of a number, if it is one of a relation.
@@ -36,6 +46,18 @@ pub(crate) fn format_of(number: i32) -> Option<Format>
         0 => Some(Format::Opb),
         1 => Some(Format::Cnf),
         2 => Some(Format::Icnf),
+        _ => None,
+    }
+}
+
+/// What is asked about, if the number is one of that.
+pub(crate) fn among_of(number: i32) -> Option<Among>
+    ensures some { IfSome result (λ among. among_number among ≡ number) }
+    ensures none { IfNone result ((among : Among) → ¬ (among_number among ≡ number)) }
+{
+    match number {
+        0 => Some(Among::Feasible),
+        1 => Some(Among::Least),
         _ => None,
     }
 }

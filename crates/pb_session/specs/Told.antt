@@ -1,16 +1,15 @@
 -- What a session was told and what it found, as contracts see it.
-use Rattle.std.specs.Prelude.{ℕ, max, Bool, false, List, [], ◌∷◌, ◌++◌, Option, None, Some}
+use Rattle.std.specs.Prelude.{ℕ, max, List, [], ◌∷◌, ◌++◌, Option, None, Some}
 use Rattle.pb_inst.specs.declared.constraints.Term.{Term}
 use Rattle.pb_inst.specs.Incumbent.{Solution}
 use Rattle.pb_inst.specs.Problem.{LinearConstraint, Statements, Problem}
 use Rattle.pb_read.specs.Terms.{greatest_index}
 
 -- the statements that were ended, as an instance over the variables up to the greatest one that they name; the terms of a sum
--- that is not ended; whether it was solved, after which nothing is added; what was found; and the report of the last text
+-- that is not ended; what was found; and the report of the last text
 pub record Told : Type 0 where
   pub problem : Problem
   pub terms : List Term
-  pub is_closed : Bool
   pub found : Option Solution
   pub report : List ℕ
 
@@ -19,7 +18,7 @@ abbrev pub no_statements : Problem
 no_statements = record { vars = 0; objective = None; constraints = [] }
 
 abbrev pub nothing_told : Told
-nothing_told = record { problem = no_statements; terms = []; is_closed = false; found = None; report = [] }
+nothing_told = record { problem = no_statements; terms = []; found = None; report = [] }
 
 -- the instance with one more constraint at the end
 abbrev pub with_constraint : Problem → LinearConstraint → Problem
@@ -29,7 +28,7 @@ with_constraint p c = record { vars = max p.vars (greatest_index c.terms); objec
 abbrev pub with_objective : Problem → List Term → Problem
 with_objective p terms = record { vars = max p.vars (greatest_index terms); objective = Some terms; constraints = p.constraints }
 
--- the instance that is kept, or the one that the statements would make
+-- the instance that was made of the statements, or the one that they would make
 abbrev pub problem_of : ℕ → Statements → Option Problem → Problem
 problem_of vars told None = record { vars = vars; objective = told.objective; constraints = told.constraints }
 problem_of vars told (Some p) = p

@@ -5,7 +5,6 @@ ghost use Rattle.pb_session.specs.declared.faults.SessionFault.TheVariants.{Stat
 ghost use Rattle.pb_inst.specs.declared.faults.InstFault.TheVariants.{Memory};
 
 use pb_inst::InstFault;
-use pb_solve::SolveFault;
 use std::alloc::AllocError;
 use thiserror::Error;
 
@@ -15,12 +14,12 @@ pub enum SessionFault {
     /// The statement was refused, or memory was.
     #[error("{0}")]
     Statement(InstFault),
-    /// The session was solved: no more can be added to it.
-    #[error("the session was solved, and takes no more statements")]
-    Closed,
     /// Terms were given, and the sum was not ended.
     #[error("a sum is not ended")]
     Unended,
+    /// A suggestion is to other than as many variables as the statements name.
+    #[error("the suggestion does not have a value for each variable")]
+    Length,
 }
 
 impl From<InstFault> for SessionFault {
@@ -35,14 +34,6 @@ impl From<AllocError> for SessionFault {
     ghost from_gives = { λ _ fault. fault ≡ Statement Memory };
 
     fn from(_: AllocError) -> SessionFault {
-        SessionFault::Statement(InstFault::Memory)
-    }
-}
-
-impl From<SolveFault> for SessionFault {
-    ghost from_gives = { λ _ fault. fault ≡ Statement Memory };
-
-    fn from(_: SolveFault) -> SessionFault {
         SessionFault::Statement(InstFault::Memory)
     }
 }

@@ -1,15 +1,11 @@
 //! What a search found, kept apart from the instance.
 
-ghost use Rattle.std.specs.Prelude.{◌≡◌, [], false, IfOk, IfSome, IfNone};
+ghost use Rattle.std.specs.Prelude.{◌≡◌, false, true};
 ghost use Rattle.std.specs.Option.{option_map};
-ghost use Rattle.pb_inst.specs.Incumbent.{IsSolution};
-ghost use Rattle.pb_solve.specs.Solving.{HoldsLeast};
-ghost use Rattle.pb_session.specs.Found.{solution};
+ghost use Rattle.pb_session.specs.Found.{solution, whole_status, cut_status};
 
-use pb_cubes::Pieces;
-use pb_inst::{Assignment, Best, Instance, Memory, Number};
-use pb_solve::{SolveFault, solve_alone};
-use std::alloc::{AllocError, Global};
+use pb_inst::{Assignment, Best, Number};
+use pb_report::Status;
 
 /// A feasible assignment and its cost.
 #[derive(Drop)]
@@ -18,51 +14,29 @@ pub struct Found {
     pub values: Assignment,
 }
 
-/// What a search held at its end, and whether it was cut.
-#[derive(Drop)]
-pub(crate) struct Searched {
-    pub(crate) found: Option<Found>,
-    pub(crate) cut: bool,
-}
-
-/// Searches the whole instance with at most `nodes` decisions, where a budget is given. Fails where memory is refused.
-pub(crate) fn search(
-    alloc: Global,
-    instance: &Instance,
-    nodes: Option<u64>,
-) -> Result<Searched, SolveFault>
-    ensures sound { IfOk result (λ searched. IfSome (option_map solution searched.found) (IsSolution instance.now)) }
-    ensures least { IfOk result (λ searched. searched.cut ≡ false → HoldsLeast instance.now (option_map solution searched.found)) }
-    ensures no_budget { IfNone nodes (IfOk result (λ searched. searched.cut ≡ false)) }
+/// What was held, in the room that held it, or, where nothing was, that room.
+pub(crate) fn found_or_room(best: Best<'_>) -> (Option<Found>, Option<Assignment>)
+    ensures { option_map solution result.0 ≡ best.entry.held }
 {
-    let pieces = undivided(alloc, instance.vars())?;
-    let answer = solve_alone(alloc, instance, &pieces, nodes)?;
-    let found = copied(alloc, &answer.best)?;
-    Ok(Searched {
-        found,
-        cut: answer.cut,
-    })
-}
-
-/// One piece, the remainder of no cubes. Never fails.
-fn undivided(alloc: Global, vars: u32) -> Result<Pieces, Memory>
-    ensures { IfOk result (λ pieces. pieces ≡ record { vars = vars; cubes = [] }) }
-{
-    match Pieces::new(vars, Vec::new(alloc)) {
-        Ok(pieces) => Ok(pieces),
-        Err(_) => Err(AllocError),
+    match best.cost() {
+        Some(cost) => {
+            let values = best.into_room();
+            (Some(Found { cost, values }), None)
+        }
+        None => (None, Some(best.into_room())),
     }
 }
 
-/// What is held, copied.
-fn copied(alloc: Global, best: &Best<'_>) -> Result<Option<Found>, Memory>
-    ensures same { IfOk result (λ found. option_map solution found ≡ best.now.held) }
-    ensures sound { IfOk result (λ found. IfSome (option_map solution found) (IsSolution best.now.problem)) }
+/// How a search of an instance ends.
+pub(crate) fn ended_as(has_objective: bool, cut: bool, found: bool) -> Status
+    ensures whole { cut ≡ false → result ≡ whole_status has_objective found }
+    ensures cut { cut ≡ true → result ≡ cut_status found }
 {
-    let (Some(cost), Some(held)) = (best.cost(), best.assignment()) else {
-        return Ok(None);
-    };
-    let mut values = Assignment::new(alloc, held.len())?;
-    values.copy_from(held);
-    Ok(Some(Found { cost, values }))
+    match (cut, found) {
+        (true, true) => Status::Satisfiable,
+        (true, false) => Status::Unknown,
+        (false, false) => Status::Unsatisfiable,
+        (false, true) if has_objective => Status::Optimum,
+        (false, true) => Status::Satisfiable,
+    }
 }

@@ -1,8 +1,11 @@
-//! Sessions: an instance that is told sum by sum and then solved, for callers from other languages. No thread is started.
+//! Sessions: an instance that is told sum by sum, and questions on it, for callers from other languages. Statements may follow
+//! questions, and questions statements. No thread is started.
 #![tactic(auto)]
 
+mod asking;
 mod faults;
 mod found;
+mod ready;
 mod session;
 
 pub use faults::SessionFault;

@@ -2,36 +2,45 @@
 
 ghost use Rattle.std.specs.Prelude.{◌≡◌, ◌≢◌, ◌↔◌, ◌⊎◌, ◌+◌, ◌-◌, ◌<◌, ◌≤◌, ◌++◌, [], ◌∷◌, true, false, None, Some, length, unsigned_abs, IfOk, IfErr, IfSome, IfNone, IsErrOf, IsTrue, OnOk, OnErr, slice_index_or};
 ghost use Rattle.std.specs.Option.{option_map};
-ghost use Rattle.pb_inst.specs.declared.TheConstants.{MAX_TERMS, MAX_VARS, SUM_BOUND};
-ghost use Rattle.pb_inst.specs.Incumbent.{IsSolution};
-ghost use Rattle.pb_inst.specs.Limits.{constraint_terms, total_magnitude, HasRoom, HasVariablesWithin};
+ghost use Rattle.pb_inst.specs.declared.TheConstants.{MAX_TERMS, SUM_BOUND};
+ghost use Rattle.pb_inst.specs.Limits.{constraint_terms, total_magnitude, HasRoom};
 ghost use Rattle.pb_inst.specs.Problem.{statements};
 ghost use Rattle.pb_read.specs.Terms.{greatest_index};
 ghost use Rattle.pb_report.specs.Written.{memory_report};
 ghost use Rattle.pb_solve.specs.Run.{Reports, ReportsFound};
-ghost use Rattle.pb_solve.specs.Solving.{HoldsLeast};
-ghost use Rattle.pb_session.specs.Found.{status_of, whole_status, cut_status};
-ghost use Rattle.pb_session.specs.Told.{nothing_told, with_constraint, with_objective};
+ghost use Rattle.pb_session.specs.Asked.{IsRefusal};
+ghost use Rattle.pb_session.specs.Told.{nothing_told, problem_of, with_constraint, with_objective};
 
 use crate::faults::SessionFault;
-use crate::found::{Found, Searched, search};
-use pb_inst::{FinishFault, InstFault, Instance, InstanceBuilder, Lit, Number, Relation, Term};
+use crate::found::Found;
+use crate::ready::Ready;
+use pb_inst::{
+    Assignment, FinishFault, InstFault, Instance, InstanceBuilder, Lit, Number, Relation, Term,
+};
 use pb_solve::{Device, Format, Ran, Status, run_alone};
 use std::alloc::Global;
 use std::marker::Model;
 use std::mem::replace;
 
 /// Statements that are told one by one, as sums whose terms come one at a time, and what was found of them. Variables are
-/// numbered from 1, and there are as many as the greatest one that a statement names. A session is solved as often as one
-/// likes, and takes no more statements once it was. Contracts see what it was `Told`.
+/// numbered from 1, and there are as many as the greatest one that a statement names. Questions are asked of the statements so
+/// far, as often as one likes; the first one makes the instance and its search, which are kept for further ones until one more
+/// statement is told. Contracts see what it was `Told`.
 #[derive(Drop)]
 pub struct Session {
-    alloc: Global,
+    pub(crate) alloc: Global,
     vars: u32,
     terms: Vec<Term>,
+    /// The statements, while nothing is ready.
     builder: InstanceBuilder,
-    instance: Option<Instance>,
-    found: Option<Found>,
+    /// The instance of the statements and its search, from a question to the next statement.
+    pub(crate) ready: Option<Ready>,
+    pub(crate) suggestion: Option<Assignment>,
+    /// Assignments that are no longer needed, for those that are found next.
+    pub(crate) rooms: Vec<Assignment>,
+    /// Room for the literals of a question.
+    pub(crate) literals: Vec<Lit>,
+    pub(crate) found: Option<Found>,
     report: Vec<u8>,
 }
 
@@ -40,14 +49,13 @@ impl Model for Session {
 
     ghost Value = { Told };
 
-    ghost use Rattle.std.specs.Option.{option_map, is_some};
+    ghost use Rattle.std.specs.Option.{option_map};
     ghost use Rattle.pb_session.specs.Found.{solution};
     ghost use Rattle.pb_session.specs.Told.{problem_of};
 
     ghost view = { λ s. record {
-      problem = problem_of s.vars s.builder s.instance;
+      problem = problem_of s.vars s.builder s.ready;
       terms = s.terms.items;
-      is_closed = is_some s.instance;
       found = option_map solution s.found;
       report = s.report.items;
     } };
@@ -63,54 +71,56 @@ impl Session {
             vars: 0,
             terms: Vec::new(alloc),
             builder: InstanceBuilder::new(alloc),
-            instance: None,
+            ready: None,
+            suggestion: None,
+            rooms: Vec::new(alloc),
+            literals: Vec::new(alloc),
             found: None,
             report: Vec::new(alloc),
         }
     }
 
-    /// Adds a term to the sum that is not ended. Fails, and changes nothing, with `Closed` once the session was solved, and
-    /// with `Memory` where memory is refused.
+    /// Adds a term to the sum that is not ended. Fails, and changes nothing, with `Memory` where memory is refused.
     pub fn term(&mut self, coef: Number, lit: Lit) -> Result<(), SessionFault>
         ensures added { OnOk result (self.new ≡ record self.old { terms = self.old.terms ++ record { coef = coef; lit = lit } ∷ [] }) }
         ensures unchanged { OnErr result (self.new ≡ self.old) }
-        ensures closed { IsErrOf result SessionFault.Closed ↔ (self.old.is_closed ≡ true) }
-        ensures other { IfErr result (λ fault. (fault ≡ SessionFault.Closed) ⊎ (fault ≡ SessionFault.Statement InstFault.Memory)) }
+        ensures other { IfErr result (λ fault. fault ≡ SessionFault.Statement InstFault.Memory) }
     {
-        let None = &self.instance else {
-            return Err(SessionFault::Closed);
-        };
         if self.terms.push(Term { coef, lit }).is_err() {
             return Err(SessionFault::Statement(InstFault::Memory));
         }
         Ok(())
     }
 
-    /// Ends the sum: it becomes the left side of a constraint. Fails, and changes nothing, with `Closed` once the session was
-    /// solved, else with `TooLarge` where the absolute coefficients and the absolute bound add up to more than `SUM_BOUND`, else
-    /// with `TooMany` where there would be more than `MAX_CONSTRAINTS` constraints or `MAX_TERMS` terms, and with `Memory`
-    /// where memory is refused.
+    /// Ends the sum: it becomes the left side of a constraint. Fails, and changes nothing, with `TooLarge` where the absolute
+    /// coefficients and the absolute bound add up to more than `SUM_BOUND`, else with `TooMany` where there would be more than
+    /// `MAX_CONSTRAINTS` constraints or `MAX_TERMS` terms, and with `Memory` where memory is refused.
     pub fn end(&mut self, relation: Relation, bound: Number) -> Result<(), SessionFault>
         ensures added { OnOk result (self.new ≡ record self.old {
           problem = with_constraint self.old.problem (record { terms = self.old.terms; relation = relation; bound = bound });
           terms = [];
         }) }
         ensures unchanged { OnErr result (self.new ≡ self.old) }
-        ensures closed { IsErrOf result SessionFault.Closed ↔ (self.old.is_closed ≡ true) }
         ensures too_large { IsErrOf result (SessionFault.Statement InstFault.TooLarge)
-            ↔ ((self.old.is_closed ≡ false) × (SUM_BOUND < total_magnitude self.old.terms + unsigned_abs bound)) }
+            ↔ (SUM_BOUND < total_magnitude self.old.terms + unsigned_abs bound) }
         ensures too_many { IsErrOf result (SessionFault.Statement InstFault.TooMany)
-            ↔ ((self.old.is_closed ≡ false) × (total_magnitude self.old.terms + unsigned_abs bound ≤ SUM_BOUND)
+            ↔ ((total_magnitude self.old.terms + unsigned_abs bound ≤ SUM_BOUND)
             × ¬ HasRoom (statements self.old.problem) (length self.old.terms)) }
-        ensures other { IfErr result (λ fault. (fault ≢ SessionFault.Statement InstFault.BadVariable) × (fault ≢ SessionFault.Unended)) }
+        ensures other { IfErr result (λ fault. (fault ≢ SessionFault.Statement InstFault.BadVariable) × (fault ≢ SessionFault.Unended) × (fault ≢ SessionFault.Length)) }
     {
-        let None = &self.instance else {
-            return Err(SessionFault::Closed);
-        };
-        self.builder.add(&self.terms, relation, bound)?;
-        self.vars = self.vars.max(greatest_index(&self.terms));
-        self.terms.clear();
-        Ok(())
+        let greatest = greatest_index(&self.terms);
+        let (vars, mut builder) = self.take_statements();
+        match builder.add(&self.terms, relation, bound) {
+            Ok(()) => {
+                self.keep_statements(vars.max(greatest), builder);
+                self.terms.clear();
+                Ok(())
+            }
+            Err(fault) => {
+                self.keep_statements(vars, builder);
+                Err(SessionFault::Statement(fault))
+            }
+        }
     }
 
     /// Ends the sum: it becomes the objective, in place of one that was told before. Fails, and changes nothing, as `end`, but
@@ -118,21 +128,125 @@ impl Session {
     pub fn end_objective(&mut self) -> Result<(), SessionFault>
         ensures set { OnOk result (self.new ≡ record self.old { problem = with_objective self.old.problem self.old.terms; terms = [] }) }
         ensures unchanged { OnErr result (self.new ≡ self.old) }
-        ensures closed { IsErrOf result SessionFault.Closed ↔ (self.old.is_closed ≡ true) }
         ensures too_large { IsErrOf result (SessionFault.Statement InstFault.TooLarge)
-            ↔ ((self.old.is_closed ≡ false) × (SUM_BOUND < total_magnitude self.old.terms)) }
+            ↔ (SUM_BOUND < total_magnitude self.old.terms) }
         ensures too_many { IsErrOf result (SessionFault.Statement InstFault.TooMany)
-            ↔ ((self.old.is_closed ≡ false) × (total_magnitude self.old.terms ≤ SUM_BOUND)
+            ↔ ((total_magnitude self.old.terms ≤ SUM_BOUND)
             × (MAX_TERMS < length self.old.terms + constraint_terms self.old.problem.constraints)) }
-        ensures other { IfErr result (λ fault. (fault ≢ SessionFault.Statement InstFault.BadVariable) × (fault ≢ SessionFault.Unended)) }
+        ensures other { IfErr result (λ fault. (fault ≢ SessionFault.Statement InstFault.BadVariable) × (fault ≢ SessionFault.Unended) × (fault ≢ SessionFault.Length)) }
     {
-        let None = &self.instance else {
-            return Err(SessionFault::Closed);
+        let greatest = greatest_index(&self.terms);
+        let (vars, mut builder) = self.take_statements();
+        match builder.set_objective(&self.terms) {
+            Ok(()) => {
+                self.keep_statements(vars.max(greatest), builder);
+                self.terms.clear();
+                Ok(())
+            }
+            Err(fault) => {
+                self.keep_statements(vars, builder);
+                Err(SessionFault::Statement(fault))
+            }
+        }
+    }
+
+    /// The statements and how many variables they name, taken out: `keep_statements` puts them, or others, in their place. What
+    /// was made of them is let go.
+    fn take_statements(&mut self) -> (u32, InstanceBuilder)
+        ensures vars { result.0 ≡ self.old.problem.vars }
+        ensures statements { result.1 ≡ statements self.old.problem }
+        ensures rest { self.new ≡ record self.old { problem = self.new.problem } }
+    {
+        match self.ready.take() {
+            Some(ready) => {
+                let instance = ready.into_instance();
+                let vars = instance.vars();
+                (vars, InstanceBuilder::reopen(self.alloc, instance))
+            }
+            None => (
+                self.vars,
+                replace(&mut self.builder, InstanceBuilder::new(self.alloc)),
+            ),
+        }
+    }
+
+    /// Puts statements that name so many variables in the place of all that were told.
+    fn keep_statements(&mut self, vars: u32, builder: InstanceBuilder)
+        ensures { self.new ≡ record self.old { problem = problem_of vars builder None } }
+    {
+        self.vars = vars;
+        self.builder = builder;
+        self.ready = None;
+    }
+
+    /// The instance of the statements and its search, taken out: `keep_ready` puts them back. Makes them where they are not made.
+    /// Fails as `make_ready` does.
+    pub(crate) fn take_ready(&mut self) -> Result<Ready, SessionFault>
+        ensures ready { IfOk result (λ ready. ready ≡ self.old.problem) }
+        ensures rest { OnOk result (self.new ≡ record self.old { problem = self.new.problem }) }
+        ensures unchanged { OnErr result (self.new ≡ self.old) }
+        ensures unended { IsErrOf result SessionFault.Unended ↔ (self.old.terms ≢ []) }
+        ensures refused { IfErr result (IsRefusal self.old) }
+    {
+        self.make_ready()?;
+        match self.ready.take() {
+            Some(ready) => Ok(ready),
+            None => Err(SessionFault::Statement(InstFault::Memory)),
+        }
+    }
+
+    /// Puts an instance and its search in the place of all statements.
+    pub(crate) fn keep_ready(&mut self, ready: Ready)
+        ensures { self.new ≡ record self.old { problem = ready } }
+    {
+        self.ready = Some(ready);
+    }
+
+    /// Makes the instance of the statements and its search, where they are not made. Fails, and changes nothing that contracts
+    /// see, with `Unended` where a sum is not ended, with `Memory` where memory is refused, and with `BadVariable` or `TooMany`
+    /// only where some variable of the statements is no variable of an instance.
+    fn make_ready(&mut self) -> Result<(), SessionFault>
+        ensures unchanged { self.new ≡ self.old }
+        ensures unended { IsErrOf result SessionFault.Unended ↔ (self.old.terms ≢ []) }
+        ensures refused { IfErr result (IsRefusal self.old) }
+    {
+        if self.has_terms() {
+            return Err(SessionFault::Unended);
+        }
+        let None = &self.ready else {
+            return Ok(());
         };
-        self.builder.set_objective(&self.terms)?;
-        self.vars = self.vars.max(greatest_index(&self.terms));
-        self.terms.clear();
-        Ok(())
+        let (vars, told) = self.take_statements();
+        match told.finish(vars) {
+            Ok(instance) => self.make_search(instance),
+            Err(FinishFault { fault, builder }) => {
+                self.keep_statements(vars, builder);
+                Err(SessionFault::Statement(fault))
+            }
+        }
+    }
+
+    /// Makes the search of an instance, which stands in place of all statements. Fails where memory is refused; then its
+    /// statements are told, without an instance.
+    fn make_search(&mut self, instance: Instance) -> Result<(), SessionFault>
+        ensures told { self.new ≡ record self.old { problem = instance } }
+        ensures refused { IfErr result (λ fault. fault ≡ SessionFault.Statement InstFault.Memory) }
+    {
+        match Ready::new(self.alloc, instance) {
+            Ok(mut ready) => {
+                if let Some(values) = &self.suggestion {
+                    ready.suggest(values);
+                }
+                self.keep_ready(ready);
+                self.make_rooms();
+                Ok(())
+            }
+            Err(instance) => {
+                let vars = instance.vars();
+                self.keep_statements(vars, InstanceBuilder::reopen(self.alloc, instance));
+                Err(SessionFault::Statement(InstFault::Memory))
+            }
+        }
     }
 
     /// Whether there are terms of a sum that is not ended.
@@ -147,58 +261,6 @@ impl Session {
         ensures { self.new ≡ record self.old { terms = [] } }
     {
         self.terms.truncate(0);
-    }
-
-    /// Searches for the least assignment, with at most `nodes` decisions where a budget is given, and keeps what was found in
-    /// place of what was. Fails, and changes neither the statements nor what was found, with `Unended` where a sum is not
-    /// ended, with `Memory` where memory is refused, and with `BadVariable` or `TooMany` only where some variable of the
-    /// statements is no variable of an instance.
-    pub fn solve(&mut self, nodes: Option<u64>) -> Result<Ran, SessionFault>
-        ensures least { IfOk result (λ ran. ran.cut ≡ false → HoldsLeast self.old.problem self.new.found) }
-        ensures sound { IfOk result (λ _. IfSome self.new.found (IsSolution self.old.problem)) }
-        ensures status { IfOk result (λ ran. ran.status ≡ status_of self.old.problem ran.cut self.new.found) }
-        ensures no_budget { IfNone nodes (IfOk result (λ ran. ran.cut ≡ false)) }
-        ensures closes { OnOk result (self.new ≡ record self.old { is_closed = true; found = self.new.found }) }
-        ensures err { OnErr result (record self.new { is_closed = self.old.is_closed } ≡ self.old) }
-        ensures unended { IsErrOf result SessionFault.Unended ↔ (self.old.terms ≢ []) }
-        ensures other { IfErr result (λ fault. (fault ≢ SessionFault.Closed) × (fault ≢ SessionFault.Statement InstFault.TooLarge)) }
-        ensures refused { IfErr result (λ fault. self.old.problem.vars ≤ MAX_VARS → HasVariablesWithin self.old.problem.vars (statements self.old.problem)
-            → (fault ≡ SessionFault.Unended) ⊎ (fault ≡ SessionFault.Statement InstFault.Memory)) }
-    {
-        if self.has_terms() {
-            return Err(SessionFault::Unended);
-        }
-        self.close()?;
-        let Some(instance) = &self.instance else {
-            return Err(SessionFault::Statement(InstFault::Memory));
-        };
-        let Searched { found, cut } = search(self.alloc, instance, nodes)?;
-        let status = ended_as(instance.has_objective(), cut, found.is_some());
-        self.found = found;
-        Ok(Ran { status, cut })
-    }
-
-    /// Makes the instance of the statements, if it is not made.
-    fn close(&mut self) -> Result<(), SessionFault>
-        ensures closed { OnOk result (self.new ≡ record self.old { is_closed = true }) }
-        ensures unchanged { OnErr result (self.new ≡ self.old) }
-        ensures other { IfErr result (λ fault. (fault ≢ SessionFault.Closed) × (fault ≢ SessionFault.Unended) × (fault ≢ SessionFault.Statement InstFault.TooLarge)) }
-        ensures refused { IfErr result (λ fault. self.old.problem.vars ≤ MAX_VARS → HasVariablesWithin self.old.problem.vars (statements self.old.problem) → ⊥) }
-    {
-        let None = &self.instance else {
-            return Ok(());
-        };
-        let told = replace(&mut self.builder, InstanceBuilder::new(self.alloc));
-        match told.finish(self.vars) {
-            Ok(instance) => {
-                self.instance = Some(instance);
-                Ok(())
-            }
-            Err(FinishFault { fault, builder }) => {
-                self.builder = builder;
-                Err(SessionFault::Statement(fault))
-            }
-        }
     }
 
     /// The cost of what was found, if anything was: 0 without an objective.
@@ -230,8 +292,8 @@ impl Session {
     pub fn vars(&self) -> u32
         ensures { result ≡ self.now.problem.vars }
     {
-        match &self.instance {
-            Some(instance) => instance.vars(),
+        match &self.ready {
+            Some(ready) => ready.instance.vars(),
             None => self.vars,
         }
     }
@@ -280,18 +342,4 @@ fn greatest_index(terms: &[Term]) -> u32
     terms
         .iter()
         .fold(0, |greatest, term| greatest.max(term.lit.var()))
-}
-
-/// How a search of an instance ends.
-fn ended_as(has_objective: bool, cut: bool, found: bool) -> Status
-    ensures whole { cut ≡ false → result ≡ whole_status has_objective found }
-    ensures cut { cut ≡ true → result ≡ cut_status found }
-{
-    match (cut, found) {
-        (true, true) => Status::Satisfiable,
-        (true, false) => Status::Unknown,
-        (false, false) => Status::Unsatisfiable,
-        (false, true) if has_objective => Status::Optimum,
-        (false, true) => Status::Satisfiable,
-    }
 }

@@ -15,7 +15,6 @@ pub use pb_report::{
     report_satisfiable, report_unknown,
 };
 pub use running::{report_found, run, run_alone};
-pub use workers::alone::solve_alone;
 pub use workers::gate::{Gate, OpenGate};
 pub use workers::gather::gather;
 pub use workers::part::Part;

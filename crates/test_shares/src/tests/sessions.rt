@@ -1,8 +1,10 @@
 //! A planner's session: two jobs, of which one has to be done.
 
-use pb_inst::{InstFault, Lit, Number, Relation};
+use pb_inst::{Assignment, InstFault, Lit, Number, Relation};
+use pb_questions::{Among, Explanation, Fixed, VariableStatus};
 use pb_session::{Session, SessionFault};
 use pb_solve::{Format, Status};
+use std::alloc::Global;
 
 // Each test holds its session with no way out before its end, and calls it through helpers without a contract: the tests look at
 // answers alone, and the clauses of the calls would make their proofs ten times as long.
@@ -37,6 +39,46 @@ fn solve(session: &mut Session, nodes: Option<u64>) -> Result<(Status, bool), Se
     Ok((ran.status, ran.cut))
 }
 
+/// The status of a search under an assumption, and the cost of what it found.
+fn solve_under(
+    session: &mut Session,
+    var: u32,
+    value: bool,
+) -> Result<(Status, Option<Number>), SessionFault> {
+    let ran = session.solve_under(&[Lit::new(var, value)?], None)?;
+    Ok((ran.status, session.cost()))
+}
+
+/// How many of two contradicting assumptions, and one more, are enough that nothing is feasible. None where something is, or it
+/// is not known.
+fn explain(session: &mut Session) -> Result<Option<(usize, bool)>, SessionFault> {
+    let assumptions = [Lit::new(2, false)?, Lit::new(1, false)?, Lit::new(3, true)?];
+    match session.explain(&assumptions, None)? {
+        Explanation::Core(core) => Ok(Some((core.literals.len(), core.is_minimal))),
+        _ => Ok(None),
+    }
+}
+
+/// The statuses of both jobs in the cheapest answers, where the first one is done or, with false, is not.
+fn fixed(
+    session: &mut Session,
+    value: bool,
+) -> Result<Option<(VariableStatus, VariableStatus)>, SessionFault> {
+    match session.fixed(&[Lit::new(1, value)?], Among::Feasible, None)? {
+        Fixed::Variables(statuses) if statuses.len() == 2 => Ok(Some((statuses[0], statuses[1]))),
+        _ => Ok(None),
+    }
+}
+
+/// Suggests that the first two of so many jobs are done.
+fn suggest(alloc: Global, session: &mut Session, vars: u32) -> Result<(), SessionFault> {
+    let mut values = Assignment::new(alloc, vars)?;
+    if values.words() > 0 {
+        values.set_word(0, 3);
+    }
+    session.suggest(&values)
+}
+
 /// The values of the variables from 0 to 3 in what was found.
 fn values(session: &Session) -> [Option<bool>; 4] {
     [
@@ -59,7 +101,6 @@ fn the_cheaper_job_is_done(rt: HostRuntime) {
     assert!(rt; solve(&mut session, None) == Ok((Status::Optimum, false)));
     assert!(rt; session.cost() == Some(2));
     assert!(rt; values(&session) == [None, Some(false), Some(true), None]);
-    assert!(rt; tell(&mut session, &[(1, 1)]) == Err(SessionFault::Closed));
     assert!(rt; solve(&mut session, Some(0)) == Ok((Status::Unknown, true)));
 }
 
@@ -74,6 +115,51 @@ fn refusals_change_nothing(rt: HostRuntime) {
     assert!(rt; solve(&mut session, None) == Err(SessionFault::Unended));
     session.discard();
     assert!(rt; session.vars() == 2);
+    assert!(rt; solve(&mut session, None) == Ok((Status::Optimum, false)));
+    assert!(rt; session.cost() == Some(2));
+}
+
+#[test]
+fn statements_follow_questions(rt: HostRuntime) {
+    let mut session = Session::new(rt.alloc());
+    assert!(rt; tell_jobs(&mut session).is_ok());
+    assert!(rt; solve(&mut session, None) == Ok((Status::Optimum, false)));
+    assert!(rt; session.cost() == Some(2));
+    assert!(rt; tell(&mut session, &[(1, 2), (1, 3)]).is_ok());
+    assert!(rt; solve_under(&mut session, 1, true) == Err(SessionFault::Unended));
+    assert!(rt; end(&mut session).is_ok());
+    assert!(rt; session.cost() == Some(2));
+    assert!(rt; session.vars() == 3);
+    assert!(rt; solve(&mut session, None) == Ok((Status::Optimum, false)));
+    assert!(rt; session.cost() == Some(3));
+    assert!(rt; values(&session) == [None, Some(true), Some(false), Some(false)]);
+}
+
+#[test]
+fn questions_are_asked_under_assumptions(rt: HostRuntime) {
+    let mut session = Session::new(rt.alloc());
+    assert!(rt; tell_jobs(&mut session).is_ok());
+    assert!(rt; solve_under(&mut session, 2, false) == Ok((Status::Optimum, Some(3))));
+    assert!(rt; solve_under(&mut session, 1, true) == Ok((Status::Optimum, Some(3))));
+    assert!(rt; solve_under(&mut session, 9, true) == Ok((Status::Optimum, Some(2))));
+    assert!(rt; explain(&mut session) == Ok(Some((2, true))));
+    let told = fixed(&mut session, false);
+    assert!(rt; told == Ok(Some((VariableStatus::FixedFalse, VariableStatus::FixedTrue))));
+    let told = fixed(&mut session, true);
+    assert!(rt; told == Ok(Some((VariableStatus::FixedTrue, VariableStatus::Free))));
+    assert!(rt; session.cost() == Some(2));
+}
+
+#[test]
+fn a_suggestion_changes_no_answer(rt: HostRuntime) {
+    let mut session = Session::new(rt.alloc());
+    assert!(rt; tell_jobs(&mut session).is_ok());
+    assert!(rt; suggest(rt.alloc(), &mut session, 3) == Err(SessionFault::Length));
+    assert!(rt; suggest(rt.alloc(), &mut session, 2) == Ok(()));
+    assert!(rt; solve(&mut session, Some(0)) == Ok((Status::Satisfiable, true)));
+    assert!(rt; session.cost() == Some(5));
+    assert!(rt; solve_under(&mut session, 1, false) == Ok((Status::Optimum, Some(2))));
+    assert!(rt; suggest(rt.alloc(), &mut session, 2) == Ok(()));
     assert!(rt; solve(&mut session, None) == Ok((Status::Optimum, false)));
     assert!(rt; session.cost() == Some(2));
 }

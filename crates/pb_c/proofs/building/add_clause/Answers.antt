@@ -15,6 +15,6 @@ returns-clause-refused c =
     elim c.match-add_units.branch [
       | in-Ok w ↦
           let units = w.in-Ok.ensures.units in let end = w.end-said.ensures in
-          subst Refused (sym w.said-is) (refused_at_end _ c.add_units.new.session units.0 _ _ units.1 units.2 end.closed end.too_large end.too_many end.other)
+          subst Refused (sym w.said-is) (refused_at_end _ c.add_units.new.session units.0 _ _ units.1 units.2 end.too_large end.too_many end.other)
       | in_default w ↦ subst Refused (sym w.said-is) c.add_units.ensures.refused
     ]
