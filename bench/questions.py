@@ -1,14 +1,21 @@
 #!/usr/bin/env python3
 """Measures questions on one instance: a session of the library that is kept, against one from nothing for each, and clasp.
 
-    questions.py [--questions N] [--anew N] [--assumed K] [--nodes B] [--no-clasp] [--limit SECONDS] LIBRARY FILE...
+    questions.py [--ask KIND] [--questions N] [--anew N] [--assumed K] [--nodes B] [--no-clasp] [--limit SECONDS] LIBRARY FILE...
 
-LIBRARY is libpbcube.so. Each file is an OPB text. A question is the least assignment that makes K literals true, which are drawn
-at random with the values of an assignment that is feasible, as a configurator's clicks are; every tenth has one literal turned
-round. A session that is kept is told the instance once and asked all questions; of the first N of --anew each is also asked of a
-session that is told the instance anew, and of clasp as a process that reads the text with the literals as rows, where clasp is
-installed. The table has microseconds a question by the wall clock, and the times by which the kept session is faster. Costs
-that differ are told, and the status is then 1.
+LIBRARY is libpbcube.so. Each file is an OPB text. Literals are drawn at random with the values of an assignment that is feasible,
+the least one of random costs. A question, by its KIND:
+
+    least    the least assignment that makes K literals true; every tenth has one literal turned round
+    clicks   the same as a configurator asks it: each question has one literal more, up to K, and then there is one again; every
+             tenth has its last literal turned round
+    explain  why nothing is feasible under K literals, some of them turned round
+    fixed    which variables have one value under K literals
+
+A session that is kept is told the instance once and asked all questions; of the first N of --anew each is also asked of a session
+that is told the instance anew, and, but for explain and fixed, of clasp as a process that reads the text with the literals as rows,
+where clasp is installed. The table has microseconds a question by the wall clock: the mean of all that the kept session was asked,
+and of those first N for each, with the times by which the kept session is faster. Answers that differ are told, and the status is then 1.
 """
 import argparse
 import ctypes
@@ -24,7 +31,9 @@ from pathlib import Path
 sys.dont_write_bytecode = True
 import opb
 
-OPTIMUM, SATISFIABLE, UNSATISFIABLE = 30, 10, 20
+OPTIMUM, SATISFIABLE, UNSATISFIABLE, FOUND = 30, 10, 20, 11
+FEASIBLE = 0  # of fixed: among all that are feasible
+DRAWING = 20_000  # so many decisions for the assignment that questions are drawn from
 
 
 class Library:
@@ -43,6 +52,8 @@ class Library:
             ("solve_under", integer, [pointer, literals, size, ctypes.c_uint64]),
             ("cost_text", size, [pointer, ctypes.c_char_p, size]),
             ("value", integer, [pointer, ctypes.c_uint32]),
+            ("explain", integer, [pointer, literals, size, ctypes.c_uint64, literals, ctypes.POINTER(size)]),
+            ("fixed", integer, [pointer, literals, size, integer, ctypes.c_uint64, ctypes.c_char_p, size]),
         ):
             call = getattr(self.calls, "pbcube_" + name)
             call.restype, call.argtypes = result, arguments
@@ -54,6 +65,7 @@ class Session:
 
     def __init__(self, library, instance):
         self.library, self.solver, self.room = library, library.new(), ctypes.create_string_buffer(64)
+        self.variables = instance.variables
         self.tell(instance.costs)
         library.end_objective(self.solver)
         for terms, is_equal, bound in instance.rows:
@@ -64,13 +76,34 @@ class Session:
         for coefficient, variable in terms:
             self.library.term(self.solver, coefficient, variable)
 
-    def ask(self, assumed, nodes):
+    def ask(self, kind, assumed, nodes):
+        """The answer to a question of that kind."""
+        return {"explain": self.core, "fixed": self.statuses}.get(kind, self.least)(assumed, nodes)
+
+    def core(self, assumed, nodes):
+        """Literals under which nothing is feasible, or none."""
+        numbers, core, count = (ctypes.c_int32 * len(assumed))(*assumed), (ctypes.c_int32 * len(assumed))(), ctypes.c_size_t()
+        status = self.library.explain(self.solver, numbers, len(assumed), nodes, core, ctypes.byref(count))
+        if status not in (UNSATISFIABLE, SATISFIABLE):
+            raise RuntimeError("a question ended with status %d" % status)
+        return core[: count.value] if status == UNSATISFIABLE else None
+
+    def statuses(self, assumed, nodes):
+        """The status of each variable, or none."""
+        numbers = (ctypes.c_int32 * len(assumed))(*assumed)
+        room = ctypes.create_string_buffer(self.variables)
+        status = self.library.fixed(self.solver, numbers, len(assumed), FEASIBLE, nodes, room, len(room))
+        if status not in (UNSATISFIABLE, SATISFIABLE):
+            raise RuntimeError("a question ended with status %d" % status)
+        return room.raw if status == SATISFIABLE else None
+
+    def least(self, assumed, nodes):
         """The least cost under the literals, or none."""
         numbers = (ctypes.c_int32 * len(assumed))(*assumed)
         status = self.library.solve_under(self.solver, numbers, len(assumed), nodes)
         if status == UNSATISFIABLE:
             return None
-        if status not in (OPTIMUM, SATISFIABLE):
+        if status not in (OPTIMUM, SATISFIABLE, FOUND):
             raise RuntimeError("a question ended with status %d" % status)
         length = self.library.cost_text(self.solver, self.room, len(self.room))
         return int(self.room.raw[:length])
@@ -82,23 +115,28 @@ class Session:
         self.library.free(self.solver)
 
 
-def drawn(rng, values, count, assumed):
+def drawn(rng, kind, values, count, assumed):
     """So many questions, each a list of literals."""
-    questions = []
+    questions, last = [], []
     for number in range(count):
-        chosen = rng.sample(range(1, len(values) + 1), min(assumed, len(values)))
-        literals = [variable if values[variable - 1] else -variable for variable in chosen]
-        if number % 10 == 9:
-            literals[0] = -literals[0]
-        questions.append(literals)
+        if kind != "clicks" or len(last) == assumed:
+            last = []
+        free = [variable for variable in range(1, len(values) + 1) if variable not in map(abs, last)]
+        chosen = rng.sample(free, 1 if kind == "clicks" else min(assumed, len(free)))
+        last = last + [variable if values[variable - 1] else -variable for variable in chosen]
+        turned = range(0, len(last), 3) if kind == "explain" else [len(last) - 1] if number % 10 == 9 else []
+        asked = [-literal if place in turned else literal for place, literal in enumerate(last)]
+        questions.append(asked)
+        if kind == "clicks" and turned:
+            last.pop()
     return questions
 
 
-def feasible(library, instance):
-    """The values of a feasible assignment: the least one of other costs, so that questions move away from the least."""
-    other = opb.Instance(instance.variables, 0, [], instance.rows)
-    session = Session(library, other)
-    session.ask([], 2**64 - 1)
+def feasible(rng, library, instance):
+    """The values of a feasible assignment: the least one of random costs, so that questions move away from the least."""
+    costs = [(rng.randint(-9, 9), variable) for variable in range(1, instance.variables + 1)]
+    session = Session(library, opb.Instance(instance.variables, 0, costs, instance.rows))
+    session.ask("least", [], DRAWING)
     values = session.values(instance.variables)
     session.close()
     return values
@@ -106,21 +144,28 @@ def feasible(library, instance):
 
 def timed(answer, questions):
     """What is answered to the questions, and the microseconds that each took."""
-    start = time.perf_counter()
-    told = [answer(question) for question in questions]
-    return told, (time.perf_counter() - start) * 1e6 / max(len(questions), 1)
+    told, took = [], []
+    for question in questions:
+        start = time.perf_counter()
+        told.append(answer(question))
+        took.append((time.perf_counter() - start) * 1e6)
+    return told, took
 
 
-def anew(library, instance, questions, nodes):
+def anew(library, instance, kind, questions, nodes):
     """The same of a session for each question."""
-    told, took = [], 0
+    told, took = [], []
     for question in questions:
         session = Session(library, instance)
-        (cost,), micros = timed(lambda asked: session.ask(asked, nodes), [question])
+        answers, micros = timed(lambda asked: session.ask(kind, asked, nodes), [question])
         session.close()
-        told.append(cost)
+        told += answers
         took += micros
-    return told, took / max(len(questions), 1)
+    return told, took
+
+
+def mean(numbers):
+    return sum(numbers) / max(len(numbers), 1)
 
 
 def clasp(text, assumed, room, limit):
@@ -136,30 +181,33 @@ def clasp(text, assumed, room, limit):
 
 
 def row(library, name, options, room):
-    """The table's row of an instance, and whether all costs agree."""
+    """The table's row of an instance, and whether all answers agree."""
     instance = opb.read(name)
     text = opb.plain_opb(instance)
-    questions = drawn(random.Random(name), feasible(library, instance), options.questions, options.assumed)
+    rng = random.Random(Path(name).stem)
+    questions = drawn(rng, options.ask, feasible(rng, library, instance), options.questions, options.assumed)
     session = Session(library, instance)
-    session.ask([], options.nodes)
-    costs, kept = timed(lambda asked: session.ask(asked, options.nodes), questions)
+    session.ask("least", [], options.nodes)
+    answers, kept = timed(lambda asked: session.ask(options.ask, asked, options.nodes), questions)
     some = questions[: options.anew]
-    others = [anew(library, instance, some, options.nodes)]
+    others = [anew(library, instance, options.ask, some, options.nodes)]
     over = "-"
-    if shutil.which("clasp") and options.clasp:
+    if shutil.which("clasp") and options.clasp and options.ask in ("least", "clicks"):
         try:
             others.append(timed(lambda asked: clasp(text, asked, room, options.limit), some))
         except subprocess.TimeoutExpired:
             over = "over %g seconds" % options.limit
-    agree = all(told == costs[: len(some)] for told, _ in others)
-    cells = ["%.0f" % kept] + ["%.0f (%.1f)" % (took, took / kept) for _, took in others]
-    cells += [over] * (3 - len(cells)) + ["%d of %d" % (sum(cost is None for cost in costs), len(costs))]
-    print("| %s | %s |%s" % (Path(name).stem, " | ".join(cells), "" if agree else " costs differ"), flush=True)
+    agree = all(told == answers[: len(some)] for told, _ in others)
+    first = mean(kept[: len(some)])
+    cells = ["%.0f" % mean(kept), "%.0f" % first] + ["%.0f (%.1f)" % (mean(took), mean(took) / first) for _, took in others]
+    cells += [over] * (4 - len(cells)) + ["%d of %d" % (sum(it is None for it in answers), len(answers))]
+    print("| %s | %s |%s" % (Path(name).stem, " | ".join(cells), "" if agree else " answers differ"), flush=True)
     return agree
 
 
 def main():
     words = argparse.ArgumentParser()
+    words.add_argument("--ask", choices=("least", "clicks", "explain", "fixed"), default="least")
     words.add_argument("--questions", type=int, default=1000)
     words.add_argument("--anew", type=int, default=50)
     words.add_argument("--assumed", type=int, default=5)
@@ -169,7 +217,7 @@ def main():
     words.add_argument("library")
     words.add_argument("files", nargs="+")
     options = words.parse_args()
-    print("| Instance | kept | from nothing | clasp | nothing feasible |\n|---|---|---|---|---|")
+    print("| Instance | kept, all | kept, first | from nothing | clasp | nothing feasible |\n|---|---|---|---|---|---|")
     with tempfile.TemporaryDirectory() as room:
         library = Library(options.library)
         agree = [row(library, name, options, Path(room)) for name in options.files]

@@ -33,8 +33,9 @@ shift 2
 exec "$@"
 """
 UNPROVED = """#!/bin/sh
-printf '#!/bin/sh\\necho unproved "$@"\\n' > "$2"
-chmod +x "$2"
+program=${0%/*}/out/unproved/$1
+printf '#!/bin/sh\\necho unproved "$@"\\n' > "$program"
+chmod +x "$program"
 """
 
 
@@ -43,11 +44,11 @@ class Repository:
 
     def __init__(self, room):
         self.room, self.top = room, room / "repository"
-        shutil.copytree(TOP / "build", self.top / "build")
-        for name in ("pbcube", "prove"):
+        self.top.mkdir()
+        for name in ("crates.sh", "pbcube", "prove"):
             shutil.copy(TOP / name, self.top)
         (self.top / "crates.txt").write_text(CRATES)
-        for path, text in ((room / "bin/rt", RT), (room / "bin/nice", NICE), (self.top / "build/unproved", UNPROVED)):
+        for path, text in ((room / "bin/rt", RT), (room / "bin/nice", NICE), (self.top / "build", UNPROVED)):
             path.parent.mkdir(exist_ok=True)
             path.write_text(text)
             path.chmod(0o755)

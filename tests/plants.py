@@ -10,7 +10,7 @@ the form of a must-fail edit. Nothing is proved: a plant is a bug that no contra
     test CRATE NAME  the tests of that crate whose names contain NAME fail (`rt try --test`)
     work NAME ..     on one of these instances, or of all, a run takes more steps or requests than tests/work.py allows
     requests NAME    on this instance a run makes more requests for memory than tests/work.py allows
-    program SCRIPT   the program, built without proof, fails in tests/SCRIPT.py: examples, commands, texts, budgets, faults, threads
+    program SCRIPT   the program, built without proof, fails in tests/runs/SCRIPT.py: examples, commands, texts, budgets, faults, threads
                      or memory; a plant in another program than pbcube is tried in that one
 
 With no names all are planted: an hour or more, so this is no part of the gate. The scripts for faults, threads and memory want a
@@ -19,8 +19,6 @@ the gate asks.
 """
 import os
 import re
-import shutil
-import subprocess
 import sys
 import tempfile
 from dataclasses import dataclass
@@ -28,8 +26,7 @@ from pathlib import Path
 
 sys.dont_write_bytecode = True
 import work
-from commands import ROWS as PROGRAMS
-from lib import TOP
+from lib import PROGRAMS, TOP, copies
 
 PLANTS = TOP / "tests/plants"
 
@@ -82,19 +79,8 @@ def write(texts):
         path.write_text(text)
 
 
-class Copy:
-    """A copy of the repository, without what checks left of its crates, since nothing is proved in it."""
-
-    def __init__(self, folder):
-        self.top = folder / TOP.name
-        self.built = folder / "built"
-        self.built.mkdir()
-        shutil.copytree(TOP, self.top, symlinks=True, ignore=shutil.ignore_patterns(".git", "out"))
-
-    def run(self, words, folder="."):
-        """The exit status, and all that was said."""
-        ran = subprocess.run(words, cwd=self.top / folder, stdin=subprocess.DEVNULL, stdout=subprocess.PIPE, stderr=subprocess.STDOUT, text=True)
-        return ran.returncode, ran.stdout
+class PlantedCopy(copies.Copy):
+    """A copy in which bugs are planted."""
 
     def refusal(self, plant):
         """What the plant's guard says against it, or None where it lets the plant pass."""
@@ -125,18 +111,8 @@ class Copy:
         return f"{name}: {requests} requests, where {today} were enough" if requests > today + work.SPARE else None
 
     def by_program(self, script, name):
-        status, said = self.run([f"tests/{script}.py", self.unproved_program(name)])
+        status, said = self.run([f"tests/runs/{script}.py", self.unproved_program(name)])
         return said.splitlines()[0] if status else None
-
-    def unproved_program(self, name, level=2):
-        """The program of this name, compiled without proof and optimized so much."""
-        program = self.built / name
-        program.unlink(missing_ok=True)
-        status, said = self.run(["build/unproved", name, program, str(level)])
-        if status:
-            sys.exit(f"plants: {name} was not compiled:\n{said}")
-        return program
-
 
 def why_not_planted(plant):
     """Why the plant can no longer be planted, or its guard is not there, or None."""
@@ -151,7 +127,7 @@ def why_not_planted(plant):
         return None if re.search(rf"\bfn \w*{name}\w*\(", code) else f"{crate} has no test {name}"
     if guard in ("work", "requests"):
         return None if set(words) <= set(work.TODAY) else "there is no such instance"
-    return None if guard == "program" and (TOP / f"tests/{words[0]}.py").exists() else f"there is no guard {plant.guard}"
+    return None if guard == "program" and (TOP / f"tests/runs/{words[0]}.py").exists() else f"there is no guard {plant.guard}"
 
 
 def check(plants):
@@ -168,7 +144,7 @@ def main(names):
     chosen = [it for it in plants if not names or it.name in names]
     passed = 0
     with tempfile.TemporaryDirectory(prefix="pbcube-plants-", dir=os.environ.get("TMPDIR")) as room:
-        copy = Copy(Path(room))
+        copy = PlantedCopy(Path(room))
         for plant in chosen:
             said = copy.refusal(plant)
             passed += said is None

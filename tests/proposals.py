@@ -2,6 +2,7 @@
 """Draws at random what the search takes as proposals, and compares its answers with a listing of all assignments.
 
     tests/proposals.py
+    tests/proposals.py --check
 
 In a copy of the repository each proposer of tests/proposals/ draws: the multipliers, the order and the values of decisions, what
 is tried at the root, when the search steps back further, and the hints of a decision. Constants that put such work off are as small
@@ -13,6 +14,8 @@ line that stands there once, and what is put in: at the beginning of the functio
 each place is come to is known by runs on larger instances: of so many variables that the program stops where that place draws.
 Some places propose nothing, and show only that what they say comes to pass beside the drawn proposals. What draws is the module
 draws.module: source of Rattle that belongs to no crate here may not have its ending.
+
+With --check nothing is compiled: it looks only whether each place is there.
 """
 import random
 import re
@@ -22,15 +25,13 @@ from dataclasses import dataclass
 from pathlib import Path
 
 sys.dont_write_bytecode = True
-import budgets
-import draws
-from budgets import SCALE, Instance
-from lib import TOP, ran, side_by_side
-from plants import Copy
+from lib import TOP, draws, ran, side_by_side
+from lib.copies import Copy
+from lib.instance import Instance
 
 PLACES = TOP / "tests/proposals"
 PROGRAM = "bench_work"
-INSTANCES = 600  # half of them from budgets.py, with 2 to 7 variables
+INSTANCES = 600  # half of them with 2 to 7 variables
 FEWEST_VARIABLES, MOST_VARIABLES = 3, 12  # of the other half
 FEWEST_TO_STOP = 18  # on so many variables the program stops at the first place, on one more at the next, and so on
 MOST_TO_STOP = 200  # so many of these larger instances are run for a place at most, until one stops there
@@ -40,18 +41,18 @@ CONSTANTS = {  # what they are in the copy
     ("pb_lagrange/src/relaxation/levels.rt", "CHANGES_OF_A_ROW"): 1,
     ("pb_lagrange/src/relaxation/levels.rt", "CHANGES_OF_FEW_ROWS"): 24,
     ("pb_lagrange/src/relaxation.rt", "FAR"): 2,
-    ("pb_lagrange/src/account.rt", "FIRST_INTERVAL"): 4,
+    ("pb_lagrange/src/effort.rt", "FIRST_INTERVAL"): 4,
     ("pb_dual/src/multipliers.rt", "FIXING_WINDOW"): 2,
-    ("pb_search/src/root_work.rt", "LEAST_VARIABLES"): 0,
-    ("pb_search/src/root_work.rt", "LEAST_DECISIONS"): 0,
-    ("pb_search/src/probing.rt", "LEAST_CREDIT"): 0,
-    ("pb_search/src/probing.rt", "LEAST_CREDIT_OF_A_DECISION"): 0,
+    ("pb_subtree/src/root_work.rt", "LEAST_VARIABLES"): 0,
+    ("pb_subtree/src/root_work.rt", "LEAST_DECISIONS"): 0,
+    ("pb_subtree/src/probing.rt", "LEAST_CREDIT"): 0,
+    ("pb_subtree/src/probing.rt", "LEAST_CREDIT_OF_A_DECISION"): 0,
 }
 LINES = {  # what they become in the copy
     ("pb_inst/src/lib.rt", "mod cubes;"): "mod cubes;\nmod draws;",
     ("pb_inst/src/lib.rt", "pub use cubes::Cube;"): "pub use cubes::Cube;\npub use draws::{drawn, drawn_multiplier};",
     ("pb_lagrange/src/relaxation/passes.rt", "        self.is_renewed || self.nodes == LONG_PATIENCE"): "        self.is_renewed || self.nodes % 4 == 1",
-    ("pb_search/src/root_work.rt", "        self.returns = u32::MAX;"): "        self.returns = 3;",
+    ("pb_subtree/src/root_work.rt", "        self.returns = u32::MAX;"): "        self.returns = 3;",
     (f"{PROGRAM}/src/main.rt", "        split: 0,"): "        split: (text.len() % 3) as u32,",
 }
 
@@ -114,8 +115,8 @@ def places():
     return made
 
 
-def program_of_a_copy(folder):
-    """The program in which the places draw."""
+def drawing_copy(folder):
+    """A copy in which the places draw."""
     copy = Copy(folder)
     sources = Sources(copy.top)
     (sources.crates / "pb_inst/src/draws.rt").write_text((PLACES / "draws.module").read_text())
@@ -125,7 +126,7 @@ def program_of_a_copy(folder):
         sources.replace(file, old, new)
     for place in places():
         sources.put_in(place)
-    return copy.unproved_program(PROGRAM, level=0)
+    return copy
 
 
 def instance_of(name, variables):
@@ -136,14 +137,14 @@ def instance_of(name, variables):
     rows = [draws.constraint(draw, width, variables, planted) for _ in range(draw.randint(3, 10))]
     objective = draws.terms(draw, width, variables, variables) if draw.random() < 3 / 4 else None
     instance = Instance(variables, objective, tuple(rows), False)
-    return instance.times(SCALE) if width is draws.small and draw.random() < 1 / 2 else instance
+    return instance.times(draws.SCALE) if width is draws.small and draw.random() < 1 / 2 else instance
 
 
 def instances():
     """The same ones in each run."""
     half = INSTANCES // 2
     sizes = [FEWEST_VARIABLES + number % (MOST_VARIABLES + 1 - FEWEST_VARIABLES) for number in range(half)]
-    return [*budgets.instances(half), *(instance_of(f"proposals {number}", size) for number, size in enumerate(sizes))]
+    return [*draws.instances(half), *(instance_of(f"proposals {number}", size) for number, size in enumerate(sizes))]
 
 
 def stops(program, place):
@@ -161,9 +162,13 @@ def complaint(program, number, instance):
     return f"proposals: instance {number}: status {ended.status}, and not the report of the listing:\n{said}"
 
 
-def main():
+def main(words):
     with tempfile.TemporaryDirectory(prefix="pbcube-proposals-") as folder:
-        program = program_of_a_copy(Path(folder))
+        copy = drawing_copy(Path(folder))
+        if words == ["--check"]:
+            print("proposals: each place is there")
+            return 0
+        program = copy.unproved_program(PROGRAM, level=0)
         wrong = side_by_side(lambda numbered: complaint(program, *numbered), enumerate(instances()))
         stopping = [it for it in places() if it.variables]
         are_come_to = side_by_side(lambda place: stops(program, place), stopping)
@@ -174,4 +179,4 @@ def main():
 
 
 if __name__ == "__main__":
-    sys.exit(main())
+    sys.exit(main(sys.argv[1:]))

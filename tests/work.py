@@ -19,14 +19,13 @@ for one that saves many of them, since the bound would be loose after it.
 """
 import re
 import shutil
-import subprocess
 import sys
 import tempfile
 from dataclasses import dataclass
 from pathlib import Path
 
 sys.dont_write_bytecode = True
-from lib import PROCESSORS, TOP, side_by_side
+from lib import PROCESSORS, TOP, ran, side_by_side
 
 INSTANCES = TOP / "tests/work"
 STEPS = 20_000_000
@@ -109,8 +108,8 @@ def run_side(top, cases, steps):
             shutil.copy(INSTANCES / f"{name}.stdout", Path(folder, f"{case}.stdout"))
         # No run makes so many requests that one is refused, but with this word they are counted.
         words = ["rt", "try", "--steps", steps, "--seconds", SECONDS, "--fail-alloc", 10**9, "--cases", folder]
-        ran = subprocess.run(list(map(str, words)), cwd=top / "crates/bench_work", stdin=subprocess.DEVNULL, capture_output=True, text=True)
-    said, ended, requests = ran.stdout + ran.stderr, {}, 0
+        tried = ran(list(map(str, words)), cwd=top / "crates/bench_work", timeout=None)
+    said, ended, requests = tried.out + tried.err, {}, 0
     for line in said.splitlines():
         if found := re.match(r"allocations: (?:at least )?(\d+)$", line):
             requests = int(found[1])

@@ -1,6 +1,6 @@
 /* A planner's call: five jobs go to three machines, each with a capacity, at the least cost.
  *
- *     c/build && cc -I include examples/c/planner.c c/out/libpbcube.a -o planner && ./planner
+ *     bindings/c/build && cc -I bindings/c/include examples/c/planner.c bindings/c/out/libpbcube.a -o planner && ./planner
  *
  * Prints the plan, or why there is none, and exits with 0 where it is the cheapest one. */
 #include "pbcube.h"

@@ -1,7 +1,7 @@
 #!/usr/bin/env python3
 """A configurator: one click after another, what each leaves open, what the cheapest bicycle costs, and why a click cannot be.
 
-    c/build && PYTHONPATH=bindings/python examples/python/configurator.py
+    bindings/c/build && PYTHONPATH=bindings/python examples/python/configurator.py
 
 A click is the name of a part, or "no" and a name; the same click again takes it back. Where standard input is no terminal, the
 clicks are those of CLICKS. One model answers all questions, so each begins where the last one ended.

@@ -2,7 +2,7 @@
 //! and the solver looks for the least pair of numbers on which the two differ.
 //!
 //! ```text
-//! c/build && cargo run --manifest-path bindings/rust/Cargo.toml --example adder
+//! bindings/c/build && cargo run --manifest-path bindings/rust/Cargo.toml --example adder
 //! ```
 
 use pbcube::{Error, Relation, Solver, Status};

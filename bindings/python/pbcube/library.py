@@ -32,7 +32,7 @@ _END_WITH_PARENT, _KILL = 1, 9  # PR_SET_PDEATHSIG and SIGKILL
 def _find() -> str:
     here = os.path.dirname(os.path.realpath(__file__))
     above = os.path.realpath(os.path.join(here, "../../.."))  # PREFIX/lib where it is installed, and else the repository
-    places = [here, above, os.path.join(above, "c/out"), os.path.expanduser("~/.local/lib")]
+    places = [here, above, os.path.join(above, "bindings/c/out"), os.path.expanduser("~/.local/lib")]
     built = [path for path in (os.path.join(place, _LIBRARY) for place in places) if os.path.exists(path)]
     named = os.environ.get("PBCUBE_LIBRARY", "") or next(iter(built), _LIBRARY)
     return os.path.abspath(named) if "/" in named else named  # which a child finds wherever this process has gone by then
@@ -43,7 +43,7 @@ def load(path: str) -> ctypes.CDLL:
     try:
         library = ctypes.CDLL(path)
     except OSError as fault:
-        raise ImportError(f"{fault}: build it by c/build, or name it in PBCUBE_LIBRARY") from fault
+        raise ImportError(f"{fault}: build it by bindings/c/build, or name it in PBCUBE_LIBRARY") from fault
     pointer, integer, size = ctypes.c_void_p, ctypes.c_int, ctypes.c_size_t
     signatures: dict[str, tuple[Any, list[Any]]] = {
         "new": (pointer, []),

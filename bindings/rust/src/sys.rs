@@ -1,4 +1,4 @@
-//! The declarations of `include/pbcube.h`.
+//! The declarations of `bindings/c/include/pbcube.h`.
 
 use std::ffi::{c_char, c_int};
 

@@ -5,9 +5,9 @@
 use crate::instances;
 use crate::rounds::{self, Counts, Course};
 use anyhow::Context;
-use pb_engine::{Count, EngineAt};
+use pb_engine::{Coefficient, EngineAt};
 use pb_inst::{Instance, Memory};
-use pb_normal::{EitherWidth, Form, Normal, normalise};
+use pb_normal::{Form, Normal, Width, normalise};
 use std::alloc::Global;
 use std::io::Read;
 use std::time::{Duration, Instant};
@@ -38,7 +38,7 @@ fn number(words: &mut env::Args) -> anyhow::Result<u32> {
 type Measured = (io::Result<Duration>, Counts);
 
 /// Builds an engine over the normal form, and runs the rounds.
-fn run_rounds<C: Count>(
+fn run_rounds<C: Coefficient>(
     rt: &HostRuntime,
     start: &Instant,
     form: &Form<C>,
@@ -51,7 +51,7 @@ fn run_rounds<C: Count>(
 }
 
 /// Runs the rounds on an engine over the normal form, and says what they did and how long that took.
-fn measure<C: Count>(
+fn measure<C: Coefficient>(
     rt: &HostRuntime,
     form: &Form<C>,
     course: Course,
@@ -86,8 +86,8 @@ fn measure_case(
 ) -> anyhow::Result<()> {
     let (normal, course) = form_of(rt.alloc(), case, vars, text)?;
     match normal.form() {
-        EitherWidth::Narrow(form) => measure(rt, form, course, rounds),
-        EitherWidth::Wide(form) => measure(rt, form, course, rounds),
+        Width::Narrow(form) => measure(rt, form, course, rounds),
+        Width::Wide(form) => measure(rt, form, course, rounds),
     }
 }
 

@@ -2,7 +2,7 @@
 -- A seat that is dropped leaves its view in the table, so `seats` lists the dropped seats too, and those that were joined into another.
 use Rattle.std.specs.Prelude.{◌≡◌, ℕ, ◌≤◌, ◌-◌, ◌^◌, List, [], ◌∷◌, length, All, Contains, sum_by, flat_map}
 use Rattle.atomic_table.specs.Table.{State}
-use Rattle.pb_inst.specs.declared.TheConstants.{MAX_WORKERS}
+use Rattle.pb_inst.specs.declared.limits.TheConstants.{MAX_WORKERS}
 use Rattle.pb_board.specs.declared.view.View.{View}
 use Rattle.pb_board.specs.Numbers.{IsEachOnceBelow, IsLeast}
 

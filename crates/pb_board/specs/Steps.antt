@@ -1,7 +1,7 @@
 -- What each atomic step changes in the view of the one seat that steps.
 use Rattle.std.specs.Prelude.{◌≡◌, ℕ, ◌-◌, ◌+◌, ◌<◌, ◌≤◌, [], ◌∷◌, ◌++◌, All, min}
 use Rattle.atomic_table.specs.Table.{Step, Me}
-use Rattle.pb_inst.specs.declared.TheConstants.{MAX_WORKERS}
+use Rattle.pb_inst.specs.declared.limits.TheConstants.{MAX_WORKERS}
 use Rattle.pb_board.specs.declared.view.View.{View}
 
 -- a seat's view, with the slots that it holds: a board's table has none

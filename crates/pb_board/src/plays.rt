@@ -47,9 +47,9 @@ impl Play<(), View> for Stay {
 }
 
 /// Nothing changes, and the seat is shown to have no more parts than there may be workers.
-pub struct Count;
+pub struct Coefficient;
 
-impl Play<(), View> for Count {
+impl Play<(), View> for Coefficient {
     ghost then = { Counts };
 }
 

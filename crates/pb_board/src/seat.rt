@@ -1,7 +1,7 @@
 //! What a worker steps on a board with.
 
 ghost use Rattle.std.specs.Prelude.{◌≡◌, ◌<◌, ◌≤◌, [], length};
-ghost use Rattle.pb_inst.specs.declared.TheConstants.{MAX_WORKERS};
+ghost use Rattle.pb_inst.specs.declared.limits.TheConstants.{MAX_WORKERS};
 ghost use Rattle.pb_board.specs.Seats.{SeatView};
 
 use crate::view::View;

@@ -1,4 +1,4 @@
 pub mod ClauseLaws
 pub mod HandleValues
-pub mod LooseValues
+pub mod RawBoxValues
 pub mod QuestionLaws

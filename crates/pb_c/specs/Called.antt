@@ -1,7 +1,7 @@
 -- What a call does to the session that a solver holds, and which number it answers.
 use Rattle.std.specs.Prelude.{◌≡◌, ◌≢◌, ◌↔◌, ◌⊎◌, ℕ, ◌+◌, ◌-◌, ◌<◌, ◌≤◌, ℤ, ◌≤ℤ◌, pos, neg_ℤ, if◌then◌else◌, unsigned_abs, true, false, List, [], ◌∷◌, ◌++◌, length, map, All, Option, None, Some, IfSome, IfNone, Result, OnOk, OnErr, IfOk, IfErr, IsErrOf, ◌==◌, slice_index_or}
 use Rattle.std.specs.Fmt.{signed_decimal}
-use Rattle.pb_inst.specs.declared.TheConstants.{MAX_VARS, MAX_TERMS, SUM_BOUND}
+use Rattle.pb_inst.specs.declared.limits.TheConstants.{MAX_VARS, MAX_TERMS, SUM_BOUND}
 use Rattle.pb_inst.specs.declared.constraints.Relation.{Relation}
 use Rattle.pb_inst.specs.declared.constraints.Relation.TheVariants.{AtLeast, AtMost, Equal}
 use Rattle.pb_inst.specs.declared.faults.InstFault.TheVariants as refused

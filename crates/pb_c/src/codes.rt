@@ -16,13 +16,15 @@ pub const UNKNOWN: i32 = 1;
 /// There is no objective, and the first feasible assignment was found.
 pub const SATISFIABLE: i32 = 10;
 
-/// The search was cut by its budget, and found a feasible assignment, which may not be the least.
+/// The search was cut by its budget, and found a feasible assignment, which may not be the least. A code of its own: whoever
+/// takes it for the answer may be wrong.
 pub const FOUND: i32 = 11;
 
 /// No assignment is feasible. Of an explanation: the core is minimal.
 pub const UNSATISFIABLE: i32 = 20;
 
-/// No assignment is feasible under the core, and the budget ended before it was known to be minimal.
+/// No assignment is feasible under the core, and the budget ended before it was known to be minimal: whoever shows it as the
+/// reason may show too much.
 pub const CORE: i32 = 21;
 
 /// The least assignment was found.

@@ -3,14 +3,15 @@ ghost use Rattle.std.specs.Prelude.{◌≡◌, Option, Some, None, IsSome};
 ghost use Rattle.pb_session.specs.Told.{Told};
 ghost use Rattle.pb_c.specs.Held.{holds};
 
-use crate::loose::Loose;
+use crate::raw_box::RawBox;
 use pb_session::Session;
 use std::alloc::Global;
 use std::marker::Model;
 use std::ptr::null_mut;
 
-/// A pointer to nothing, or to a session on the heap, which it owns. C copies it with the struct that it lies in, and never
-/// follows it. It is let go without a call: what it owns is freed by `into_loose` alone.
+/// A pointer to nothing, or to a session on the heap, which it owns. An export may not return a pointer, and no `Box` crosses, so
+/// a session lies in a struct of C's memory as this. C copies it with the struct that it lies in, and never
+/// follows it. It is let go without a call: what it owns is freed by `into_raw_box` alone.
 #[repr(C)]
 #[derive(Drop)]
 pub struct Handle {
@@ -34,20 +35,20 @@ impl Handle {
     }
 
     /// The pointer of a box that was taken apart.
-    pub(crate) fn of(session: Loose<Session, Global>) -> Handle
+    pub(crate) fn of(session: RawBox<Session, Global>) -> Handle
         ensures { result.held ≡ Some session.value }
     {
-        let Loose { at, alloc: _ } = session;
+        let RawBox { at, alloc: _ } = session;
         Handle { at: at as *mut u8 }
     }
 
     /// The box that was taken apart. Asks that there is one.
-    pub(crate) fn into_loose(self, alloc: Global) -> Loose<Session, Global>
+    pub(crate) fn into_raw_box(self, alloc: Global) -> RawBox<Session, Global>
         requires { IsSome self.held }
         ensures { Some result.value ≡ self.held }
     {
         let Handle { at } = self;
-        Loose {
+        RawBox {
             at: at as *mut Session,
             alloc,
         }

@@ -1,5 +1,5 @@
 //! The solver for callers from C. Each export takes a `Solver` that lies in C's memory, and calls the session that it owns.
-//! `include/pbcube.h` tells the calls, `c/pbcube.c` tests pointers before it makes them. No thread is started.
+//! `bindings/c/include/pbcube.h` tells the calls, `bindings/c/pbcube.c` tests pointers before it makes them. No thread is started.
 #![tactic(auto)]
 
 mod answers;
@@ -9,8 +9,8 @@ mod copying;
 mod handle;
 mod lifetime;
 mod literals;
-mod loose;
 mod questions;
+mod raw_box;
 mod solver;
 mod telling;
 mod texts;

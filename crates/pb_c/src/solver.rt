@@ -3,12 +3,12 @@ ghost use Rattle.std.specs.Prelude.{◌≡◌, None, Some, is_some, nat_lt};
 ghost use Rattle.std.specs.Option.{option_map};
 
 use crate::handle::Handle;
-use crate::loose::Loose;
+use crate::raw_box::RawBox;
 use pb_session::Session;
 use std::alloc::Global;
 use std::mem::replace;
 
-/// A session, or none. In C's memory all bytes 0 are none.
+/// A session, or none. In C's memory all bytes 0 are none: `calloc` makes one, and a call with one that was freed is answered.
 #[repr(C)]
 #[derive(Drop)]
 pub struct Solver {
@@ -37,7 +37,7 @@ impl Solver {
         if made == 0 {
             return None;
         }
-        Some(session.into_loose(alloc).into_box())
+        Some(session.into_raw_box(alloc).into_box())
     }
 
     /// Puts a session in. Asks that there is none, since that would be lost.
@@ -46,7 +46,7 @@ impl Solver {
         ensures { self.new.session.held ≡ Some session.value }
     {
         *self = Solver {
-            session: Handle::of(Loose::of(session)),
+            session: Handle::of(RawBox::of(session)),
             made: 1,
         };
     }

@@ -1,4 +1,5 @@
-//! The codes of what a question learned, and what is written of it into a caller's room.
+//! The codes of what a question learned, and what is written of it into a caller's room: nothing where nothing is known, so the
+//! code says by itself what may be read.
 ghost use Rattle.std.specs.Prelude.{◌≡◌, ◌≢◌, ◌↔◌, ◌⊎◌, length, All, IsTrue};
 ghost use Rattle.pb_questions.specs.declared.fixing.VariableStatus.TheVariants as known;
 ghost use Rattle.pb_c.specs.Questions.{status_number, KnownCode, TellsExplanation, TellsFixed, TellsWhy, WritesLiterals, WritesStatuses};

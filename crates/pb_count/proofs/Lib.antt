@@ -1,1 +1,1 @@
-pub mod TallyLemmas
+pub mod CounterLemmas

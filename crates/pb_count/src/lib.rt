@@ -1,8 +1,8 @@
 //! The numbers in which engines count: of 64 bits where the sums of a normal form fit, else of 128.
 #![tactic(auto)]
 
-mod count;
-mod tally;
+mod coefficient;
+mod counter;
 
-pub use count::Count;
-pub use tally::Tally;
+pub use coefficient::Coefficient;
+pub use counter::Counter;

@@ -3,3 +3,5 @@ pub mod Counting
 pub mod Ranking
 pub mod Numbering
 pub mod SplitCover
+pub mod FirstLaws
+pub mod LeastLaws

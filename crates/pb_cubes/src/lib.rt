@@ -7,11 +7,6 @@ mod pieces;
 mod splits;
 
 pub use faults::CubeFault;
+pub use pb_inst::{MAX_CUBES, MAX_SPLIT};
 pub use pieces::{Piece, Pieces};
 pub use splits::split;
-
-/// The most cubes that may divide one search.
-pub const MAX_CUBES: usize = 1_048_575;
-
-/// The most variables of a split.
-pub const MAX_SPLIT: u32 = 12;

@@ -2,7 +2,7 @@
 
 ghost use Rattle.std.specs.Prelude.{◌≡◌, ◌↔◌, ℕ, Bool, List, ◌+◌, ◌<◌, ◌≤◌, ◌⊎◌, Any, length, vec_len, IfOk, IfErr, IsErrOf, IsTrue, false};
 ghost use Rattle.pb_inst.specs.Literal.{Literal};
-ghost use Rattle.pb_cubes.specs.declared.TheConstants.{MAX_CUBES};
+ghost use Rattle.pb_inst.specs.declared.limits.TheConstants.{MAX_CUBES};
 ghost use Rattle.pb_cubes.specs.Pieces.{CubeList, LiesInSome, AreWithin, HasVariableOver};
 
 use crate::{CubeFault, MAX_CUBES};
@@ -29,7 +29,7 @@ pub struct Pieces {
 
 impl Model for Pieces {
     ghost use Rattle.std.specs.Prelude.{length, ◌≤◌};
-    ghost use Rattle.pb_cubes.specs.declared.TheConstants.{MAX_CUBES};
+    ghost use Rattle.pb_inst.specs.declared.limits.TheConstants.{MAX_CUBES};
     ghost use Rattle.pb_cubes.specs.Pieces.{CubeList, AreWithin};
 
     ghost Value = { CubeList };

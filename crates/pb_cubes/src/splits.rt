@@ -1,8 +1,8 @@
 //! The split: 2^k cubes over the k variables of most occurrences.
 
 ghost use Rattle.std.specs.Prelude.{◌≡◌, ℕ, ◌<◌, ◌≤◌, ◌^◌, ◌⊎◌, ◌↔◌, Bool, List, length, vec_len, All, Any, IfOk, IfErr, IsErrOf};
-ghost use Rattle.pb_cubes.specs.declared.TheConstants.{MAX_SPLIT};
-ghost use Rattle.pb_inst.specs.declared.TheConstants.{MAX_VARS};
+ghost use Rattle.pb_inst.specs.declared.limits.TheConstants.{MAX_SPLIT};
+ghost use Rattle.pb_inst.specs.declared.limits.TheConstants.{MAX_VARS};
 ghost use Rattle.pb_inst.specs.Cubes.{MakesTrue};
 ghost use Rattle.pb_cubes.specs.Pieces.{AreWithin};
 ghost use Rattle.pb_cubes.specs.Split.{numbered_cube, split_cubes, IsSplit};

@@ -1,7 +1,7 @@
 //! The way down.
 
 ghost use Rattle.std.specs.Prelude.{◌≡◌, ◌≢◌, ◌≤◌, ◌+◌, false, true, length, Some};
-ghost use Rattle.pb_inst.specs.declared.TheConstants.{MAX_VARS};
+ghost use Rattle.pb_inst.specs.declared.limits.TheConstants.{MAX_VARS};
 ghost use Rattle.pb_engine.specs.EngineState.{EngineState};
 ghost use Rattle.pb_engine.specs.Free.{IsFree};
 ghost use Rattle.pb_engine.specs.Soundness.{IsFull, IsSolved, IsSoundTrail};
@@ -10,9 +10,9 @@ ghost use Rattle.pb_dive.specs.Dives.{LeadsBack, IsGoingOn};
 
 use crate::path::{DiveBranch, DivePath};
 use crate::steps::{free_variables, next_planned, plan_again, plunge, turn};
-use pb_engine::{Count, EngineAt, Step};
+use pb_engine::{Coefficient, EngineAt, Step};
 
-/// How many decisions a dive makes at most.
+/// How many decisions a dive makes at most. Below some 60,000 variables conflicts and work end it sooner.
 const MAX_DECISIONS: u64 = 4_000_000;
 
 /// How many steps the method makes for the first plan of a dive.
@@ -41,7 +41,7 @@ pub struct Descent {
 /// Goes down to a full trail by so many decisions at most: the planned literals are assumed in their order, a variable that is
 /// not planned as 0, and where that ends in a conflict the last decision is turned. What was assumed is left on the trail. Each
 /// decision is taken off what is left of a budget; where none is left the dive is over.
-pub fn descend<C: Count>(
+pub fn descend<C: Coefficient>(
     engine: &mut EngineAt<C>,
     path: &mut DivePath,
     most: u64,
@@ -88,7 +88,7 @@ fn ended(is_full: bool, decisions: u64) -> Descent
 
 /// Makes the decision, and takes it off what is left. Answers how the dive goes on: by the next one, or after a conflict by
 /// turning the last that can be.
-fn advance<C: Count>(
+fn advance<C: Coefficient>(
     engine: &mut EngineAt<C>,
     path: &mut DivePath,
     branch: DiveBranch,
@@ -121,7 +121,11 @@ fn advance<C: Count>(
 }
 
 /// After a conflict: how the dive goes on.
-fn turned_back<C: Count>(engine: &mut EngineAt<C>, path: &mut DivePath, floor: u32) -> Progress
+fn turned_back<C: Coefficient>(
+    engine: &mut EngineAt<C>,
+    path: &mut DivePath,
+    floor: u32,
+) -> Progress
     requires sound { IsSoundTrail engine.old }
     ensures back { (start : EngineState) → length start.levels ≡ floor → LeadsBack start engine.old → LeadsBack start engine.new }
     ensures sound { IsSoundTrail engine.new }

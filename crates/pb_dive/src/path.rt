@@ -5,7 +5,7 @@ ghost use Rattle.std.specs.Prelude.{◌<◌, IfSome, vec_len};
 use pb_inst::{Lit, Memory};
 use std::alloc::Global;
 
-/// After how many conflicts a dive gives up.
+/// After how many conflicts a dive gives up. A dive closes nothing, so what it took is lost where it leads to nothing.
 const MAX_CONFLICTS: u32 = 4_000;
 
 /// How many literals a dive may add for each variable before a conflict ends it.
@@ -29,7 +29,7 @@ pub struct DiveBranch {
 pub struct DivePath {
     decisions: Vec<DiveBranch>,
     conflicts: u32,
-    /// How many literals joined the trail.
+    /// How many literals joined the trail, those of turned decisions too.
     work: u64,
     most_work: u64,
     /// How many plans were made.
@@ -62,7 +62,8 @@ impl DivePath {
         self.free = free;
     }
 
-    /// Whether a new plan is due, where so many variables have no value: once a quarter of them has one.
+    /// Whether a new plan is due, where so many variables have no value: once a quarter of those without one at the last plan has
+    /// one, of which the point that it goes by knows nothing.
     pub fn take_plan(&mut self, free: usize) -> bool {
         if free >= self.free - self.free / 4 {
             return false;

@@ -1,7 +1,7 @@
 //! The steps of a dive: down by a decision, and back to one that can be turned.
 
 ghost use Rattle.std.specs.Prelude.{◌≡◌, ◌≢◌, ◌≤◌, ◌+◌, false, true, length, Some, IfSome, IfNone};
-ghost use Rattle.pb_inst.specs.declared.TheConstants.{MAX_VARS};
+ghost use Rattle.pb_inst.specs.declared.limits.TheConstants.{MAX_VARS};
 ghost use Rattle.pb_engine.specs.EngineState.{EngineState};
 ghost use Rattle.pb_engine.specs.Free.{IsFree};
 ghost use Rattle.pb_engine.specs.Soundness.{IsFull, IsSolved, IsSoundTrail};
@@ -10,14 +10,14 @@ ghost use Rattle.pb_dive.specs.Dives.{LeadsBack};
 
 use crate::budget::count_down;
 use crate::path::{DiveBranch, DivePath};
-use pb_engine::{Count, EngineAt, Step, is_free, lowest_free};
+use pb_engine::{Coefficient, EngineAt, Step, is_free, lowest_free};
 use pb_inst::Lit;
 
 /// How many steps the method makes for each plan after the first one.
 const STEPS: u32 = 50;
 
 /// Assumes the literal, which takes one decision off what is left, and adds what follows.
-pub fn plunge<C: Count>(engine: &mut EngineAt<C>, lit: Lit, left: &mut Option<u64>) -> Step
+pub fn plunge<C: Coefficient>(engine: &mut EngineAt<C>, lit: Lit, left: &mut Option<u64>) -> Step
     requires sound { IsSoundTrail engine.old }
     requires free { IsFree engine.old lit }
     requires some_left { left.old ≢ Some 0 }
@@ -36,7 +36,7 @@ pub fn plunge<C: Count>(engine: &mut EngineAt<C>, lit: Lit, left: &mut Option<u6
 
 /// Takes decisions back to the last one that was not turned yet, and gives its other value as the next decision; none where
 /// there is no such decision, or the dive took too long.
-pub fn turn<C: Count>(
+pub fn turn<C: Coefficient>(
     engine: &mut EngineAt<C>,
     path: &mut DivePath,
     floor: u32,
@@ -74,7 +74,7 @@ fn turned(branch: DiveBranch) -> DiveBranch
 }
 
 /// Takes back the last assumption, where it is above the level. Answers whether it was.
-fn take_back_last<C: Count>(engine: &mut EngineAt<C>, floor: u32) -> bool
+fn take_back_last<C: Coefficient>(engine: &mut EngineAt<C>, floor: u32) -> bool
     requires sound { IsSoundTrail engine.old }
     ensures back { (start : EngineState) → length start.levels ≡ floor → LeadsBack start engine.old → LeadsBack start engine.new }
     ensures sound { IsSoundTrail engine.new }
@@ -91,7 +91,7 @@ fn take_back_last<C: Count>(engine: &mut EngineAt<C>, floor: u32) -> bool
 }
 
 /// Plans anew where that is due.
-pub fn plan_again<C: Count>(engine: &mut EngineAt<C>, path: &mut DivePath)
+pub fn plan_again<C: Coefficient>(engine: &mut EngineAt<C>, path: &mut DivePath)
     ensures { engine.new ≡ engine.old }
 {
     if path.take_plan(free_variables(engine)) {
@@ -100,13 +100,13 @@ pub fn plan_again<C: Count>(engine: &mut EngineAt<C>, path: &mut DivePath)
 }
 
 /// How many variables have no value.
-pub fn free_variables<C: Count>(engine: &EngineAt<C>) -> usize {
+pub fn free_variables<C: Coefficient>(engine: &EngineAt<C>) -> usize {
     (engine.vars() as usize).saturating_sub(engine.trail_len())
 }
 
 /// The first literal of the plan, from the place on, whose variable has no value, as the next decision; else the lowest
 /// variable without one, as 0; or none where each has one.
-pub fn next_planned<C: Count>(
+pub fn next_planned<C: Coefficient>(
     engine: &EngineAt<C>,
     path: &DivePath,
     from: usize,
@@ -129,7 +129,11 @@ pub fn next_planned<C: Count>(
 }
 
 /// The first literal of the plan alone.
-fn first_planned<C: Count>(engine: &EngineAt<C>, path: &DivePath, from: usize) -> Option<DiveBranch>
+fn first_planned<C: Coefficient>(
+    engine: &EngineAt<C>,
+    path: &DivePath,
+    from: usize,
+) -> Option<DiveBranch>
     requires no_conflict { engine.now.conflict ≡ false }
     ensures free { IfSome result (λ b. IsFree engine.now b.lit) }
 {

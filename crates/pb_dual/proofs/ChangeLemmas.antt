@@ -4,7 +4,7 @@ use Rattle.std.proofs.lemmas.Bool.{cases_Bool, cases_eq, cases_lt, eq-eqb, eqb-t
 use Rattle.std.proofs.lemmas.List.Sums.{sum_by_more, sum_by-take-le}
 use Rattle.std.proofs.lemmas.Nat.{mul-le}
 use Rattle.std.proofs.lemmas.Grind.{get_or_default_zero}
-use Rattle.pb_inst.specs.declared.TheConstants.{MAX_VARS}
+use Rattle.pb_inst.specs.declared.limits.TheConstants.{MAX_VARS}
 use Rattle.pb_inst.specs.Literal.{Literal}
 use Rattle.pb_normal.specs.NormalForm.{PositiveRow}
 use Rattle.pb_normal.specs.declared.terms.PositiveTerm.{PositiveTerm}

@@ -8,7 +8,7 @@ use Rattle.std.proofs.lemmas.Int.{ints, to_z-of_z, to_z_pos, fits_signed_from_ab
 use Rattle.std.proofs.lemmas.List.Elements.{All-push, All-take}
 use Rattle.std.proofs.lemmas.Nat.{mul-le}
 use mir.Val.{to_z, of_z}
-use Rattle.pb_inst.specs.declared.TheConstants.{SUM_BOUND}
+use Rattle.pb_inst.specs.declared.limits.TheConstants.{SUM_BOUND}
 use Rattle.pb_inst.proofs.NumberWidth.{number_width}
 use Rattle.pb_inst.specs.Literal.{Literal}
 use Rattle.pb_inst.specs.Meaning.{literal_value}

@@ -1,16 +1,16 @@
 //! Changes of multipliers that can be taken back.
 
-use pb_count::{Count, Tally};
+use pb_count::{Coefficient, Counter};
 use std::marker::Model;
 
 /// A row whose multiplier was changed, and what it was before.
 #[derive(Clone, Copy)]
-pub struct Change<C: Count> {
+pub struct Change<C: Coefficient> {
     pub row: usize,
-    pub before: Tally<C>,
+    pub before: Counter<C>,
 }
 
-impl<C: Count> Model for Change<C> {
+impl<C: Coefficient> Model for Change<C> {
     ghost use Rattle.pb_dual.specs.Changes.{Change as Changed};
 
     ghost Value = { Changed };

@@ -1,7 +1,7 @@
 //! Multipliers for rows, with what they say of the completions of a trail.
 
 ghost use Rattle.std.specs.Prelude.{◌≡◌, ◌⊎◌, ℕ, ◌+◌, ◌-◌, ◌*◌, ◌^◌, ◌<◌, ◌≤◌, [], ◌∷◌, ◌++◌, false, true, Ok, None, IfOk, IfSome, IsTrue, Bool, List, length, take, drop, replicate, min, slice_index, slice_set, slice_index_or, pos, ◌≤ℤ◌, ltb};
-ghost use Rattle.pb_inst.specs.declared.TheConstants.{MAX_VARS};
+ghost use Rattle.pb_inst.specs.declared.limits.TheConstants.{MAX_VARS};
 ghost use Rattle.pb_trail.specs.Completion.{HasNoCompletion, IsCompletion};
 ghost use Rattle.pb_trail.specs.Trail.{value_on, is_true, reached};
 ghost use Rattle.pb_rows.specs.Constraints.{row_at};
@@ -14,7 +14,7 @@ use crate::changes::Change;
 use crate::reduced_costs::{initial_costs, part, reprice, revalue};
 use crate::saturation::{Saturation, whole_rows};
 use crate::signed::Signed;
-use pb_count::{Count, Tally};
+use pb_count::{Coefficient, Counter};
 use pb_inst::{Lit, MAX_VARS, Memory, Number};
 use pb_normal::{Form, total_of};
 use pb_rows::place_of;
@@ -23,17 +23,17 @@ use std::marker::Model;
 
 /// A multiplier for each row of a normal form, a trail over its variables, and a lower bound of what the completions of the
 /// trail cost. All of them are numbers of the width of the form.
-pub struct Multipliers<C: Count = u64> {
+pub struct Multipliers<C: Coefficient = u64> {
     form: Form<C>,
-    scale: Tally<C>,
+    scale: Counter<C>,
     /// The sum of all costs.
-    total: Tally<C>,
+    total: Counter<C>,
     /// The most that a row's multiplier times its degree may be.
-    share: Tally<C>,
-    multipliers: Vec<Tally<C>>,
+    share: Counter<C>,
+    multipliers: Vec<Counter<C>>,
     /// The sum of the degrees, each times its row's multiplier.
-    degrees: Tally<C>,
-    costs: Vec<Tally<C>>,
+    degrees: Counter<C>,
+    costs: Vec<Counter<C>>,
     /// What all variables add at least.
     sum: u128,
     values: Vec<Option<bool>>,
@@ -46,7 +46,7 @@ pub struct Multipliers<C: Count = u64> {
 }
 
 // By hand, so that whoever lets go of multipliers sees one call, and not each of their parts.
-impl<C: Count> Drop for Multipliers<C> {
+impl<C: Coefficient> Drop for Multipliers<C> {
     fn drop(self) {
         let Multipliers {
             form: _,
@@ -66,7 +66,7 @@ impl<C: Count> Drop for Multipliers<C> {
     }
 }
 
-impl<C: Count> Model for Multipliers<C> {
+impl<C: Coefficient> Model for Multipliers<C> {
     ghost use Rattle.std.specs.Vec.{vec_capacity};
     ghost use Rattle.pb_dual.specs.Multipliers.{MultipliersState, AreKept};
     ghost use Rattle.pb_dual.specs.Saturation.{counted_form, AreSaturations};
@@ -78,7 +78,7 @@ impl<C: Count> Model for Multipliers<C> {
     ghost invariant = { λ m. AreKept (counted_form m.saturations.items m.form) m.form m.multipliers.items m.lits.items m.changes.items C.origin m.scale m.total m.share m.costs.items m.values.items m.degrees m.sum (vec_capacity m.lits) × AreSaturations m.form m.saturations.items m.root m.lits.items };
 }
 
-impl<C: Count> Multipliers<C> {
+impl<C: Coefficient> Multipliers<C> {
     /// A multiplier of 0 for each row, the empty trail, and room for so many changes. Nothing after it takes memory. Costs
     /// are scaled up, so that multipliers are fractions of a cost. There are none where the sum of all costs leaves no room
     /// for a scale in the width of the form, or the variables are more than an instance has.
@@ -104,7 +104,7 @@ impl<C: Count> Multipliers<C> {
     fn scaled(
         alloc: Global,
         form: Form<C>,
-        total: Tally<C>,
+        total: Counter<C>,
         room: usize,
     ) -> Result<Multipliers<C>, Memory>
         requires total { total ≡ total_coefficient form.objective }
@@ -121,7 +121,7 @@ impl<C: Count> Multipliers<C> {
         let costs = initial_costs(alloc, &form, scale)?;
         let values = vec![in alloc; None; vars]?;
         let lits = Vec::with_capacity(alloc, vars)?;
-        let multipliers = vec![in alloc; Tally::of(0); form.len()]?;
+        let multipliers = vec![in alloc; Counter::of(0); form.len()]?;
         let changes = Vec::with_capacity(alloc, room)?;
         let saturations = whole_rows(alloc, &form)?;
         let share = share_of(form.len());
@@ -131,8 +131,8 @@ impl<C: Count> Multipliers<C> {
             total,
             share,
             multipliers,
-            degrees: Tally::of(0),
-            sum: Tally::<C>::origin().number() * vars as u128,
+            degrees: Counter::of(0),
+            sum: Counter::<C>::origin().number() * vars as u128,
             costs,
             values,
             lits,
@@ -150,7 +150,7 @@ impl<C: Count> Multipliers<C> {
     }
 
     /// By how much costs are scaled up.
-    pub fn scale(&self) -> Tally<C> {
+    pub fn scale(&self) -> Counter<C> {
         self.scale
     }
 
@@ -185,7 +185,7 @@ impl<C: Count> Multipliers<C> {
     }
 
     /// The reduced costs of the literal and of its negation.
-    pub fn costs(&self, lit: Lit) -> (Tally<C>, Tally<C>)
+    pub fn costs(&self, lit: Lit) -> (Counter<C>, Counter<C>)
         requires { lit.var ≤ self.now.form.vars }
     {
         (
@@ -210,7 +210,7 @@ impl<C: Count> Multipliers<C> {
     }
 
     /// The multiplier of the row, by the scale.
-    pub fn multiplier(&self, row: usize) -> Tally<C>
+    pub fn multiplier(&self, row: usize) -> Counter<C>
         requires { row < length self.now.form.rows }
         ensures { result ≡ slice_index self.now.multipliers row }
     {
@@ -222,7 +222,7 @@ impl<C: Count> Multipliers<C> {
         ensures value { result ≡ dual_bound self.now }
         ensures bound { IsBelowCosts self.now.form self.now.trail result }
     {
-        let _vars = self.form.vars();
+        self.form.facts();
         self.bound_at(self.sum)
     }
 
@@ -233,13 +233,13 @@ impl<C: Count> Multipliers<C> {
         ensures value { result ≡ bound_from self.now (parts_on self.now.origin self.now.scale self.now.counted self.now.multipliers self.now.trail + penalty self.now lit) }
         ensures bound { IsBelowCostsWith self.now.form self.now.trail lit result }
     {
-        let _vars = self.form.vars();
+        self.form.facts();
         let _var = lit.var();
         self.bound_at(self.sum + self.penalty(lit).number())
     }
 
     /// What the bound rises by, times the scale, once the literal is on the trail.
-    pub fn penalty(&self, lit: Lit) -> Tally<C>
+    pub fn penalty(&self, lit: Lit) -> Counter<C>
         requires variable { lit.var ≤ self.now.form.vars }
         ensures { result ≡ penalty self.now lit }
     {
@@ -252,7 +252,7 @@ impl<C: Count> Multipliers<C> {
         ensures value { result ≡ is_over_all_costs self.now }
         ensures no_completion { result ≡ true → HasNoCompletion self.now.form.rows self.now.trail }
     {
-        let _vars = self.form.vars();
+        self.form.facts();
         let most = self.scale * self.total;
         most.number() < self.above()
     }
@@ -288,22 +288,22 @@ impl<C: Count> Multipliers<C> {
     }
 
     /// By how much, times the scale, the bound may rise before it is over the limit. A measure, and no more than a hint.
-    pub fn gap(&self, limit: Number) -> Tally<C> {
+    pub fn gap(&self, limit: Number) -> Counter<C> {
         let room = limit.saturating_sub(self.form.base()).max(0).unsigned_abs();
         let most = room.saturating_mul(self.scale.number());
-        Tally::nearest(most.saturating_sub(self.above()))
+        Counter::nearest(most.saturating_sub(self.above()))
     }
 
     /// How far the bound is over the base, times the scale. A measure, and no more than a hint.
-    pub fn height(&self) -> Tally<C> {
-        Tally::nearest(self.above())
+    pub fn height(&self) -> Counter<C> {
+        Counter::nearest(self.above())
     }
 
     /// The same, however great.
     fn above(&self) -> u128
         ensures { result ≡ promised_above self.now }
     {
-        let _vars = self.form.vars();
+        self.form.facts();
         self.sum
             .saturating_add(self.degrees.number())
             .saturating_sub(self.floor())
@@ -313,7 +313,7 @@ impl<C: Count> Multipliers<C> {
     fn floor(&self) -> u128
         ensures { result ≡ self.now.form.vars * self.now.origin }
     {
-        self.values.len() as u128 * Tally::<C>::origin().number()
+        self.values.len() as u128 * Counter::<C>::origin().number()
     }
 
     /// The bound where all variables add so much at least.
@@ -324,7 +324,7 @@ impl<C: Count> Multipliers<C> {
         let above = (sum + self.degrees.number()).saturating_sub(self.floor());
         // More than all costs together is promised only where the trail has no completion.
         let most = self.scale * self.total;
-        let scaled = Tally::<C>::fitting(above.min(most.number()));
+        let scaled = Counter::<C>::fitting(above.min(most.number()));
         self.form.base() + scaled.div_ceil(self.scale).number() as Number
     }
 
@@ -397,12 +397,12 @@ impl<C: Count> Multipliers<C> {
     }
 
     /// The row's multiplier shifted by the amount.
-    fn shifted(&self, row: usize, amount: Signed<C>) -> Tally<C>
+    fn shifted(&self, row: usize, amount: Signed<C>) -> Counter<C>
         requires row { row < length self.now.form.rows }
         ensures value { result ≡ shifted self.now row amount }
         ensures within { IsWithinShare self.now.form self.now.share row result }
     {
-        let _vars = self.form.vars();
+        self.form.facts();
         let before = self.multipliers[row];
         let by = amount.magnitude();
         if amount.is_negative() {
@@ -414,16 +414,16 @@ impl<C: Count> Multipliers<C> {
     }
 
     /// The degree of the row as it is.
-    fn whole_degree(&self, row: usize) -> Tally<C>
+    fn whole_degree(&self, row: usize) -> Counter<C>
         requires { row < length self.now.form.rows }
         ensures { result ≡ (row_at self.now.form.rows row).degree }
     {
-        let _vars = self.form.vars();
+        self.form.facts();
         self.form.degree(row)
     }
 
     /// The degree of the row as it is counted.
-    pub fn degree(&self, row: usize) -> Tally<C>
+    pub fn degree(&self, row: usize) -> Counter<C>
         requires { row < length self.now.form.rows }
         ensures { result ≡ (row_at self.now.counted.rows row).degree }
     {
@@ -431,7 +431,7 @@ impl<C: Count> Multipliers<C> {
     }
 
     /// The most that a coefficient of the row counts.
-    pub fn most(&self, row: usize) -> Tally<C>
+    pub fn most(&self, row: usize) -> Counter<C>
         requires { row < length self.now.form.rows }
         ensures { (row_at self.now.counted.rows row).terms ≡ capped result (row_at self.now.form.rows row).terms }
     {
@@ -466,11 +466,11 @@ impl<C: Count> Multipliers<C> {
     }
 
     /// What is left of the row's degree under the trail.
-    fn left_of(&self, row: usize) -> Tally<C>
+    fn left_of(&self, row: usize) -> Counter<C>
         requires { row < length self.now.form.rows }
         ensures { result ≡ left_of self.now.trail (row_at self.now.form.rows row) }
     {
-        let _vars = self.form.vars();
+        self.form.facts();
         let mut left = self.form.degree(row);
         for term in self.form.terms(row) {
             if self.is_true(term.lit()) {
@@ -481,12 +481,12 @@ impl<C: Count> Multipliers<C> {
     }
 
     /// So much, and what the row's literals on the trail count where no coefficient counts more.
-    fn degree_beside(&self, row: usize, most: Tally<C>) -> Tally<C>
+    fn degree_beside(&self, row: usize, most: Counter<C>) -> Counter<C>
         requires row { row < length self.now.form.rows }
         requires fits { most + reached self.now.trail (row_at self.now.form.rows row).terms ≤ (row_at self.now.form.rows row).degree }
         ensures { result ≡ most + reached self.now.trail (capped most (row_at self.now.form.rows row).terms) }
     {
-        let _vars = self.form.vars();
+        self.form.facts();
         let mut degree = most;
         for term in self.form.terms(row) {
             if self.is_true(term.lit()) {
@@ -511,7 +511,7 @@ impl<C: Count> Multipliers<C> {
         requires { row < length self.old.form.rows }
         ensures { self.new ≡ record self.old { counted = record self.old.counted { rows = slice_set self.old.counted.rows row (row_at self.old.form.rows row) } } }
     {
-        let _vars = self.form.vars();
+        self.form.facts();
         let degree = self.whole_degree(row);
         if self.saturations[row].most.is_below(degree) {
             self.count(
@@ -532,7 +532,7 @@ impl<C: Count> Multipliers<C> {
         ensures { self.new ≡ record self.old { counted = record self.old.counted { rows = slice_set self.old.counted.rows row (counted_row saturation (row_at self.old.form.rows row)) } } }
     {
         let multiplier = self.multipliers[row];
-        self.set(row, Tally::of(0));
+        self.set(row, Counter::of(0));
         self.saturations[row] = saturation;
         self.set(row, multiplier);
     }
@@ -583,12 +583,12 @@ impl<C: Count> Multipliers<C> {
     }
 
     /// Gives the row another multiplier.
-    fn set(&mut self, row: usize, to: Tally<C>)
+    fn set(&mut self, row: usize, to: Counter<C>)
         requires row { row < length self.old.form.rows }
         requires within { IsWithinShare self.old.form self.old.share row to }
         ensures { self.new ≡ record self.old { multipliers = slice_set self.old.multipliers row to } }
     {
-        let _vars = self.form.vars();
+        self.form.facts();
         let from = self.multipliers[row];
         let (degree, most) = (self.degree(row), self.most(row));
         reprice(
@@ -616,7 +616,7 @@ const SCALE_PART: u64 = 70_368_744_177_664;
 
 /// How far the two are apart.
 #[inline]
-fn apart<C: Count>(first: Tally<C>, second: Tally<C>) -> Tally<C> {
+fn apart<C: Coefficient>(first: Counter<C>, second: Counter<C>) -> Counter<C> {
     if first.is_below(second) {
         second - first
     } else {
@@ -625,32 +625,32 @@ fn apart<C: Count>(first: Tally<C>, second: Tally<C>) -> Tally<C> {
 }
 
 /// Whether costs of this sum can be left as they are, or scaled up.
-fn has_scale<C: Count>(total: Tally<C>) -> bool
+fn has_scale<C: Coefficient>(total: Counter<C>) -> bool
     requires { total < C.limit }
     ensures fits { result ≡ true → total < 2 * C.origin }
     ensures over { result ≡ false → 2 * C.origin ≤ total }
 {
-    total.is_below(Tally::origin() + Tally::origin())
+    total.is_below(Counter::origin() + Counter::origin())
 }
 
 /// By how much costs of this sum are scaled up.
-fn scale_for<C: Count>(total: Tally<C>) -> Tally<C>
+fn scale_for<C: Coefficient>(total: Counter<C>) -> Counter<C>
     requires { total < 2 * C.origin }
     ensures from_one { 1 ≤ result }
     ensures fits { result * total < 2 * C.origin }
 {
-    let one = Tally::of(1);
-    let scaled = Tally::origin() / Tally::of(SCALED_PART);
-    let greatest = Tally::origin() / Tally::of(SCALE_PART);
+    let one = Counter::of(1);
+    let scaled = Counter::origin() / Counter::of(SCALED_PART);
+    let greatest = Counter::origin() / Counter::of(SCALE_PART);
     (scaled / total.max(one)).min(greatest).max(one)
 }
 
 /// The most that each row's multiplier times its degree may be where there are so many rows.
-fn share_of<C: Count>(rows: usize) -> Tally<C>
+fn share_of<C: Coefficient>(rows: usize) -> Counter<C>
     ensures { result * rows ≤ C.origin }
 {
     if rows == 0 {
-        return Tally::of(0);
+        return Counter::of(0);
     }
-    Tally::origin() / Tally::of(rows as u64)
+    Counter::origin() / Counter::of(rows as u64)
 }

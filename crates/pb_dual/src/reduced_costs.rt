@@ -1,7 +1,7 @@
 //! The reduced costs of literals, and what the variables add at least.
 
 ghost use Rattle.std.specs.Prelude.{◌≡◌, ℕ, ◌+◌, ◌-◌, ◌*◌, ◌^◌, ◌<◌, ◌≤◌, Bool, None, All, IfOk, length, replicate, slice_index, slice_index_or, slice_set, if◌then◌else◌};
-ghost use Rattle.pb_inst.specs.declared.TheConstants.{MAX_VARS};
+ghost use Rattle.pb_inst.specs.declared.limits.TheConstants.{MAX_VARS};
 ghost use Rattle.pb_inst.specs.Literal.{Literal};
 ghost use Rattle.pb_normal.specs.Literals.{same_sign, weight_of};
 ghost use Rattle.pb_rows.specs.Index.{literal_place};
@@ -9,14 +9,14 @@ ghost use Rattle.pb_normal.specs.NormalForm.{total_coefficient};
 ghost use Rattle.pb_dual.specs.ReducedCosts.{AreReducedCosts, cost_at, least_cost, part, parts};
 ghost use Rattle.pb_dual.specs.Saturation.{capped};
 
-use pb_count::{Count, Tally};
+use pb_count::{Coefficient, Counter};
 use pb_inst::{Lit, Memory};
 use pb_normal::{Form, FormTerm};
 use pb_rows::place_of;
 use std::alloc::Global;
 
 /// What the variable adds at least: the reduced cost of its true literal, the lesser of both where it has no value.
-pub fn part<C: Count>(costs: &[Tally<C>], values: &[Option<bool>], lit: Lit) -> Tally<C>
+pub fn part<C: Coefficient>(costs: &[Counter<C>], values: &[Option<bool>], lit: Lit) -> Counter<C>
     requires variable { lit.var ≤ length values.now }
     requires count { length costs.now ≡ 2 * length values.now }
     ensures { result ≡ part costs.now lit.var (slice_index_or values.now (lit.var - 1) None) }
@@ -27,7 +27,12 @@ pub fn part<C: Count>(costs: &[Tally<C>], values: &[Option<bool>], lit: Lit) -> 
 
 /// The same where these are the reduced costs of the literal and of its negation, and this is the variable's value.
 #[inline]
-fn least_of<C: Count>(lit: Lit, cost: Tally<C>, other: Tally<C>, value: Option<bool>) -> Tally<C>
+fn least_of<C: Coefficient>(
+    lit: Lit,
+    cost: Counter<C>,
+    other: Counter<C>,
+    value: Option<bool>,
+) -> Counter<C>
     ensures { result ≡ least_cost (λ positive. if same_sign positive lit.positive then cost else other) value }
 {
     match value {
@@ -37,8 +42,8 @@ fn least_of<C: Count>(lit: Lit, cost: Tally<C>, other: Tally<C>, value: Option<b
 }
 
 /// Gives the variable another value, or none.
-pub fn revalue<C: Count>(
-    costs: &[Tally<C>],
+pub fn revalue<C: Coefficient>(
+    costs: &[Counter<C>],
     sum: &mut u128,
     values: &mut [Option<bool>],
     lit: Lit,
@@ -60,14 +65,14 @@ pub fn revalue<C: Count>(
 
 /// Changes what a row with these terms takes off the costs of their literals, where no coefficient counts more than `most`: its
 /// multiplier is `to`, and was `from`.
-pub fn reprice<C: Count>(
-    costs: &mut [Tally<C>],
+pub fn reprice<C: Coefficient>(
+    costs: &mut [Counter<C>],
     sum: &mut u128,
     values: &[Option<bool>],
     terms: &[FormTerm<C>],
-    most: Tally<C>,
-    from: Tally<C>,
-    to: Tally<C>,
+    most: Counter<C>,
+    from: Counter<C>,
+    to: Counter<C>,
 )
     requires variables { All (λ t. (1 ≤ t.lit.var) × (t.lit.var ≤ length values.now)) terms.now }
     requires count { length costs.old ≡ 2 * length values.now }
@@ -93,14 +98,14 @@ pub fn reprice<C: Count>(
 }
 
 /// The same for one literal, and what it counts in the row.
-fn reprice_literal<C: Count>(
-    costs: &mut [Tally<C>],
+fn reprice_literal<C: Coefficient>(
+    costs: &mut [Counter<C>],
     sum: &mut u128,
     values: &[Option<bool>],
     lit: Lit,
-    coef: Tally<C>,
-    from: Tally<C>,
-    to: Tally<C>,
+    coef: Counter<C>,
+    from: Counter<C>,
+    to: Counter<C>,
 )
     requires variable { lit.var ≤ length values.now }
     requires count { length costs.old ≡ 2 * length values.now }
@@ -123,15 +128,15 @@ fn reprice_literal<C: Count>(
 }
 
 /// The reduced costs where all multipliers are 0.
-pub fn initial_costs<C: Count>(
+pub fn initial_costs<C: Coefficient>(
     alloc: Global,
     form: &Form<C>,
-    scale: Tally<C>,
-) -> Result<Vec<Tally<C>>, Memory>
+    scale: Counter<C>,
+) -> Result<Vec<Counter<C>>, Memory>
     requires { scale * total_coefficient form.now.objective < 2 * C.origin }
     ensures { IfOk result (λ costs. AreReducedCosts C.origin scale form.now (replicate (length form.now.rows) 0) costs.items) }
 {
-    let mut costs = vec![in alloc; Tally::origin(); 2 * form.vars() as usize]?;
+    let mut costs = vec![in alloc; Counter::origin(); 2 * form.vars() as usize]?;
     for term in form.objective() {
         costs[place_of(term.lit())] += scale * term.coef();
     }

@@ -4,7 +4,7 @@
 ghost use Rattle.std.specs.Prelude.{◌≡◌, ◌<◌, IfOk, length, min, vec_len};
 ghost use Rattle.pb_dual.specs.Saturation.{AreWhole};
 
-use pb_count::{Count, Tally};
+use pb_count::{Coefficient, Counter};
 use pb_inst::Memory;
 use pb_normal::Form;
 use std::alloc::Global;
@@ -12,12 +12,12 @@ use std::marker::Model;
 
 /// How a row is counted: no coefficient of it more than `most`, and its degree as this.
 #[derive(Clone, Copy)]
-pub struct Saturation<C: Count> {
-    pub most: Tally<C>,
-    pub degree: Tally<C>,
+pub struct Saturation<C: Coefficient> {
+    pub most: Counter<C>,
+    pub degree: Counter<C>,
 }
 
-impl<C: Count> Model for Saturation<C> {
+impl<C: Coefficient> Model for Saturation<C> {
     ghost use Rattle.pb_dual.specs.Saturation.{Saturation as Counting};
 
     ghost Value = { Counting };
@@ -28,10 +28,13 @@ impl<C: Count> Model for Saturation<C> {
 }
 
 /// All rows count as they are: no coefficient is over its row's degree.
-pub fn whole_rows<C: Count>(alloc: Global, form: &Form<C>) -> Result<Vec<Saturation<C>>, Memory>
+pub fn whole_rows<C: Coefficient>(
+    alloc: Global,
+    form: &Form<C>,
+) -> Result<Vec<Saturation<C>>, Memory>
     ensures { IfOk result (λ saturations. AreWhole form.now.rows saturations.items) }
 {
-    let _vars = form.vars();
+    form.facts();
     let mut saturations = Vec::with_capacity(alloc, form.len())?;
     for row in 0..form.len() {
         let degree = form.degree(row);

@@ -2,15 +2,15 @@
 
 ghost use Rattle.std.specs.Prelude.{◌≡◌, ◌+◌, int_lt, pos, unsigned_abs};
 
-use pb_count::{Count, Tally};
+use pb_count::{Coefficient, Counter};
 use std::marker::Model;
 
 /// A number with a sign, which is kept with the limit of the counters more. What does not fit is cut to the range: from minus
 /// the limit up to below it. Contracts see an integer.
 #[derive(Clone, Copy)]
-pub struct Signed<C: Count>(Tally<C>);
+pub struct Signed<C: Coefficient>(Counter<C>);
 
-impl<C: Count> Model for Signed<C> {
+impl<C: Coefficient> Model for Signed<C> {
     ghost use Rattle.std.specs.Prelude.{ℤ, pos, ◌+ℤ◌, ◌-ℤ◌, unsigned_abs};
 
     ghost Value = { ℤ };
@@ -20,40 +20,40 @@ impl<C: Count> Model for Signed<C> {
     ghost inverse = { λ z. record { 0 = unsigned_abs (z +ℤ pos C.limit) } };
 }
 
-impl<C: Count> Signed<C> {
+impl<C: Coefficient> Signed<C> {
     /// The number 0.
     #[inline]
     pub fn zero() -> Signed<C> {
-        Signed(Tally::limit())
+        Signed(Counter::limit())
     }
 
     /// The greatest of them.
     #[inline]
     pub fn greatest() -> Signed<C> {
-        Signed(Tally::limit() + most())
+        Signed(Counter::limit() + most())
     }
 
     /// The number without a sign.
     #[inline]
-    pub fn of(number: Tally<C>) -> Signed<C> {
-        Signed(Tally::limit() + number.min(most()))
+    pub fn of(number: Counter<C>) -> Signed<C> {
+        Signed(Counter::limit() + number.min(most()))
     }
 
     /// The number.
     #[inline]
     pub fn nearest(number: i128) -> Signed<C> {
-        let size = Tally::nearest(number.unsigned_abs());
+        let size = Counter::nearest(number.unsigned_abs());
         if number < 0 {
-            return Signed(Tally::limit().above(size));
+            return Signed(Counter::limit().above(size));
         }
         Signed::of(size)
     }
 
     /// By how much the first is above the second; at least the number that is 1 above the least.
     #[inline]
-    pub(crate) fn difference(first: Tally<C>, second: Tally<C>) -> Signed<C> {
+    pub(crate) fn difference(first: Counter<C>, second: Counter<C>) -> Signed<C> {
         if first.is_below(second) {
-            return Signed(Tally::limit() - (second - first).min(most()));
+            return Signed(Counter::limit() - (second - first).min(most()));
         }
         Signed::of(first - second)
     }
@@ -63,7 +63,7 @@ impl<C: Count> Signed<C> {
     pub fn is_negative(self) -> bool
         ensures { result ≡ int_lt self (pos 0) }
     {
-        self.0.is_below(Tally::limit())
+        self.0.is_below(Counter::limit())
     }
 
     /// Whether it is 0.
@@ -75,7 +75,7 @@ impl<C: Count> Signed<C> {
     /// Whether it is above 0.
     #[inline]
     pub fn is_positive(self) -> bool {
-        Tally::limit().is_below(self.0)
+        Counter::limit().is_below(self.0)
     }
 
     /// Whether it is the greatest of them.
@@ -104,13 +104,13 @@ impl<C: Count> Signed<C> {
 
     /// How far the number is from 0.
     #[inline]
-    pub fn magnitude(self) -> Tally<C>
+    pub fn magnitude(self) -> Counter<C>
         ensures { result ≡ unsigned_abs self }
     {
         if self.is_negative() {
-            return Tally::limit() - self.0;
+            return Counter::limit() - self.0;
         }
-        self.0 - Tally::limit()
+        self.0 - Counter::limit()
     }
 
     /// The sum.
@@ -134,8 +134,8 @@ impl<C: Count> Signed<C> {
 
 /// What is 1 below the limit.
 #[inline]
-fn most<C: Count>() -> Tally<C>
+fn most<C: Coefficient>() -> Counter<C>
     ensures { result + 1 ≡ C.limit }
 {
-    Tally::limit() - Tally::of(1)
+    Counter::limit() - Counter::of(1)
 }

@@ -1,11 +1,2 @@
-pub mod BoundLemmas
-pub mod OfferLemmas
-pub mod ExtrasLemmas
-pub mod BesideLemmas
-pub mod NeedLemmas
-pub mod CounterLemmas
-pub mod DisjointLemmas
-pub mod DisjointBound
-pub mod SpareLemmas
 pub mod ClauseLemmas
 pub mod RelaxedLemmas

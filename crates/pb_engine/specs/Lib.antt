@@ -1,9 +1,7 @@
-pub mod DisjointRows
-pub mod Needs
-pub mod Offers
 pub mod Fixing
 pub mod Free
 pub mod Laws
+pub use Rattle.pb_row_bound.specs.DisjointRows
 pub use Rattle.pb_trail.specs.Trail
 pub use Rattle.pb_trail.specs.Completion
 pub use Rattle.pb_trail.specs.Propagation

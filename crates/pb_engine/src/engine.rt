@@ -1,7 +1,7 @@
 //! A trail over a normal form of either width.
 
 ghost use Rattle.std.specs.Prelude.{◌≡◌, ◌<◌, ◌≤◌, [], ◌∷◌, ◌++◌, false, true, length, take, None, All, IfOk, ◌≤ℤ◌, pos, neg_ℤ, List};
-ghost use Rattle.pb_inst.specs.declared.TheConstants.{SUM_BOUND};
+ghost use Rattle.pb_inst.specs.declared.limits.TheConstants.{SUM_BOUND};
 ghost use Rattle.pb_normal.specs.NormalForm.{PositiveRow};
 ghost use Rattle.pb_rows.specs.Clauses.{AreClausesOf};
 ghost use Rattle.pb_trail.specs.Trail.{value_on};
@@ -9,11 +9,11 @@ ghost use Rattle.pb_trail.specs.Completion.{HasNoCompletion, IsLowerBound, IsSet
 ghost use Rattle.pb_trail.specs.Propagation.{AddsForced};
 ghost use Rattle.pb_trail.specs.EngineState.{trail_before, is_conflict, HasNegativeSlack};
 ghost use Rattle.pb_trail.specs.Soundness.{IsFull, IsSolved, IsSoundTrail};
-ghost use Rattle.pb_engine.specs.DisjointRows.{disjoint_bound};
+ghost use Rattle.pb_row_bound.specs.DisjointRows.{disjoint_bound};
 
 use crate::engine_at::EngineAt;
 use pb_inst::{Cube, Lit, Memory, Number};
-use pb_normal::{EitherWidth, Normal};
+use pb_normal::{Normal, Width};
 use pb_rows::MAX_CLAUSES;
 use pb_trail::Step;
 use std::alloc::Global;
@@ -22,7 +22,7 @@ use std::marker::Model;
 /// Rows, a trail over their variables with some literals assumed, and whether a conflict stands. It counts in numbers of
 /// its normal form's width.
 pub struct Engine {
-    at_width: EitherWidth<EngineAt<u64>, EngineAt<u128>>,
+    at_width: Width<EngineAt<u64>, EngineAt<u128>>,
 }
 
 impl Model for Engine {
@@ -55,8 +55,8 @@ impl Engine {
             return Err(beyond_all_memory(alloc));
         }
         let at_width = match normal.form() {
-            EitherWidth::Narrow(form) => EitherWidth::Narrow(EngineAt::new(alloc, form, negated)?),
-            EitherWidth::Wide(form) => EitherWidth::Wide(EngineAt::new(alloc, form, negated)?),
+            Width::Narrow(form) => Width::Narrow(EngineAt::new(alloc, form, negated)?),
+            Width::Wide(form) => Width::Wide(EngineAt::new(alloc, form, negated)?),
         };
         Ok(Engine { at_width })
     }
@@ -67,8 +67,8 @@ impl Engine {
         ensures sound { IsSoundTrail self.now }
     {
         match &self.at_width {
-            EitherWidth::Narrow(engine) => engine.value(var),
-            EitherWidth::Wide(engine) => engine.value(var),
+            Width::Narrow(engine) => engine.value(var),
+            Width::Wide(engine) => engine.value(var),
         }
     }
 
@@ -77,8 +77,8 @@ impl Engine {
         ensures { result ≡ self.now.vars }
     {
         match &self.at_width {
-            EitherWidth::Narrow(engine) => engine.vars(),
-            EitherWidth::Wide(engine) => engine.vars(),
+            Width::Narrow(engine) => engine.vars(),
+            Width::Wide(engine) => engine.vars(),
         }
     }
 
@@ -88,8 +88,8 @@ impl Engine {
         ensures sound { IsSoundTrail self.now }
     {
         match &self.at_width {
-            EitherWidth::Narrow(engine) => engine.level(),
-            EitherWidth::Wide(engine) => engine.level(),
+            Width::Narrow(engine) => engine.level(),
+            Width::Wide(engine) => engine.level(),
         }
     }
 
@@ -100,8 +100,8 @@ impl Engine {
         ensures sound { IsSoundTrail self.now }
     {
         match &self.at_width {
-            EitherWidth::Narrow(engine) => engine.conflict(),
-            EitherWidth::Wide(engine) => engine.conflict(),
+            Width::Narrow(engine) => engine.conflict(),
+            Width::Wide(engine) => engine.conflict(),
         }
     }
 
@@ -116,8 +116,8 @@ impl Engine {
         ensures sound { IsSoundTrail self.new }
     {
         match &mut self.at_width {
-            EitherWidth::Narrow(engine) => engine.assume(lit),
-            EitherWidth::Wide(engine) => engine.assume(lit),
+            Width::Narrow(engine) => engine.assume(lit),
+            Width::Wide(engine) => engine.assume(lit),
         }
     }
 
@@ -133,8 +133,8 @@ impl Engine {
         ensures sound { IsSoundTrail self.new }
     {
         match &mut self.at_width {
-            EitherWidth::Narrow(engine) => engine.propagate(),
-            EitherWidth::Wide(engine) => engine.propagate(),
+            Width::Narrow(engine) => engine.propagate(),
+            Width::Wide(engine) => engine.propagate(),
         }
     }
 
@@ -145,12 +145,12 @@ impl Engine {
         ensures sound { IsSoundTrail self.new }
     {
         match &mut self.at_width {
-            EitherWidth::Narrow(engine) => engine.undo_to(level),
-            EitherWidth::Wide(engine) => engine.undo_to(level),
+            Width::Narrow(engine) => engine.undo_to(level),
+            Width::Wide(engine) => engine.undo_to(level),
         }
     }
 
-    /// The base, what the trail pays, and the extras of rows that share no variable without a value: at most the cost of every
+    /// The base, what the trail pays, and the contributions of rows that share no variable without a value: at most the cost of every
     /// completion of the trail; from `-SUM_BOUND` to `SUM_BOUND`. It leaves the trail and the conflict as they are, and takes
     /// no memory.
     pub fn bound(&mut self) -> Number
@@ -160,8 +160,8 @@ impl Engine {
         ensures unchanged { self.new ≡ self.old }
     {
         match &mut self.at_width {
-            EitherWidth::Narrow(engine) => engine.bound(),
-            EitherWidth::Wide(engine) => engine.bound(),
+            Width::Narrow(engine) => engine.bound(),
+            Width::Wide(engine) => engine.bound(),
         }
     }
 }

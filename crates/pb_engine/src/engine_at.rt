@@ -1,7 +1,7 @@
 //! A trail with assumptions, what follows from them, and a lower bound of what its completions cost.
 
 ghost use Rattle.std.specs.Prelude.{◌≡◌, ◌+◌, ◌<◌, ◌≤◌, [], ◌∷◌, ◌++◌, false, true, length, take, None, All, IfOk, IfSome, slice_index_or, ◌≤ℤ◌, pos, neg_ℤ, List};
-ghost use Rattle.pb_inst.specs.declared.TheConstants.{SUM_BOUND};
+ghost use Rattle.pb_inst.specs.declared.limits.TheConstants.{SUM_BOUND};
 ghost use Rattle.pb_normal.specs.NormalForm.{PositiveRow};
 ghost use Rattle.pb_rows.specs.declared.TheConstants.{MAX_CLAUSES};
 ghost use Rattle.pb_rows.specs.Clauses.{AreClausesOf};
@@ -12,16 +12,15 @@ ghost use Rattle.pb_trail.specs.Completion.{HasNoCompletion, IsLowerBound, IsSet
 ghost use Rattle.pb_trail.specs.Propagation.{AddsForced, IsBrokenAt};
 ghost use Rattle.pb_trail.specs.EngineState.{trail_before, is_conflict, HasNegativeSlack};
 ghost use Rattle.pb_trail.specs.Soundness.{IsFull, IsSolved, IsSoundTrail};
-ghost use Rattle.pb_engine.specs.DisjointRows.{disjoint_bound};
+ghost use Rattle.pb_row_bound.specs.DisjointRows.{disjoint_bound};
 ghost use Rattle.pb_engine.specs.Fixing.{IsBelowCompletions, IsForcedWithin};
 
-use crate::bound::{bound_with, payment};
-use crate::needs::Needs;
 use pb_bits::Marks;
-use pb_count::{Count, Tally};
+use pb_count::{Coefficient, Counter};
 use pb_inst::{Cube, Lit, Memory, Number};
 use pb_lagrange::{Fixed, Relaxation};
 use pb_normal::Form;
+use pb_row_bound::{Deficits, bound_with, payment};
 use pb_rows::{Clauses, RowTerms, Rows, TablesSource};
 use pb_trail::{Propagator, Step};
 use std::alloc::Global;
@@ -29,40 +28,40 @@ use std::marker::Model;
 
 /// Rows, a trail over their variables with some literals assumed, and whether a conflict stands. It counts in numbers of
 /// type `C`, the width of its normal form.
-pub struct EngineAt<C: Count = u64> {
+pub struct EngineAt<C: Coefficient = u64> {
     propagator: Propagator<C>,
-    needs: Needs<C>,
+    deficits: Deficits<C>,
     marks: Marks,
     /// Multipliers for a second lower bound, where its costs have a scale and not all is clauses. The view leaves them out.
     relaxation: Option<Relaxation<C>>,
 }
 
 // By hand, so that whoever lets go of an engine sees one call, and not each of its parts.
-impl<C: Count> Drop for EngineAt<C> {
+impl<C: Coefficient> Drop for EngineAt<C> {
     fn drop(self) {
         let EngineAt {
             propagator: _,
-            needs: _,
+            deficits: _,
             marks: _,
             relaxation: _,
         } = self;
     }
 }
 
-impl<C: Count> Model for EngineAt<C> {
+impl<C: Coefficient> Model for EngineAt<C> {
     ghost use Rattle.std.specs.Prelude.{IfSome};
     ghost use Rattle.pb_trail.specs.EngineState.{EngineState};
     ghost use Rattle.pb_lagrange.specs.Relaxation.{IsBeside};
-    ghost use Rattle.pb_engine.specs.Needs.{HasCounters};
+    ghost use Rattle.pb_row_bound.specs.Deficits.{HasCounters};
 
     ghost Value = { EngineState };
 
     ghost view = { λ e. e.propagator };
 
-    ghost invariant = { λ e. (HasCounters C.limit e.propagator e.needs e.marks) × IfSome e.relaxation (λ r. IsBeside e.propagator.form e.propagator.trail r) };
+    ghost invariant = { λ e. (HasCounters C.limit e.propagator e.deficits e.marks) × IfSome e.relaxation (λ r. IsBeside e.propagator.form e.propagator.trail r) };
 }
 
-impl<C: Count> EngineAt<C> {
+impl<C: Coefficient> EngineAt<C> {
     /// The empty trail over the rows of the normal form and, for each cube in order, the clause that some literal of it is
     /// false; a cube that contradicts itself has none. There may be `MAX_CLAUSES` cubes. It builds tables of its own; `over` takes a share of others. Nothing after it takes memory.
     pub fn new(alloc: Global, form: &Form<C>, negated: &[Cube]) -> Result<EngineAt<C>, Memory>
@@ -82,11 +81,11 @@ impl<C: Count> EngineAt<C> {
     {
         let relaxation = relaxation_over(alloc, tables.tables().form())?;
         let propagator = Propagator::new(alloc, tables)?;
-        let needs = Needs::new(alloc, &propagator.slacks())?;
+        let deficits = Deficits::new(alloc, &propagator.slacks())?;
         let marks = Marks::new(alloc, propagator.vars())?;
         Ok(EngineAt {
             propagator,
-            needs,
+            deficits,
             marks,
             relaxation,
         })
@@ -187,7 +186,7 @@ impl<C: Count> EngineAt<C> {
         self.propagator.propagate()
     }
 
-    /// The base, what the trail pays, and the extras of rows that share no variable without a value: at most the cost of every
+    /// The base, what the trail pays, and the contributions of rows that share no variable without a value: at most the cost of every
     /// completion of the trail; from `-SUM_BOUND` to `SUM_BOUND`. It leaves the trail and the conflict as they are, and takes
     /// no memory.
     pub fn bound(&mut self) -> Number
@@ -197,7 +196,7 @@ impl<C: Count> EngineAt<C> {
         ensures unchanged { self.new ≡ self.old }
     {
         let slacks = self.propagator.slacks();
-        let payment = payment(&slacks, &mut self.needs, &mut self.marks);
+        let payment = payment(&slacks, &mut self.deficits, &mut self.marks);
         bound_with(&slacks, payment)
     }
 
@@ -208,7 +207,7 @@ impl<C: Count> EngineAt<C> {
         ensures sound { IsSoundTrail self.new }
     {
         let start = self.propagator.start_of(level);
-        self.needs.take_back(&self.propagator.slacks(), start);
+        self.deficits.take_back(&self.propagator.slacks(), start);
         self.propagator.undo_to(level);
         if let Some(relaxation) = &mut self.relaxation {
             relaxation.undo_to(level as usize, start);
@@ -224,7 +223,7 @@ impl<C: Count> EngineAt<C> {
         ensures unchanged { self.new ≡ self.old }
     {
         let slacks = self.propagator.slacks();
-        let _vars = slacks.tables().vars();
+        slacks.tables().facts();
         let Some(relaxation) = &mut self.relaxation else {
             return bound;
         };
@@ -238,7 +237,7 @@ impl<C: Count> EngineAt<C> {
         ensures unchanged { self.new ≡ self.old }
     {
         let slacks = self.propagator.slacks();
-        let _vars = slacks.tables().vars();
+        slacks.tables().facts();
         let Some(relaxation) = &mut self.relaxation else {
             return None;
         };
@@ -247,16 +246,16 @@ impl<C: Count> EngineAt<C> {
 
     /// Improves the multipliers, if there are any, where no bound is asked for. Answers whether they tell that nothing completes
     /// the trail. It leaves the trail and the conflict as they are, and takes no memory.
-    pub fn adjust(&mut self) -> bool
+    pub fn improve_multipliers(&mut self) -> bool
         ensures no_completion { result ≡ true → HasNoCompletion self.old.rows self.old.trail }
         ensures unchanged { self.new ≡ self.old }
     {
         let slacks = self.propagator.slacks();
-        let _vars = slacks.tables().vars();
+        slacks.tables().facts();
         let Some(relaxation) = &mut self.relaxation else {
             return false;
         };
-        relaxation.adjust(&slacks)
+        relaxation.improve_multipliers(&slacks)
     }
 
     /// A literal without a value that every completion of the trail that costs no more than the limit makes true, by the
@@ -267,7 +266,7 @@ impl<C: Count> EngineAt<C> {
         ensures unchanged { self.new ≡ self.old }
     {
         let slacks = self.propagator.slacks();
-        let _vars = slacks.tables().vars();
+        slacks.tables().facts();
         let Some(relaxation) = &mut self.relaxation else {
             return None;
         };
@@ -299,7 +298,7 @@ impl<C: Count> EngineAt<C> {
         ensures { self.new ≡ self.old }
     {
         let slacks = self.propagator.slacks();
-        let _vars = slacks.tables().vars();
+        slacks.tables().facts();
         if let Some(relaxation) = &mut self.relaxation {
             relaxation.plan(&slacks, steps);
         }
@@ -310,6 +309,25 @@ impl<C: Count> EngineAt<C> {
         match &self.relaxation {
             Some(relaxation) => relaxation.planned(place),
             None => None,
+        }
+    }
+
+    /// A search begins: where it goes on for long enough, multipliers are improved by the first-order method again. No more than
+    /// a hint.
+    pub fn begin_search(&mut self)
+        ensures { self.new ≡ self.old }
+    {
+        if let Some(relaxation) = &mut self.relaxation {
+            relaxation.begin_search();
+        }
+    }
+
+    /// A question of its own begins: whether multipliers pay is counted from here. No more than a hint.
+    pub fn begin_question(&mut self)
+        ensures { self.new ≡ self.old }
+    {
+        if let Some(relaxation) = &mut self.relaxation {
+            relaxation.begin_question();
         }
     }
 
@@ -337,7 +355,7 @@ impl<C: Count> EngineAt<C> {
         ensures { result.var ≡ lit.var }
     {
         let slacks = self.propagator.slacks();
-        let _vars = slacks.tables().vars();
+        slacks.tables().facts();
         match &self.relaxation {
             Some(relaxation) => relaxation.cheaper(lit, slacks.tables().cost(lit.negate())),
             None => lit,
@@ -347,7 +365,10 @@ impl<C: Count> EngineAt<C> {
 
 /// Multipliers for the rows of the form, where the costs have a scale. Without an objective there are none where all rows are
 /// clauses: each variable at a half meets those that have two literals, so no multipliers tell that nothing does.
-fn relaxation_over<C: Count>(alloc: Global, form: &Form<C>) -> Result<Option<Relaxation<C>>, Memory>
+fn relaxation_over<C: Coefficient>(
+    alloc: Global,
+    form: &Form<C>,
+) -> Result<Option<Relaxation<C>>, Memory>
     ensures { IfOk result (λ relaxation. IfSome relaxation (λ r. (r.form ≡ form.now) × (r.trail ≡ []))) }
 {
     if form.objective().is_empty() && has_clauses_alone(form) {
@@ -357,9 +378,9 @@ fn relaxation_over<C: Count>(alloc: Global, form: &Form<C>) -> Result<Option<Rel
 }
 
 /// Whether one literal is enough for each row.
-fn has_clauses_alone<C: Count>(form: &Form<C>) -> bool {
+fn has_clauses_alone<C: Coefficient>(form: &Form<C>) -> bool {
     for row in 0..form.len() {
-        if Tally::of(1).is_below(form.degree(row)) {
+        if Counter::of(1).is_below(form.degree(row)) {
             return false;
         }
     }

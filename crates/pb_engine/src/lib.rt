@@ -1,19 +1,16 @@
 //! A trail over the rows of a normal form, what follows from it, and a lower bound of the cost of its completions.
 #![tactic(auto)]
 
-mod bound;
 mod engine;
 mod engine_at;
-mod extras;
 mod free;
 mod laws;
-mod needs;
 
 pub use engine::Engine;
 pub use engine_at::EngineAt;
 pub use free::{is_free, lowest_free, settled_from};
 pub use laws::clause_laws;
-pub use pb_count::Count;
+pub use pb_count::Coefficient;
 pub use pb_lagrange::Fixed;
 pub use pb_rows::{Clauses, MAX_CLAUSES, RowTerms, Rows, TablesSource, shared_in};
 pub use pb_trail::Step;

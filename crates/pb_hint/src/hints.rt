@@ -49,16 +49,14 @@ pub fn hint_on<'t>(format: Format, text: &'t [u8], fault: ReadFault) -> Option<H
 fn word_at_fault(format: Format, text: &[u8], fault: ReadFault) -> Option<Range<usize>> {
     let start = start_of_line(text, fault.line);
     let rest = text.get(start..)?;
-    let bounds = match (fault.kind, format) {
-        // What a token of OPB may be depends on those before it, which may stand on earlier lines.
-        (ReadKind::Syntax | ReadKind::Unfinished, Format::Opb) => return opb::misplaced(text),
-        (ReadKind::Syntax | ReadKind::Unfinished, Format::Cnf | Format::Icnf) => {
+    let bounds = match fault.kind {
+        ReadKind::Syntax | ReadKind::Unfinished if format.is_clausal() => {
             dimacs::misplaced(rest, format == Format::Icnf)?
         }
-        (ReadKind::NonLinear, _) => products::second_literal(rest)?,
-        (ReadKind::BadVariable, _) => {
-            variables::misnumbered(format, rest, greatest(format, text)?)?
-        }
+        // What a token of OPB may be depends on those before it, which may stand on earlier lines.
+        ReadKind::Syntax | ReadKind::Unfinished => return opb::misplaced(text),
+        ReadKind::NonLinear => products::second_literal(rest)?,
+        ReadKind::BadVariable => variables::misnumbered(format, rest, greatest(format, text)?)?,
         _ => return None,
     };
     Some(moved(bounds, start))

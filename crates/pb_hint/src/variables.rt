@@ -19,10 +19,7 @@ pub fn told(text: &[u8]) -> Option<u64> {
 
 /// The first literal whose variable is over the greatest number, or 0 where that ends no list.
 pub fn misnumbered(format: Format, text: &[u8], greatest: u64) -> Option<Range<usize>> {
-    let comment = match format {
-        Format::Opb => b"*",
-        Format::Cnf | Format::Icnf => b"c",
-    };
+    let comment = if format.is_clausal() { b"c" } else { b"*" };
     let mut start: usize = 0;
     for line in text.lines_with_terminator() {
         if !line.trim_start().starts_with(comment) {
@@ -49,13 +46,12 @@ fn misnumbered_on(format: Format, line: &[u8], greatest: u64) -> Option<Range<us
 }
 
 fn is_misnumbered(format: Format, word: &[u8], greatest: u64) -> bool {
-    match format {
-        Format::Opb => variable(word)
+    if format.is_clausal() {
+        number_of(word.strip_prefix(b"-").unwrap_or(word)).is_some_and(|number| number > greatest)
+    } else {
+        variable(word)
             .and_then(number_of)
-            .is_some_and(|number| number == 0 || number > greatest),
-        Format::Cnf | Format::Icnf => number_of(
-            word.strip_prefix(b"-").unwrap_or(word),
-        ).is_some_and(|number| number > greatest),
+            .is_some_and(|number| number == 0 || number > greatest)
     }
 }
 

@@ -1,7 +1,7 @@
 -- Laws of sums of terms, and the range of a cost.
 use Rattle.std.specs.Prelude.{◌≡◌, ◌≤◌, Bool, List, ◌∷◌, ◌++◌, ◌+ℤ◌, unsigned_abs}
 use Rattle.pb_inst.specs.declared.constraints.Term.{Term}
-use Rattle.pb_inst.specs.declared.TheConstants.{SUM_BOUND}
+use Rattle.pb_inst.specs.declared.limits.TheConstants.{SUM_BOUND}
 use Rattle.pb_inst.specs.Problem.{Problem}
 use Rattle.pb_inst.specs.Meaning.{term_value, sum_value, cost}
 use Rattle.pb_inst.specs.Limits.{total_magnitude, IsProper}

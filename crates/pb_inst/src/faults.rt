@@ -1,7 +1,7 @@
 //! What can go wrong while an instance is built, and the number of workers.
 
 ghost use Rattle.std.specs.Prelude.{◌≡◌, ◌≤◌, ℕ, OkIff};
-ghost use Rattle.pb_inst.specs.declared.TheConstants.{MAX_WORKERS};
+ghost use Rattle.pb_inst.specs.declared.limits.TheConstants.{MAX_WORKERS};
 ghost use Rattle.pb_inst.specs.declared.faults.InstFault.TheVariants.{Memory};
 
 use crate::MAX_WORKERS;

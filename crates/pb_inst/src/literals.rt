@@ -2,7 +2,7 @@
 
 ghost use Rattle.std.specs.Prelude.{◌≡◌, ◌≤◌, OkIff, IfErr, not, true};
 ghost use Rattle.pb_inst.specs.Literal.{Literal};
-ghost use Rattle.pb_inst.specs.declared.TheConstants.{MAX_VARS};
+ghost use Rattle.pb_inst.specs.declared.limits.TheConstants.{MAX_VARS};
 
 use crate::{InstFault, MAX_VARS};
 use std::marker::Model;
@@ -18,7 +18,7 @@ impl Model for Lit {
     ghost use Rattle.std.specs.Prelude.{ℕ, ◌/◌, ◌≤◌};
     ghost use Rattle.std.proofs.Common.{ap};
     ghost use Rattle.pb_inst.specs.Literal.{Literal};
-    ghost use Rattle.pb_inst.specs.declared.TheConstants.{MAX_VARS};
+    ghost use Rattle.pb_inst.specs.declared.limits.TheConstants.{MAX_VARS};
     ghost use Rattle.pb_inst.specs.LiteralCodes.{literal_of_code, code_of_literal, code_back};
 
     ghost Value = { Literal };

@@ -1,32 +1,30 @@
 -- Why the joined cost is the least, where each report has the least cost of its piece.
-use Rattle.std.proofs.Common.{◌≡◌, ◌↔◌, ℕ, suc, ℤ, ◌+◌, ◌<◌, ◌≤ℤ◌, Bool, true, false, cond, List, length, map, Option, None, Some, refl, sym, ◌∙◌, ap, subst, arith, inl}
+use Rattle.std.proofs.Common.{◌≡◌, ◌↔◌, ℕ, ℤ, ◌+◌, ◌<◌, ◌≤ℤ◌, Bool, true, false, cond, List, length, Option, None, Some, refl, sym, ◌∙◌, ap, subst, arith, inl}
 use Rattle.std.specs.Prelude.{All, Contains, is_some}
 use Rattle.std.specs.Option.{IfSome}
 use Rattle.std.specs.Io.KnownBytes.{Appends}
-use Rattle.std.proofs.Math.ListN.{get_or-map}
 use Rattle.std.proofs.lemmas.Int.{ints, by_lt_z}
-use Rattle.std.proofs.lemmas.List.{length-map}
 use Rattle.std.proofs.lemmas.List.Elements.{All-contains}
 use Rattle.pb_inst.specs.Literal.{Literal}
 use Rattle.pb_inst.specs.Problem.{Problem}
 use Rattle.pb_inst.specs.Meaning.{IsFeasible, cost}
 use Rattle.pb_inst.specs.Incumbent.{Solution, IsSolution}
 use Rattle.pb_cubes.specs.Pieces.{LiesIn}
+use Rattle.pb_cubes.specs.First.{IsNotBefore}
+use Rattle.pb_cubes.specs.Solving.{IsInfeasible}
 use Rattle.pb_cubes.proofs.Cover.{lies_in_some}
 use Rattle.pb_read.specs.declared.format.Format.{Format}
 use Rattle.pb_report.specs.Claims.{is_final}
 use Rattle.pb_report.specs.declared.statuses.Status.{Status}
 use Rattle.pb_report.specs.declared.statuses.Status.TheVariants.{Unsatisfiable}
-use Rattle.pb_solve.specs.Outcome.{Feasible, Optimal, IsInfeasible}
-use Rattle.pb_solve.specs.Parts.{IsNotBefore}
-use Rattle.pb_solve.specs.Report.{status_of}
+use Rattle.pb_report.specs.Outcome.{Feasible, Optimal, status_of}
 use Rattle.pb_join.specs.declared.reports.PieceReport.{PieceReport}
 use Rattle.pb_join.specs.declared.states.PieceState.{PieceState}
 use Rattle.pb_join.specs.declared.states.PieceState.TheVariants.{Done}
 use Rattle.pb_join.specs.Pieces.{IsPieceInstance, found_in, outcome_of}
-use Rattle.pb_join.specs.Joining.{AreGathered, IsReported, all_found, joined_report, joined_status}
+use Rattle.pb_join.specs.Joining.{AreGathered, IsReported, joined_report, joined_status}
 use Rattle.pb_join.specs.Costs.{IsOptimum, IsLeastCost, IsLeastOfPiece, AreLeastOfPieces, AnswersLeastCost}
-use Rattle.pb_join.proofs.Wholes.{all_solutions, no_objective, reported_done, same_cost, solutions}
+use Rattle.pb_join.proofs.Wholes.{all_solutions, no_objective, not_before_held, reported_done, same_cost}
 
 -- an assignment is held that costs no more
 abbrev pub CostsNoMore : Problem → Option Solution → List Bool → Type 0
@@ -54,13 +52,6 @@ first_costs_no_more p None first b h not = absurd h
 first_costs_no_more p (Some s) None b h not = absurd not
 first_costs_no_more p (Some s) (Some t) b h not = by_lt_z s.cost t.cost (λ less. absurd (not (inl less))) (λ no_less. omega (arith, ints))
 
-not_before_first : (p : Problem) (reports : List PieceReport) (r : PieceReport) (held : Option Solution) → Contains reports r → All (λ s. IsNotBefore s held) (all_found p reports) → IsNotBefore (found_in p r.claim) held
-not_before_first p reports r held (k, within, is) none =
-    let count : length (map (λ (x : PieceReport). found_in p x.claim) reports) ≡ length reports = length-map reports (λ (x : PieceReport). found_in p x.claim) in
-    let here : suc k < length (all_found p reports) = omega arith in
-    subst (λ s. IsNotBefore s held) (get_or-map (λ (x : PieceReport). found_in p x.claim) reports k r ∙ ap (λ (x : PieceReport). found_in p x.claim) is)
-    (none (suc k) (found_in p r.claim) here)
-
 -- no feasible assignment costs less than what is held
 pub none_cheaper : (p : Problem) (pieces : ℕ) (reports : List PieceReport) (held : Option Solution) (states : List PieceState) (cubes : List (List Literal)) → AreGathered p pieces reports held states → All (λ state. state ≡ Done) states → AreLeastOfPieces p pieces reports cubes
     → (b : List Bool) → length b ≡ p.vars → IsFeasible p b → CostsNoMore p held b
@@ -77,10 +68,7 @@ none_cheaper p pieces reports held states cubes h all right b number feasible =
         first_costs_no_more p (found_in p r.claim) held b
         (least_of_piece p cubes r.number answer.0 (found_in p r.claim) answer.1 (All-contains (λ (x : PieceReport). IfSome (found_in p x.claim) (IsSolution p)) reports r (all_solutions p pieces reports h.fit) here) answer.2
         b number feasible (subst (λ i. LiesIn cubes i b) (sym of_piece.0) (lies_in_some cubes b).inside))
-        (not_before_first p reports r held here h.first.none_before)
-
-pub held_is : (p : Problem) (pieces : ℕ) (reports : List PieceReport) (held : Option Solution) (states : List PieceState) → AreGathered p pieces reports held states → IfSome held (IsSolution p)
-held_is p pieces reports held states h = All-contains (λ s. IfSome s (IsSolution p)) (all_found p reports) held (solutions p pieces reports h.fit) h.first.one_of_them
+        (not_before_held (λ (x : PieceReport). found_in p x.claim) reports r held here h.first.none_before)
 
 -- ---- what is held is an answer of the least cost
 

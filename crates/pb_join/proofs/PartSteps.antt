@@ -8,7 +8,7 @@ use Rattle.std.proofs.lemmas.List.Elements.{All-nil, All-push}
 use Rattle.std.proofs.lemmas.List.Quantifiers.{Any-push, all_pairs_push}
 use Rattle.pb_inst.specs.Problem.{Problem}
 use Rattle.pb_inst.specs.Incumbent.{Solution}
-use Rattle.pb_solve.specs.Parts.{IsFirst}
+use Rattle.pb_cubes.specs.First.{IsFirst}
 use Rattle.pb_report.specs.Claims.{witness_of}
 use Rattle.pb_parts.specs.declared.parts.Division.{Division}
 use Rattle.pb_parts.specs.declared.parts.PartReport.{PartReport}

@@ -9,8 +9,8 @@ use Rattle.std.proofs.lemmas.List.Quantifiers.{Any-push, all_pairs_push}
 use Rattle.pb_inst.specs.Problem.{Problem}
 use Rattle.pb_inst.specs.Meaning.{IsFeasible}
 use Rattle.pb_inst.specs.Incumbent.{Improves, Incumbent, Solution, IsSolution, solution_of}
-use Rattle.pb_solve.specs.Parts.{AreSolutions, IsFirst, IsNotBefore}
-use Rattle.pb_solve.proofs.FirstLaws.{taken_more}
+use Rattle.pb_cubes.specs.First.{AreSolutions, IsFirst, IsNotBefore}
+use Rattle.pb_cubes.proofs.FirstLaws.{taken_more}
 use Rattle.pb_report.specs.Claims.{is_final, witness_of}
 use Rattle.pb_join.specs.declared.reports.PieceReport.{PieceReport}
 use Rattle.pb_join.specs.declared.states.PieceState.{PieceState}

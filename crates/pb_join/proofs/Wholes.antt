@@ -1,28 +1,24 @@
 -- Why what the reports of all pieces make is the report of the whole instance.
-use Rattle.std.proofs.Common.{◌≡◌, ℕ, ℤ, ◌+◌, ◌<◌, Bool, true, false, cond, List, [], ◌∷◌, length, map, get_or, Option, None, Some, pos, refl, sym, ◌∙◌, ap, subst, arith}
-use Rattle.std.specs.Prelude.{All, Any, Contains, is_some}
+use Rattle.std.proofs.Common.{◌≡◌, ℕ, ℤ, ◌+◌, ◌<◌, Bool, true, false, cond, List, ◌∷◌, length, map, Option, None, Some, pos, refl, sym, ◌∙◌, ap, subst, arith}
+use Rattle.std.specs.Prelude.{All, Contains, is_some}
 use Rattle.std.specs.Option.{IfSome, option_map, option_map_or}
 use Rattle.std.specs.Io.KnownBytes.{Appends}
-use Rattle.std.proofs.Math.ListN.{get_or-map}
-use Rattle.std.proofs.lemmas.List.{length-map}
-use Rattle.std.proofs.lemmas.List.Elements.{All-nil, All-cons, All-map, All-weaker}
+use Rattle.std.proofs.lemmas.List.Elements.{All-cons, All-contains, All-map, All-tail, All-weaker}
 use Rattle.pb_inst.specs.declared.constraints.Term.{Term}
 use Rattle.pb_inst.specs.Literal.{Literal}
 use Rattle.pb_inst.specs.Problem.{Problem}
 use Rattle.pb_inst.specs.Meaning.{cost, sum_value}
 use Rattle.pb_inst.specs.Order.{IsBefore, IsLeast, Precedes}
 use Rattle.pb_inst.specs.Incumbent.{Solution, IsSolution, solution_of}
-use Rattle.pb_cubes.specs.Pieces.{CubeList}
+use Rattle.pb_cubes.specs.Done.{IsDone}
+use Rattle.pb_cubes.specs.First.{AreSolutions, IsNotBefore}
+use Rattle.pb_cubes.specs.Solving.{HoldsLeast}
+use Rattle.pb_cubes.proofs.LeastLaws.{All-from_map, done_by_first, least_of_all_done}
 use Rattle.pb_read.specs.declared.format.Format.{Format}
-use Rattle.pb_search.specs.Done.{IsDone}
 use Rattle.pb_report.specs.declared.statuses.Status.{Status}
-use Rattle.pb_solve.specs.Outcome.{Feasible, Optimal, IsAnswer}
-use Rattle.pb_solve.specs.Parts.{PartView, AreDone, AreSolutions, IsFirst}
-use Rattle.pb_solve.specs.Run.{Answers}
-use Rattle.pb_solve.specs.Solving.{HoldsLeast}
-use Rattle.pb_solve.proofs.LeastLaws.{holds_least}
 use Rattle.pb_report.specs.declared.claims.Witness.{Witness}
-use Rattle.pb_report.specs.Claims.{is_final, witness_of}
+use Rattle.pb_report.specs.Claims.{witness_of}
+use Rattle.pb_report.specs.Outcome.{Feasible, Optimal, IsAnswer, Answers}
 use Rattle.pb_join.specs.declared.reports.PieceReport.{PieceReport}
 use Rattle.pb_join.specs.declared.states.PieceState.{PieceState}
 use Rattle.pb_join.specs.declared.states.PieceState.TheVariants.{Missing, Done}
@@ -53,26 +49,7 @@ done_piece p cubes i q (Some s) is sound answer =
           (before_in p q a s.assignment is.objective before),
     )
 
--- ---- the reports as the parts of a list of pieces
-
-abbrev part_of : Problem → List (List Literal) → PieceReport → PartView
-part_of p cubes r = record {
-  pieces = record { vars = p.vars; cubes = cubes };
-  named = cond (is_final (is_some p.objective) r.claim) (r.number ∷ []) [];
-  cut = [];
-  decisions = [];
-  cut_decisions = [];
-  best = record { problem = p; held = found_in p r.claim };
-}
-
-done_part : (p : Problem) (cubes : List (List Literal)) (r : PieceReport) (final : Bool) → is_final (is_some p.objective) r.claim ≡ final → IfSome (found_in p r.claim) (IsSolution p) → IsOfPiece p cubes r
-    → All (λ i. IsDone (record { problem = p; cubes = cubes }) i (found_in p r.claim)) (cond final (r.number ∷ []) [])
-done_part p cubes r false e sound right = All-nil (λ i. IsDone (record { problem = p; cubes = cubes }) i (found_in p r.claim))
-done_part p cubes r true e sound right =
-    let answer = right e in
-    All-cons (λ i. IsDone (record { problem = p; cubes = cubes }) i (found_in p r.claim)) r.number []
-    (done_piece p cubes r.number answer.0 (found_in p r.claim) answer.1 sound answer.2)
-    (All-nil (λ i. IsDone (record { problem = p; cubes = cubes }) i (found_in p r.claim)))
+-- ---- what the reports have is feasible
 
 pub solution_found : (p : Problem) (o : Option Witness) → IfSome o (IsWitness p) → IfSome (option_map (λ w. solution_of p w.values) o) (IsSolution p)
 solution_found p None h = tt
@@ -86,48 +63,37 @@ solutions p pieces reports fit =
     All-cons (λ s. IfSome s (IsSolution p)) None (map (λ (r : PieceReport). found_in p r.claim) reports) tt
     (All-map (λ s. IfSome s (IsSolution p)) (λ (r : PieceReport). found_in p r.claim) reports (all_solutions p pieces reports fit))
 
-map_map : {X Y Z : Type 0} (f : X → Y) (g : Y → Z) (xs : List X) → map g (map f xs) ≡ map (λ x. g (f x)) xs
-map_map f g [] = refl
-map_map f g (x ∷ xs) = ap (λ ys. g (f x) ∷ ys) (map_map f g xs)
+pub held_is : (p : Problem) (pieces : ℕ) (reports : List PieceReport) (held : Option Solution) (states : List PieceState) → AreGathered p pieces reports held states → IfSome held (IsSolution p)
+held_is p pieces reports held states h = All-contains (λ s. IfSome s (IsSolution p)) (all_found p reports) held (solutions p pieces reports h.fit) h.first.one_of_them
 
-any_map : {X Y : Type 0} (P : Y → Type 0) (f : X → Y) (xs : List X) → Any (λ x. P (f x)) xs → Any P (map f xs)
-any_map P f xs (k, x, within, is, holds) = (k, f x, (let same = length-map xs f in omega arith), get_or-map f xs k x ∙ ap f is, holds)
+-- what one of them has is not before the first of all
+pub not_before_held : {X : Type 0} (f : X → Option Solution) (xs : List X) (x : X) (held : Option Solution) → Contains xs x → All (λ s. IsNotBefore s held) (None ∷ map f xs) → IsNotBefore (f x) held
+not_before_held f xs x held here none =
+    All-contains (λ y. IsNotBefore (f y) held) xs x (All-from_map (λ s. IsNotBefore s held) f xs (All-tail (λ s. IsNotBefore s held) None (map f xs) none)) here
 
-named_by : (p : Problem) (cubes : List (List Literal)) (i : ℕ) (r : PieceReport) → (r.number ≡ i) × (is_final (is_some p.objective) r.claim ≡ true) → Contains (part_of p cubes r).named i
-named_by p cubes i r h = subst (λ (named : List ℕ). Contains named i) (sym (ap (λ b. cond b (r.number ∷ []) []) h.1)) (0, omega arith, h.0)
-
-any_weaker : {X : Type 0} (P Q : X → Type 0) → ((x : X) → P x → Q x) → (xs : List X) → Any P xs → Any Q xs
-any_weaker P Q h xs (k, x, within, is, holds) = (k, x, within, is, h x holds)
+-- ---- what is held is the least assignment
 
 -- of a piece that is done there is a report that claims to be its answer
 pub reported_done : (p : Problem) (pieces : ℕ) (reports : List PieceReport) (states : List PieceState) (i : ℕ) → AreStates p pieces reports states → All (λ state. state ≡ Done) states → i < pieces → IsReported p reports i true
 reported_done p pieces reports states i h all within = subst (IsStateOf p reports i) (all i Missing (let count = h.count in omega arith)) (h.each i within)
 
--- a piece that is done is named
-done_named : (p : Problem) (cubes : List (List Literal)) (pieces : ℕ) (reports : List PieceReport) (states : List PieceState) (i : ℕ) → AreStates p pieces reports states → All (λ state. state ≡ Done) states → i < pieces → Any (λ (part : PartView). Contains part.named i) (map (part_of p cubes) reports)
-done_named p cubes pieces reports states i h all within =
-    any_map (λ (part : PartView). Contains part.named i) (part_of p cubes) reports
-    (any_weaker (λ r. (r.number ≡ i) × (is_final (is_some p.objective) r.claim ≡ true)) (λ r. Contains (part_of p cubes r).named i) (named_by p cubes i) reports
-    (reported_done p pieces reports states i h all within))
-
-held_by : (p : Problem) (cubes : List (List Literal)) (reports : List PieceReport) → all_found p reports ≡ None ∷ map (λ (part : PartView). part.best.held) (map (part_of p cubes) reports)
-held_by p cubes reports = ap (λ os. None ∷ os) (sym (map_map (part_of p cubes) (λ (part : PartView). part.best.held) reports))
+-- a piece of which a report claims to be the answer is done by what is held
+done_by_held : (p : Problem) (pieces : ℕ) (reports : List PieceReport) (held : Option Solution) (states : List PieceState) (cubes : List (List Literal)) (i : ℕ) → AreGathered p pieces reports held states → AreOfPieces p pieces reports cubes → IsReported p reports i true
+    → IsDone (record { problem = p; cubes = cubes }) i held
+done_by_held p pieces reports held states cubes i h right (k, r, within, at, of_piece) =
+    let answer = All-contains (λ (x : PieceReport). IsOfPiece p cubes x) reports r right.each (k, within, at) of_piece.1 in
+    let sound : IfSome (found_in p r.claim) (IsSolution p) = All-contains (λ (x : PieceReport). IfSome (found_in p x.claim) (IsSolution p)) reports r (all_solutions p pieces reports h.fit) (k, within, at) in
+    let done : IsDone (record { problem = p; cubes = cubes }) r.number (found_in p r.claim) = done_piece p cubes r.number answer.0 (found_in p r.claim) answer.1 sound answer.2 in
+    done_by_first (record { problem = p; cubes = cubes }) i (found_in p r.claim) held
+    (subst (λ n. IsDone (record { problem = p; cubes = cubes }) n (found_in p r.claim)) of_piece.0 done)
+    (held_is p pieces reports held states h)
+    (not_before_held (λ (x : PieceReport). found_in p x.claim) reports r held (k, within, at) h.first.none_before)
 
 pub whole_least : (p : Problem) (pieces : ℕ) (reports : List PieceReport) (held : Option Solution) (states : List PieceState) (cubes : List (List Literal)) → AreGathered p pieces reports held states → All (λ state. state ≡ Done) states → AreOfPieces p pieces reports cubes → HoldsLeast p held
 whole_least p pieces reports held states cubes h all right =
-    let list : CubeList = record { vars = p.vars; cubes = cubes } in
     let count : length cubes + 1 ≡ pieces = right.count in
-    holds_least p list None (map (part_of p cubes) reports) held
-    (record {
-      of_instance = All-map (λ (part : PartView). part.best.problem ≡ p) (part_of p cubes) reports (λ k d lt. refl);
-      done = All-map AreDone (part_of p cubes) reports (λ k d lt. done_part p cubes (get_or reports k d) (is_final (is_some p.objective) (get_or reports k d).claim) refl (all_solutions p pieces reports h.fit k d lt) (right.each k d lt));
-      solutions = subst (AreSolutions p) (held_by p cubes reports) (solutions p pieces reports h.fit);
-      is_first = subst (λ (found : List (Option Solution)). IsFirst found held) (held_by p cubes reports) h.first;
-    })
-    (record {
-      of_list = All-map (λ (part : PartView). part.pieces ≡ list) (part_of p cubes) reports (λ k d lt. refl);
-      all_named = λ i within. done_named p cubes pieces reports states i h.became all (omega arith);
-    })
+    least_of_all_done (record { problem = p; cubes = cubes }) held (λ i below.
+    done_by_held p pieces reports held states cubes i h right (reported_done p pieces reports states i h.became all (subst (λ n. i < n) count below)))
 
 -- ---- what is held is the answer
 

@@ -8,8 +8,8 @@ use Rattle.pb_read.specs.declared.format.Format.{Format}
 use Rattle.pb_report.specs.Claims.{is_final}
 use Rattle.pb_report.specs.declared.statuses.Status.{Status}
 use Rattle.pb_report.specs.declared.statuses.Status.TheVariants.{Unsatisfiable}
-use Rattle.pb_solve.specs.Outcome.{Outcome, Refused, Infeasible, Feasible, Optimal, IsInfeasible}
-use Rattle.pb_solve.specs.Report.{report, status_of}
+use Rattle.pb_cubes.specs.Solving.{IsInfeasible}
+use Rattle.pb_report.specs.Outcome.{Outcome, Refused, Infeasible, Feasible, Optimal, report, status_of}
 use Rattle.pb_join.specs.declared.reports.PieceReport.{PieceReport}
 use Rattle.pb_join.specs.Pieces.{IsPieceInstance, found_in, outcome_of}
 

@@ -7,9 +7,9 @@ use Rattle.pb_inst.specs.Meaning.{IsFeasible, cost}
 use Rattle.pb_inst.specs.Incumbent.{Solution, IsSolution}
 use Rattle.pb_read.specs.declared.format.Format.{Format}
 use Rattle.pb_report.specs.declared.statuses.Status.{Status}
-use Rattle.pb_solve.specs.Budgeted.{found_of, found_report, found_status}
-use Rattle.pb_solve.specs.Parts.{IsFirst}
-use Rattle.pb_solve.specs.Report.{report, status_of}
+use Rattle.pb_cubes.specs.First.{IsFirst}
+use Rattle.pb_report.specs.Outcome.{report, status_of}
+use Rattle.pb_report.specs.Found.{found_of, found_report, found_status}
 use Rattle.pb_report.specs.Claims.{witness_of, is_final}
 use Rattle.pb_join.specs.Pieces.{found_in, outcome_of}
 use Rattle.pb_report.specs.declared.claims.Witness.{Witness}

@@ -4,8 +4,8 @@ use Rattle.std.specs.Option.{IfSome}
 use Rattle.pb_inst.specs.Literal.{Literal}
 use Rattle.pb_inst.specs.Problem.{Problem}
 use Rattle.pb_inst.specs.Incumbent.{Solution}
-use Rattle.pb_search.specs.Done.{IsDone}
-use Rattle.pb_solve.specs.Parts.{IsFirst}
+use Rattle.pb_cubes.specs.Done.{IsDone}
+use Rattle.pb_cubes.specs.First.{IsFirst}
 use Rattle.pb_report.specs.Claims.{witness_of}
 use Rattle.pb_report.specs.declared.claims.Claim.{Claim}
 use Rattle.pb_report.specs.declared.claims.Claim.TheVariants.{Optimum, Satisfiable, Unsatisfiable, Unknown, Unsupported}

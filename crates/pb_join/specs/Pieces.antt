@@ -6,7 +6,7 @@ use Rattle.pb_inst.specs.Problem.{Problem}
 use Rattle.pb_inst.specs.Meaning.{IsFeasible}
 use Rattle.pb_inst.specs.Incumbent.{Solution, solution_of}
 use Rattle.pb_cubes.specs.Pieces.{LiesIn}
-use Rattle.pb_solve.specs.Outcome.{Outcome, Infeasible, Feasible, Optimal, IsAnswer}
+use Rattle.pb_report.specs.Outcome.{Outcome, Infeasible, Feasible, Optimal, IsAnswer}
 use Rattle.pb_report.specs.declared.claims.Claim.{Claim}
 use Rattle.pb_report.specs.Claims.{is_final, witness_of}
 use Rattle.pb_join.specs.declared.reports.PieceReport.{PieceReport}

@@ -2,7 +2,7 @@
 ghost use Rattle.std.specs.Prelude.{◌≡◌, ◌≢◌, ◌↔◌, ◌∷◌, ◌++◌, [], ℕ, List, Option, Some, IsTrue, IfOk, IfErr, OnOk, IsSomeAnd, All, if◌then◌else◌};
 ghost use Rattle.std.specs.Option.{IfSome};
 ghost use Rattle.pb_inst.specs.Incumbent.{Solution, IsSolution, solution_of};
-ghost use Rattle.pb_solve.specs.Parts.{AreSolutions, IsFirst};
+ghost use Rattle.pb_cubes.specs.First.{AreSolutions, IsFirst};
 ghost use Rattle.pb_report.specs.Claims.{is_final, witness_of};
 ghost use Rattle.pb_join.specs.Pieces.{found_in};
 ghost use Rattle.pb_join.specs.Joining.{AreGathered, IsJoinFault, IsRejected, IsUnfit, IsWitness};

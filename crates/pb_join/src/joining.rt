@@ -1,7 +1,7 @@
 //! One report of the reports of all pieces.
 ghost use Rattle.std.specs.Prelude.{◌≡◌, ◌≢◌, ◌≤◌, ◌↔◌, List, IfOk, IfErr, IsErrOf, IsTrue, All, false, true};
 ghost use Rattle.pb_inst.specs.Literal.{Literal};
-ghost use Rattle.pb_solve.specs.Run.{Answers};
+ghost use Rattle.pb_report.specs.Outcome.{Answers};
 ghost use Rattle.pb_join.specs.Joining.{AreFit, AreStates, IsJoinFault, TellsFirst};
 ghost use Rattle.pb_join.specs.Pieces.{AreOfPieces};
 ghost use Rattle.pb_join.specs.Costs.{AreLeastOfPieces, AnswersLeastCost};
@@ -12,7 +12,8 @@ use crate::reports::PieceReport;
 use crate::states::PieceState;
 use crate::writing::report_joined;
 use pb_inst::Instance;
-use pb_solve::{Device, Format, Status};
+use pb_read::Format;
+use pb_report::{Device, Status};
 use std::alloc::Global;
 use std::io::Write;
 

@@ -4,8 +4,9 @@ ghost use Rattle.std.specs.Io.KnownBytes.{Appends};
 ghost use Rattle.pb_join.specs.Joining.{joined_report, joined_status};
 
 use pb_inst::{Best, Instance};
-use pb_solve::{
-    Device, Format, RunFault, Status, report_attained, report_infeasible, report_optimum,
+use pb_read::Format;
+use pb_report::{
+    Device, RunFault, Status, report_attained, report_infeasible, report_optimum,
     report_satisfiable, report_unknown,
 };
 use std::io::Write;

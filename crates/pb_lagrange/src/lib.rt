@@ -2,12 +2,12 @@
 //!
 //! What follows from any multipliers is promised by `pb_dual`; this crate proposes them. It promises that form and trail
 //! stay, and hands on what `Multipliers` tells: that a raised bound is still one (`Relaxation::raise`), that a fixed
-//! literal is forced (`Relaxation::fixed_literal`), and that nothing completes a trail of which `Relaxation::adjust` says so.
+//! literal is forced (`Relaxation::fixed_literal`), and that nothing completes a trail of which `Relaxation::improve_multipliers` says so.
 //! Nothing else of the crate carries a promise, so another recipe changes no proof above.
 #![tactic(auto)]
 
-mod account;
+mod effort;
 mod relaxation;
 
-pub use account::Account;
+pub use effort::Effort;
 pub use relaxation::{Fixed, Relaxation};

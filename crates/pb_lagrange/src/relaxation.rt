@@ -1,9 +1,9 @@
 //! Multipliers that follow a search: when they are used, and what they put in place of a bound. No answer depends on which
 //! they are; what follows from any multipliers is told by `Multipliers`.
 
-mod fixing;
 mod levels;
 mod passes;
+mod reduced_cost_fixing;
 mod refuting;
 mod schedule;
 mod steps;
@@ -14,26 +14,28 @@ ghost use Rattle.pb_trail.specs.Completion.{HasNoCompletion};
 ghost use Rattle.pb_lagrange.specs.Relaxation.{IsBeside};
 ghost use Rattle.pb_saddle.specs.Shifting.{IsSameButShifted};
 
-use crate::account::Account;
-use fixing::Fixing;
+use crate::effort::Effort;
 use levels::{Levels, changes_for};
 use passes::Passes;
-use pb_count::{Count, Tally};
+use pb_count::{Coefficient, Counter};
 use pb_dual::Multipliers;
 use pb_inst::{Lit, Memory, Number};
 use pb_normal::Form;
 use pb_rows::Tables;
-use pb_trail::Slacks;
+use pb_trail::TrailView;
+use reduced_cost_fixing::Fixing;
 use refuting::Refuting;
 use schedule::Schedule;
 use std::alloc::Global;
 use std::marker::Model;
 use steps::Steps;
 
-/// How many literals below the root's are far below it.
+/// How many literals below the root's are far below it: the multipliers of a place so far away are a worse beginning for all
+/// rows at once than the root's.
 const FAR: usize = 256;
 
-/// How many times what a literal costs its rows take off it, beside that itself, where they call for it.
+/// How many times what a literal costs its rows take off it, beside that itself, where they call for it. Where some costs are
+/// half a million times others, trying its negation first saves most of the search.
 const MANY_TIMES: u64 = 8;
 
 /// About how many variables are looked through for a literal to fix in the time of a term.
@@ -49,14 +51,14 @@ pub struct Fixed {
 }
 
 /// Multipliers beside the trail of a search. Where they are used they follow the trail, and are shifted at the rows that it
-/// touches. What was shifted below an assumption is taken back with it. An account tells where they are used.
-pub struct Relaxation<C: Count = u64> {
+/// touches. What was shifted below an assumption is taken back with it. Their effort, beside what they save, tells where they are used.
+pub struct Relaxation<C: Coefficient = u64> {
     multipliers: Multipliers<C>,
     schedule: Schedule,
     steps: Steps<C>,
     passes: Passes,
-    fixing: Fixing,
-    account: Account,
+    reduced_cost_fixing: Fixing,
+    effort: Effort,
     /// Where there is no objective: whether multipliers were found that refute, and when they are looked for.
     refuting: Option<Refuting>,
     levels: Levels,
@@ -69,15 +71,15 @@ pub struct Relaxation<C: Count = u64> {
 }
 
 // By hand, as that of `Multipliers`.
-impl<C: Count> Drop for Relaxation<C> {
+impl<C: Coefficient> Drop for Relaxation<C> {
     fn drop(self) {
         let Relaxation {
             multipliers: _,
             schedule: _,
             steps: _,
             passes: _,
-            fixing: _,
-            account: _,
+            reduced_cost_fixing: _,
+            effort: _,
             refuting: _,
             levels: _,
             counted: _,
@@ -87,7 +89,7 @@ impl<C: Count> Drop for Relaxation<C> {
     }
 }
 
-impl<C: Count> Model for Relaxation<C> {
+impl<C: Coefficient> Model for Relaxation<C> {
     ghost use Rattle.std.specs.Prelude.{◌≡◌, length};
     ghost use Rattle.pb_dual.specs.Multipliers.{MultipliersState};
 
@@ -98,7 +100,7 @@ impl<C: Count> Model for Relaxation<C> {
     ghost invariant = { λ r. r.schedule ≡ length r.multipliers.form.rows };
 }
 
-impl<C: Count> Relaxation<C> {
+impl<C: Coefficient> Relaxation<C> {
     /// No multipliers, beside an empty trail. Nothing after it takes memory. There is none where the costs have no scale in
     /// the width of the form.
     pub fn new(alloc: Global, form: &Form<C>) -> Result<Option<Relaxation<C>>, Memory>
@@ -120,7 +122,7 @@ impl<C: Count> Relaxation<C> {
         ensures { IfOk result (λ r. r ≡ multipliers) }
     {
         let passes = Passes::new(alloc, form)?;
-        let account = Account::new(passes.terms());
+        let effort = Effort::new(passes.terms());
         let refuting = if form.objective().is_empty() {
             Some(Refuting::new(passes.terms()))
         } else {
@@ -131,8 +133,8 @@ impl<C: Count> Relaxation<C> {
             schedule: Schedule::new(alloc, form)?,
             steps: Steps::new(alloc, form)?,
             passes,
-            fixing: Fixing::new(),
-            account,
+            reduced_cost_fixing: Fixing::new(),
+            effort,
             refuting,
             levels: Levels::new(alloc, form.vars() as usize)?,
             counted: 0,
@@ -144,7 +146,7 @@ impl<C: Count> Relaxation<C> {
     /// The bound, or that of the multipliers where they are used and it is greater. Where the latter is below the goal, the
     /// rows that the trail touched since the last time are stepped at first. Where it alone would reach the goal it is left
     /// out now and then, to see what it saves.
-    pub fn raise(&mut self, slacks: &Slacks<'_, C>, bound: Number, goal: Number) -> Number
+    pub fn raise(&mut self, slacks: &TrailView<'_, C>, bound: Number, goal: Number) -> Number
         requires { IsBeside slacks.now.form slacks.now.trail self.old }
         ensures bound { (result ≡ bound) ⊎ ((bound ≤ℤ result) × IsBelowCosts slacks.now.form slacks.now.trail result) }
         ensures beside { IsBeside slacks.now.form slacks.now.trail self.new }
@@ -165,7 +167,7 @@ impl<C: Count> Relaxation<C> {
 
     /// Follows the trail and improves the multipliers, where they are used, as `raise` does; no bound is asked for. Answers
     /// whether they tell that nothing completes the trail. Now and then that is left out, to see what it saves.
-    pub fn adjust(&mut self, slacks: &Slacks<'_, C>) -> bool
+    pub fn improve_multipliers(&mut self, slacks: &TrailView<'_, C>) -> bool
         requires { IsBeside slacks.now.form slacks.now.trail self.old }
         ensures no_completion { result ≡ true → HasNoCompletion slacks.now.form.rows slacks.now.trail }
         ensures beside { IsBeside slacks.now.form slacks.now.trail self.new }
@@ -185,7 +187,7 @@ impl<C: Count> Relaxation<C> {
 
     /// Whether the multipliers tell that nothing completes the trail, where there is no objective. They are looked for beside
     /// the root's trail, a few times at most, and used only if they refute that: then they refute each trail beyond it too.
-    fn refute(&mut self, slacks: &Slacks<'_, C>, refuting: Refuting) -> bool
+    fn refute(&mut self, slacks: &TrailView<'_, C>, refuting: Refuting) -> bool
         requires { IsBeside slacks.now.form slacks.now.trail self.old }
         ensures no_completion { result ≡ true → HasNoCompletion slacks.now.form.rows slacks.now.trail }
         ensures beside { IsBeside slacks.now.form slacks.now.trail self.new }
@@ -207,7 +209,7 @@ impl<C: Count> Relaxation<C> {
     }
 
     /// Whether the multipliers that were found refute the trail. Where they do not, they are of another root.
-    fn confirm(&mut self, slacks: &Slacks<'_, C>, refuting: Refuting) -> bool
+    fn confirm(&mut self, slacks: &TrailView<'_, C>, refuting: Refuting) -> bool
         requires { IsBeside slacks.now.form slacks.now.trail self.old }
         ensures no_completion { result ≡ true → HasNoCompletion slacks.now.form.rows slacks.now.trail }
         ensures beside { IsBeside slacks.now.form slacks.now.trail self.new }
@@ -221,7 +223,7 @@ impl<C: Count> Relaxation<C> {
 
     /// Uses the multipliers at the node, if they pay: they follow the trail to its end, and are improved where their bound is
     /// below the goal. Answers whether they are used.
-    fn use_at(&mut self, slacks: &Slacks<'_, C>, goal: Number) -> bool
+    fn use_at(&mut self, slacks: &TrailView<'_, C>, goal: Number) -> bool
         requires { IsBeside slacks.now.form slacks.now.trail self.old }
         ensures followed { result ≡ true → self.new.trail ≡ slacks.now.trail }
         ensures beside { IsBeside slacks.now.form slacks.now.trail self.new }
@@ -230,23 +232,23 @@ impl<C: Count> Relaxation<C> {
         if self.passes.is_climb_due() {
             self.climb(slacks, goal);
         }
-        self.is_used = self.account.is_open();
+        self.is_used = self.effort.is_open();
         self.was_used = self.is_used;
         if !self.is_used {
             return false;
         }
-        if self.passes.is_due(&self.account) {
+        if self.passes.is_due(&self.effort) {
             self.ascend(slacks);
         }
         self.catch_up(slacks);
         self.improve(slacks.tables(), goal);
-        self.account.count_use(self.schedule.work());
+        self.effort.count_use(self.schedule.work());
         true
     }
 
     /// Shifts all rows at once beside the root's trail, and counts them as it leaves them. Where the search's place is far below
     /// it, its multipliers are no beginning, and the root's are.
-    fn climb(&mut self, slacks: &Slacks<'_, C>, goal: Number)
+    fn climb(&mut self, slacks: &TrailView<'_, C>, goal: Number)
         requires { IsBeside slacks.now.form slacks.now.trail self.old }
         ensures { IsBeside slacks.now.form slacks.now.trail self.new }
     {
@@ -264,17 +266,17 @@ impl<C: Count> Relaxation<C> {
     }
 
     /// Steps all rows beside the root's trail.
-    fn ascend(&mut self, slacks: &Slacks<'_, C>)
+    fn ascend(&mut self, slacks: &TrailView<'_, C>)
         requires { IsBeside slacks.now.form slacks.now.trail self.old }
         ensures { IsBeside slacks.now.form slacks.now.trail self.new }
     {
         self.return_to_root(slacks);
         self.passes
-            .ascend(&mut self.multipliers, &mut self.steps, &mut self.account);
+            .ascend(&mut self.multipliers, &mut self.steps, &mut self.effort);
     }
 
     /// Follows the trail to the end of the root's, and no further.
-    fn return_to_root(&mut self, slacks: &Slacks<'_, C>)
+    fn return_to_root(&mut self, slacks: &TrailView<'_, C>)
         requires { IsBeside slacks.now.form slacks.now.trail self.old }
         ensures { IsBeside slacks.now.form slacks.now.trail self.new }
     {
@@ -288,7 +290,7 @@ impl<C: Count> Relaxation<C> {
 
     /// Plans in which order the variables without a value may be decided, by a point of least cost beside the trail that is
     /// approached by so many steps from the last one.
-    pub fn plan(&mut self, slacks: &Slacks<'_, C>, steps: u32)
+    pub fn plan(&mut self, slacks: &TrailView<'_, C>, steps: u32)
         requires { IsBeside slacks.now.form slacks.now.trail self.old }
         ensures { IsBeside slacks.now.form slacks.now.trail self.new }
     {
@@ -299,6 +301,20 @@ impl<C: Count> Relaxation<C> {
     /// What is at the place, from 0 on, of the order that was planned last.
     pub fn planned(&self, place: usize) -> Option<Lit> {
         self.passes.planned(place)
+    }
+
+    /// A search begins: its nodes are counted from here.
+    pub fn begin_search(&mut self)
+        ensures { self.new ≡ self.old }
+    {
+        self.passes.begin_search();
+    }
+
+    /// A question of its own begins: what multipliers cost those before, and did not save, counts no more.
+    pub fn begin_question(&mut self)
+        ensures { self.new ≡ self.old }
+    {
+        self.effort.forgive();
     }
 
     /// All rows are to be shifted at once again.
@@ -313,9 +329,9 @@ impl<C: Count> Relaxation<C> {
         ensures { self.new ≡ self.old }
     {
         self.schedule.begin();
-        self.fixing.forget();
+        self.reduced_cost_fixing.forget();
         self.passes.count_node();
-        self.account
+        self.effort
             .count_search(length.saturating_sub(self.counted));
         self.counted = length;
     }
@@ -324,7 +340,7 @@ impl<C: Count> Relaxation<C> {
     fn is_tried(&mut self, relaxed: Number, goal: Number) -> bool
         ensures { self.new ≡ self.old }
     {
-        if relaxed < goal || self.account.close(self.levels.len()) {
+        if relaxed < goal || self.effort.close(self.levels.len()) {
             return false;
         }
         self.is_used = false;
@@ -334,7 +350,7 @@ impl<C: Count> Relaxation<C> {
 
     /// The bound of the multipliers as they are, where they were used at the node that was judged last. They follow the trail,
     /// but no row is touched by that: what is asked for here is taken back at once.
-    pub fn bound_at_hand(&mut self, slacks: &Slacks<'_, C>) -> Option<Number>
+    pub fn bound_at_hand(&mut self, slacks: &TrailView<'_, C>) -> Option<Number>
         requires { IsBeside slacks.now.form slacks.now.trail self.old }
         ensures bound { IfSome result (IsBelowCosts slacks.now.form slacks.now.trail) }
         ensures beside { IsBeside slacks.now.form slacks.now.trail self.new }
@@ -350,13 +366,13 @@ impl<C: Count> Relaxation<C> {
 
     /// A literal that every completion of the trail that costs no more than the limit makes true, and that has no value yet,
     /// with the bound of the multipliers as they are; or none. None also where the multipliers are not used at the node.
-    pub fn fixed_literal(&mut self, slacks: &Slacks<'_, C>, limit: Number) -> Option<Fixed>
+    pub fn fixed_literal(&mut self, slacks: &TrailView<'_, C>, limit: Number) -> Option<Fixed>
         requires { IsBeside slacks.now.form slacks.now.trail self.old }
         ensures fixed { IfSome result (λ f. IsFixed slacks.now.form slacks.now.trail limit f.lit) }
         ensures bound { IfSome result (λ f. IsBelowCosts slacks.now.form slacks.now.trail f.bound) }
         ensures beside { IsBeside slacks.now.form slacks.now.trail self.new }
     {
-        self.fixing.forget();
+        self.reduced_cost_fixing.forget();
         if !self.is_used {
             return None;
         }
@@ -366,7 +382,7 @@ impl<C: Count> Relaxation<C> {
             return None;
         }
         let lit = self.find_fixed(limit)?;
-        self.account.fix();
+        self.effort.fix();
         Some(Fixed { lit, bound })
     }
 
@@ -376,12 +392,14 @@ impl<C: Count> Relaxation<C> {
         ensures unchanged { self.new ≡ self.old }
     {
         if !self.levels.are_root() {
-            return self.fixing.find(&self.multipliers, limit);
+            return self.reduced_cost_fixing.find(&self.multipliers, limit);
         }
-        let found = self.fixing.find_in_all(&self.multipliers, limit);
+        let found = self
+            .reduced_cost_fixing
+            .find_in_all(&self.multipliers, limit);
         if found.is_none() {
             let looked_at = self.multipliers.form().vars() / VARIABLES_OF_A_TERM;
-            self.account.count_multipliers(looked_at as u64);
+            self.effort.count_multipliers(looked_at as u64);
         }
         found
     }
@@ -389,11 +407,12 @@ impl<C: Count> Relaxation<C> {
     /// Whether the last call of `fixed_literal` fixed a literal at the node where the search still is. There may be more, and
     /// the multipliers need not be improved before.
     pub fn is_fixing(&self) -> bool {
-        self.fixing.has_found
+        self.reduced_cost_fixing.has_found
     }
 
-    /// By how much, in a unit that depends on the form, the bound at the node that was judged last may rise before it is over
-    /// the limit, and 2^64 - 1 where it is more; none where the multipliers were not used there.
+    /// By how much the bound at the node that was judged last may rise before it is over the limit, and 2^64 - 1 where it is
+    /// more; none where the multipliers were not used there. The unit is 1 of a reduced cost, of which a cost of 1 has as
+    /// many as the multipliers' scale; in a wide form it is as many times more as its origin is above 2^62.
     pub fn gap(&self, limit: Number) -> Option<u64> {
         if self.was_used {
             return Some(measure(self.multipliers.gap(limit)));
@@ -403,13 +422,13 @@ impl<C: Count> Relaxation<C> {
 
     /// Whether the multipliers have saved what they cost, in counted work. Without an objective they are no measure.
     pub fn pays(&self) -> bool {
-        self.refuting.is_none() && self.account.pays()
+        self.refuting.is_none() && self.effort.pays()
     }
 
     /// Of the literal and its negation, which costs so much, the one whose reduced cost is less, where the multipliers are used at
     /// the node; else the literal. Where the rows take off the negation many times what it costs, the literal comes first all
     /// the same: below it a bound soon closes the subtree, and the negation is as good as forced then.
-    pub fn cheaper(&self, lit: Lit, cost: Tally<C>) -> Lit
+    pub fn cheaper(&self, lit: Lit, cost: Counter<C>) -> Lit
         requires { lit.var ≤ self.now.form.vars }
         ensures { result.var ≡ lit.var }
     {
@@ -423,12 +442,12 @@ impl<C: Count> Relaxation<C> {
     }
 
     /// Whether the rows take off a literal that costs so much many times that.
-    fn is_called_for(&self, lit: Lit, cost: Tally<C>) -> bool
+    fn is_called_for(&self, lit: Lit, cost: Counter<C>) -> bool
         requires { lit.var ≤ self.now.form.vars }
     {
         let (own, other) = self.multipliers.costs(lit);
         let scaled = self.multipliers.scale().saturating_mul(cost);
-        let many = scaled.saturating_mul(Tally::of(MANY_TIMES));
+        let many = scaled.saturating_mul(Counter::of(MANY_TIMES));
         !other.is_below(own.saturating_add(many))
     }
 
@@ -492,10 +511,10 @@ impl<C: Count> Relaxation<C> {
         if let Some(mark) = self.levels.cut(level) {
             self.take_back_to(mark);
         }
-        self.account.step_back(level);
+        self.effort.step_back(level);
         self.counted = self.counted.min(length);
         self.is_used = false;
-        self.fixing.forget();
+        self.reduced_cost_fixing.forget();
     }
 
     /// Takes back the changes of multipliers until so many are left, and touches their rows: below the next decision their
@@ -520,7 +539,7 @@ impl<C: Count> Relaxation<C> {
     }
 
     /// Follows the trail to its end.
-    fn catch_up(&mut self, slacks: &Slacks<'_, C>)
+    fn catch_up(&mut self, slacks: &TrailView<'_, C>)
         requires { IsBeside slacks.now.form slacks.now.trail self.old }
         ensures form { self.new.form ≡ self.old.form }
         ensures trail { self.new.trail ≡ slacks.now.trail }
@@ -531,7 +550,7 @@ impl<C: Count> Relaxation<C> {
     }
 
     /// Follows the trail for one literal.
-    fn follow_quietly(&mut self, slacks: &Slacks<'_, C>)
+    fn follow_quietly(&mut self, slacks: &TrailView<'_, C>)
         requires beside { IsBeside slacks.now.form slacks.now.trail self.old }
         requires more { length self.old.trail < length slacks.now.trail }
         ensures form { self.new.form ≡ self.old.form }
@@ -543,7 +562,7 @@ impl<C: Count> Relaxation<C> {
     }
 
     /// Follows the trail for one literal, and notes the rows of its variable.
-    fn follow(&mut self, slacks: &Slacks<'_, C>)
+    fn follow(&mut self, slacks: &TrailView<'_, C>)
         requires beside { IsBeside slacks.now.form slacks.now.trail self.old }
         requires more { length self.old.trail < length slacks.now.trail }
         ensures form { self.new.form ≡ self.old.form }
@@ -558,8 +577,8 @@ impl<C: Count> Relaxation<C> {
 
 /// The difference in units of 1 in the origin's place in 64 bits, so that those of a wide form are about as great as those of
 /// a form of 64 bits.
-fn measure<C: Count>(difference: Tally<C>) -> u64 {
-    let unit = Tally::origin() / Tally::of(1 << 62);
-    let units = difference / unit.max(Tally::of(1));
+fn measure<C: Coefficient>(difference: Counter<C>) -> u64 {
+    let unit = Counter::origin() / Counter::of(1 << 62);
+    let units = difference / unit.max(Counter::of(1));
     units.number().min(u64::MAX as u128) as u64
 }

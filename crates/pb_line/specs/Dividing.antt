@@ -2,9 +2,10 @@
 use Rattle.std.specs.Prelude.{◌≡◌, List, Some, option_map, codes, refl, true, IsSomeAnd}
 use Rattle.clap.proofs.OnLiterals.{clap_on_literals}
 use Rattle.clap.specs.Words.{App, Row, Rule, first_of, is_simple_and_free, new_rule, one_of, with_rule}
-use Rattle.pb_line.specs.Options.{cubes, file, format, format_name, split, with_version}
+use Rattle.pb_line.specs.Options.{cubes, file, format, split, with_version}
 use Rattle.pb_line.specs.Values.{Spells}
-use Rattle.pb_line.specs.declared.dividing.asked.Line.{Line}
+use Rattle.pb_line.specs.declared.dividing.args.Line.{Line}
+use Rattle.pb_read.specs.Format.{format_name}
 
 -- `--out`, which has to be there
 abbrev pub out : Rule

@@ -14,13 +14,17 @@ MayFailBy app HasNoLine words kind =
 abbrev pub IsShown : ErrorKind → Type 0
 IsShown kind = (kind ≡ DisplayHelp) ⊎ (kind ≡ DisplayVersion)
 
--- the status where the words have a fault of this kind: for want of memory as the program ends then; where a text is
--- shown 0, or 1 if it cannot be written; and for all mistakes 2
+-- the status where a fault of this kind was told: where a text is shown 0, or 1 if it cannot be written; and for all
+-- mistakes 2
+abbrev pub EndsTold : ErrorKind → ℕ → Type 0
+EndsTold kind status =
+    (IsShown kind × ((status ≡ 0) ⊎ (status ≡ 1)))
+    ⊎ ((kind ≢ OutOfMemory) × (IsShown kind → ⊥) × (status ≡ 2))
+
+-- the status where the words have a fault of this kind: for want of memory as the program ends then, and else that of a fault
+-- that was told
 abbrev pub EndsBy : (ℕ → Type 0) → ErrorKind → ℕ → Type 0
-EndsBy EndsWithoutMemory kind status =
-    ((kind ≡ OutOfMemory) × EndsWithoutMemory status)
-    ⊎ ((IsShown kind × ((status ≡ 0) ⊎ (status ≡ 1)))
-    ⊎ ((kind ≢ OutOfMemory) × (IsShown kind → ⊥) × (status ≡ 2)))
+EndsBy EndsWithoutMemory kind status = ((kind ≡ OutOfMemory) × EndsWithoutMemory status) ⊎ EndsTold kind status
 
 -- the status on these words: that of a fault that they may have, or, where clap has no fault in them, that of what was
 -- done, or 1 if that failed

@@ -5,11 +5,12 @@ use Rattle.clap.specs.Lexer.{usize_max}
 use Rattle.clap.specs.Words.{App, Row, Rule, all_of, first_of, is_simple_and_free, new_rule, one_of, with_rule}
 use Rattle.clap.specs.declared.builder.ValueParser.TheVariants as parser
 use Rattle.clap.specs.declared.builder.action.ArgAction.TheVariants.{Append}
-use Rattle.pb_line.specs.Options.{file, format, format_name, with_version}
+use Rattle.pb_line.specs.Options.{file, format, with_version}
 use Rattle.pb_line.specs.Values.{SpellsIfGiven}
-use Rattle.pb_line.specs.declared.joining.asked.Line.{Line}
-use Rattle.pb_line.specs.declared.joining.asked.TheConstants.{MAX_PIECES}
-use Rattle.pb_line.specs.declared.tasks.asked.TheConstants.{MAX_TASKS}
+use Rattle.pb_line.specs.declared.joining.args.Line.{Line}
+use Rattle.pb_read.specs.Format.{format_name}
+use Rattle.pb_inst.specs.declared.limits.TheConstants.{MAX_PIECES}
+use Rattle.pb_line.specs.declared.tasks.args.TheConstants.{MAX_TASKS}
 
 -- `--pieces`, a number from 1 to `MAX_PIECES`, without a default
 abbrev pub pieces : Rule

@@ -4,5 +4,4 @@ pub mod Joining
 pub mod Options
 pub mod Solving
 pub mod Tasks
-pub mod Told
 pub mod Values

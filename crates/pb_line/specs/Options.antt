@@ -3,11 +3,9 @@ use Rattle.std.specs.Prelude.{[], ◌∷◌, Some, codes, true}
 use Rattle.clap.specs.Simple.{on_top}
 use Rattle.clap.specs.Words.{App, Rule, Text, new_app, new_rule}
 use Rattle.clap.specs.declared.builder.ValueParser.TheVariants as parser
-use Rattle.pb_cubes.specs.declared.TheConstants.{MAX_SPLIT}
-use Rattle.pb_inst.specs.declared.TheConstants.{MAX_WORKERS}
+use Rattle.pb_inst.specs.declared.limits.TheConstants.{MAX_SPLIT}
+use Rattle.pb_inst.specs.declared.limits.TheConstants.{MAX_WORKERS}
 use Rattle.pb_line.specs.declared.options.TheConstants.{MAX_NODES}
-use Rattle.pb_read.specs.declared.format.Format.{Format}
-use Rattle.pb_read.specs.declared.format.Format.TheVariants.{Opb, Cnf, Icnf}
 
 -- the command of this name whose one option is `--version`, or `-V`
 abbrev pub with_version : Text → App
@@ -38,9 +36,3 @@ nodes = record (new_rule (codes "nodes")) { long = Some (codes "nodes"); value_n
 -- the file, which has to be there
 abbrev pub file : Rule
 file = record (new_rule (codes "file")) { required = true; value_names = 1 }
-
--- the name of a format
-abbrev pub format_name : Format → Text
-format_name Opb = codes "opb"
-format_name Cnf = codes "cnf"
-format_name Icnf = codes "icnf"

@@ -2,10 +2,11 @@
 use Rattle.std.specs.Prelude.{◌≡◌, ◌≤◌, List, Some, option_map, codes, refl, true, IsSomeAnd}
 use Rattle.clap.proofs.OnLiterals.{clap_on_literals}
 use Rattle.clap.specs.Words.{App, Row, first_of, is_simple_and_free, one_of, with_rule}
-use Rattle.pb_inst.specs.declared.TheConstants.{MAX_WORKERS}
-use Rattle.pb_line.specs.Options.{cubes, file, format, format_name, nodes, split, with_version, workers}
+use Rattle.pb_inst.specs.declared.limits.TheConstants.{MAX_WORKERS}
+use Rattle.pb_line.specs.Options.{cubes, file, format, nodes, split, with_version, workers}
 use Rattle.pb_line.specs.Values.{Spells, SpellsIfGiven}
-use Rattle.pb_line.specs.declared.solving.asked.Line.{Line}
+use Rattle.pb_line.specs.declared.solving.args.Line.{Line}
+use Rattle.pb_read.specs.Format.{format_name}
 
 -- `pbcube [--format FORMAT] [--workers W] [--split K] [--cubes FILE] [--nodes B] FILE`
 unfoldable pub pbcube : App

@@ -3,11 +3,12 @@ use Rattle.std.specs.Prelude.{◌≡◌, ◌<◌, ◌≤◌, List, Some, option_
 use Rattle.clap.proofs.OnLiterals.{clap_on_literals}
 use Rattle.clap.specs.Words.{App, Row, Rule, first_of, is_simple_and_free, one_of, new_rule, with_rule}
 use Rattle.clap.specs.declared.builder.ValueParser.TheVariants as parser
-use Rattle.pb_inst.specs.declared.TheConstants.{MAX_WORKERS}
-use Rattle.pb_line.specs.Options.{cubes, file, format, format_name, nodes, split, with_version, workers}
+use Rattle.pb_inst.specs.declared.limits.TheConstants.{MAX_WORKERS}
+use Rattle.pb_line.specs.Options.{cubes, file, format, nodes, split, with_version, workers}
 use Rattle.pb_line.specs.Values.{Spells, SpellsIfGiven}
-use Rattle.pb_line.specs.declared.tasks.asked.Line.{Line}
-use Rattle.pb_line.specs.declared.tasks.asked.TheConstants.{MAX_TASKS}
+use Rattle.pb_line.specs.declared.tasks.args.Line.{Line}
+use Rattle.pb_read.specs.Format.{format_name}
+use Rattle.pb_line.specs.declared.tasks.args.TheConstants.{MAX_TASKS}
 
 -- `--task`, a number from 0 to `MAX_TASKS`, which has to be there
 abbrev pub task : Rule

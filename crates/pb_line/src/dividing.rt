@@ -1,9 +1,9 @@
 //! The command line of `pbcube_pieces`.
 
-mod asked;
+mod args;
 mod command;
 mod help;
-mod words;
+mod parse;
 
-pub use asked::Line;
-pub use words::line;
+pub use args::Line;
+pub use parse::line;

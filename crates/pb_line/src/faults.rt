@@ -1,39 +1,38 @@
 //! How a program ends where its words ask for no run.
-ghost use Rattle.std.specs.Prelude.{◌≡◌};
+ghost use Rattle.std.specs.Prelude.{◌≡◌, IfSome, IsNone};
 ghost use Rattle.clap.specs.Words.{kind_of};
-ghost use Rattle.pb_line.specs.Ends.{IsShown};
-ghost use Rattle.pb_line.specs.Told.{IsToldOf};
+ghost use Rattle.clap.specs.declared.error.kind.ErrorKind.TheVariants.{OutOfMemory};
+ghost use Rattle.pb_line.specs.Ends.{EndsTold, IsShown};
 
+use crate::failures::tell_failure;
 use clap::Error;
 use clap::error::ErrorKind;
-use std::io::{self, Write};
+use std::io::Write;
 
-/// What became of a fault of the words.
-#[derive(Clone, Copy)]
-pub enum Told {
-    /// Its text was written, and this is the exit status: 0 after help and the version, which go to the output, and 2 after a
-    /// mistake, which goes to the standard error.
-    Written(u8),
-    /// The output did not take the text, for this reason.
-    Unwritten(io::Error),
-    /// Memory ran out, and nothing was written.
-    NoMemory,
-}
-
-/// Writes what help, the version or a mistake says. Faults of the standard error are ignored.
-pub fn tell_fault<W: Write, E: Write>(fault: &Error, out: &mut W, err: &mut E) -> Told
-    ensures told { IsToldOf (kind_of fault.now) result }
+/// Writes what help, the version or a mistake says, and answers the exit status: 0 after help and the version, which go to the
+/// output, or 1 where it does not take them, and 2 after a mistake, which goes to the standard error. Where memory ran out there
+/// is no status, and nothing was written. Faults of the standard error are ignored.
+pub fn end_at_line<W: Write, E: Write>(
+    program: &str,
+    fault: &Error,
+    out: &mut W,
+    err: &mut E,
+) -> Option<u8>
+    ensures told { IfSome result (EndsTold (kind_of fault.now)) }
+    ensures no_memory { IsNone result → kind_of fault.now ≡ OutOfMemory }
     ensures kept { (IsShown (kind_of fault.now) → ⊥) → out.new ≡ out.old }
+    ensures unwritten { IsNone result → out.new ≡ out.old }
 {
     if fault.kind() == ErrorKind::OutOfMemory {
-        return Told::NoMemory;
+        return None;
     }
     if fault.use_stderr() {
         let _ = write!(err, "{fault}");
-        return Told::Written(2);
+        return Some(2);
     }
-    match write!(out, "{fault}") {
-        Ok(()) => Told::Written(0),
-        Err(fault) => Told::Unwritten(fault),
+    if let Err(reason) = write!(out, "{fault}") {
+        tell_failure(program, "cannot write", Some(reason), err);
+        return Some(1);
     }
+    Some(0)
 }

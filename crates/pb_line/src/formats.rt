@@ -1,6 +1,6 @@
 //! The formats' names.
 ghost use Rattle.std.specs.Prelude.{◌≡◌, ◌≢◌, IfSome, IsNone};
-ghost use Rattle.pb_line.specs.Options.{format_name};
+ghost use Rattle.pb_read.specs.Format.{format_name};
 
 use pb_read::Format;
 

@@ -1,9 +1,10 @@
 //! The command line of `pbcube_join`.
 
-mod asked;
+mod args;
 mod command;
 mod help;
-mod words;
+mod parse;
 
-pub use asked::{Line, MAX_PIECES};
-pub use words::line;
+pub use args::Line;
+pub use parse::line;
+pub use pb_inst::MAX_PIECES;

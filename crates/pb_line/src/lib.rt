@@ -7,21 +7,23 @@ mod faults;
 mod formats;
 pub mod joining;
 mod last_fault;
-mod lines;
 mod matched;
 mod options;
+mod parse;
+mod program;
 pub mod solving;
 pub mod tasks;
 mod version;
 mod words;
 
 pub use failures::tell_failure;
-pub use faults::{Told, tell_fault};
+pub use faults::end_at_line;
 pub use formats::format_of;
 pub use last_fault::{LastFault, Noting};
 pub use options::{
     MAX_NODES, cubes_option, file_operand, format_option, named, nodes_option, split_option,
     workers_option,
 };
+pub use program::{Program, main_with};
 pub use version::VERSION;
 pub use words::{texts_of, words_of};

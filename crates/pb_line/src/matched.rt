@@ -1,8 +1,8 @@
 //! The values of the matches.
 ghost use Rattle.std.specs.Prelude.{◌≡◌, ◌≢◌, ◌≤◌, ℕ, Option, Some, codes, option_map, IfSome, IsNone, IsSomeAnd, SomeIff};
 ghost use Rattle.clap.specs.Words.{first_of, found_of, one_of, rows_of};
-ghost use Rattle.pb_inst.specs.declared.TheConstants.{MAX_WORKERS};
-ghost use Rattle.pb_line.specs.Options.{format_name};
+ghost use Rattle.pb_inst.specs.declared.limits.TheConstants.{MAX_WORKERS};
+ghost use Rattle.pb_read.specs.Format.{format_name};
 ghost use Rattle.pb_line.specs.Values.{Spells, SpellsIfGiven};
 
 use crate::formats::format_of;

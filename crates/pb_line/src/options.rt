@@ -6,8 +6,7 @@ ghost use Rattle.pb_line.specs.Options.{format, workers, split, cubes, nodes, fi
 use crate::version::VERSION;
 use clap::builder::ValueParser;
 use clap::{Arg, Command};
-use pb_cubes::MAX_SPLIT;
-use pb_inst::MAX_WORKERS;
+use pb_inst::{MAX_SPLIT, MAX_WORKERS};
 use std::alloc::Global;
 
 /// The most decisions in each piece that a command line may allow.

@@ -1,9 +1,9 @@
 //! The command line of `pbcube_task`.
 
-mod asked;
+mod args;
 mod command;
 mod help;
-mod words;
+mod parse;
 
-pub use asked::{Line, MAX_TASKS};
-pub use words::line;
+pub use args::{Line, MAX_TASKS};
+pub use parse::line;

@@ -11,7 +11,7 @@ use Rattle.std.proofs.lemmas.Option.{get_or_from_slice_get, slice_get_within}
 use Rattle.pb_inst.specs.Limits.{constraint_terms, AllVariablesWithin, IsProper}
 use Rattle.pb_inst.specs.Meaning.{literal_value, term_value, sum_value, Stands, Meets}
 use Rattle.pb_inst.specs.Problem.{LinearConstraint, Problem}
-use Rattle.pb_inst.specs.declared.TheConstants.{SUM_BOUND}
+use Rattle.pb_inst.specs.declared.limits.TheConstants.{SUM_BOUND}
 use Rattle.pb_inst.specs.declared.constraints.Term.{Term}
 use Rattle.pb_inst.specs.declared.constraints.Relation.{Relation}
 use Rattle.pb_inst.specs.declared.constraints.Relation.TheVariants.{AtLeast, AtMost, Equal}

@@ -1,6 +1,6 @@
 -- Rows of positive terms, and when they say the same as an instance.
 use Rattle.std.specs.Prelude.{◌≡◌, ℕ, ◌*◌, ◌<◌, ◌≤◌, Bool, List, length, All, AllPairs, sum_by, ℤ, pos, ◌+ℤ◌, ◌≤ℤ◌, ◌↔◌, unsigned_abs}
-use Rattle.pb_inst.specs.declared.TheConstants.{MAX_CONSTRAINTS, SUM_BOUND}
+use Rattle.pb_inst.specs.declared.limits.TheConstants.{MAX_CONSTRAINTS, SUM_BOUND}
 use Rattle.pb_inst.specs.Problem.{Problem}
 use Rattle.pb_inst.specs.Meaning.{literal_value, IsFeasible, cost}
 use Rattle.pb_normal.specs.declared.terms.PositiveTerm.{PositiveTerm}

@@ -1,7 +1,7 @@
 //! The normal form of an instance.
 
 ghost use Rattle.std.specs.Prelude.{◌≡◌, true, false, Err, ℕ, ◌+◌, ◌*◌, ◌<◌, ◌≤◌, List, [], ◌∷◌, All, length, map, slice_get, sum_by, unsigned_abs, IfOk, OnOk, IsSomeAnd, pos, ◌+ℤ◌, ◌≤ℤ◌, neg_ℤ};
-ghost use Rattle.pb_inst.specs.declared.TheConstants.{SUM_BOUND};
+ghost use Rattle.pb_inst.specs.declared.limits.TheConstants.{SUM_BOUND};
 ghost use Rattle.pb_inst.specs.declared.constraints.Term.{Term};
 ghost use Rattle.pb_inst.specs.Constraints.{linear};
 ghost use Rattle.pb_inst.specs.Limits.{constraint_magnitude, total_magnitude, AllVariablesWithin};
@@ -17,7 +17,7 @@ use crate::merging::{PositiveSum, clipped_total, total};
 use crate::rows::RowList;
 use crate::terms::{FormTerm, PositiveTerm};
 use crate::unbuilt::Unbuilt;
-use pb_count::{Count, Tally};
+use pb_count::{Coefficient, Counter};
 use pb_inst::{Constraint, Instance, Magnitude, Memory, Number, Relation};
 use std::alloc::{AllocError, Global};
 use std::marker::Model;
@@ -29,20 +29,20 @@ use std::sync::Arc;
 /// see a `NormalForm`.
 ///
 /// What is built over a form has a share of it, so it may outlive this owner.
-pub struct Form<C: Count = u64> {
+pub struct Form<C: Coefficient = u64> {
     parts: Arc<Parts<C>, Global>,
 }
 
 /// What the owners of a form share.
 #[derive(Drop)]
-struct Parts<C: Count> {
+struct Parts<C: Coefficient> {
     vars: u32,
     rows: RowList<C>,
     base: Number,
     objective: Vec<FormTerm<C>>,
 }
 
-impl<C: Count> Model for Form<C> {
+impl<C: Coefficient> Model for Form<C> {
     ghost use Rattle.pb_normal.specs.NormalForm.{NormalForm};
     ghost use Rattle.pb_normal.specs.Fits.{IsNormalWithin};
 
@@ -56,13 +56,13 @@ impl<C: Count> Model for Form<C> {
 }
 
 // By hand, so that who lets a form go calls this, and does not let each part go in its place.
-impl<C: Count> Drop for Form<C> {
+impl<C: Coefficient> Drop for Form<C> {
     fn drop(self) {
         let Form { parts: _ } = self;
     }
 }
 
-impl<C: Count> Form<C> {
+impl<C: Coefficient> Form<C> {
     /// One more owner of the form. Takes no memory, and fails only where there are 2^63 of them.
     pub fn share(&self) -> Result<Form<C>, Memory>
         ensures { IfOk result (λ form. form ≡ self.now) }
@@ -78,6 +78,15 @@ impl<C: Count> Form<C> {
         ensures fits { Fits C.limit self.now }
     {
         self.parts.vars
+    }
+
+    /// What holds of every form. It does nothing at run time.
+    #[inline(always)]
+    pub fn facts(&self)
+        ensures normal { IsNormal self.now }
+        ensures fits { Fits C.limit self.now }
+    {
+        let _parts = &self.parts;
     }
 
     /// The number of rows, at most two for each constraint, so at most `2 * MAX_CONSTRAINTS`.
@@ -104,7 +113,7 @@ impl<C: Count> Form<C> {
     }
 
     /// What the terms of row i, from 0, must add up to: at least 1, and at most `SUM_BOUND`.
-    pub fn degree(&self, i: usize) -> Tally<C>
+    pub fn degree(&self, i: usize) -> Counter<C>
         requires { i < length self.now.rows }
         ensures { IsSomeAnd (slice_get self.now.rows i) (λ row. row.degree ≡ result) }
     {
@@ -130,7 +139,7 @@ impl<C: Count> Form<C> {
 
 /// The normal form of the instance for engines that count in these numbers. `TooWide` says that a sum is not below their
 /// limit, which none is where that is above `SUM_BOUND`; `Memory` that a growth of memory was refused.
-pub fn form_of<C: Count>(alloc: Global, instance: &Instance) -> Result<Form<C>, Unbuilt>
+pub fn form_of<C: Coefficient>(alloc: Global, instance: &Instance) -> Result<Form<C>, Unbuilt>
     ensures exact { IfOk result (λ form. IsNormalFormOf instance.now form) }
     ensures variables { IfOk result (λ form. form.vars ≡ instance.now.vars) }
     ensures feasible { IfOk result (λ form. KeepsFeasible instance.now form) }
@@ -145,7 +154,7 @@ pub fn form_of<C: Count>(alloc: Global, instance: &Instance) -> Result<Form<C>, 
     }
     merge_objective(&mut sum, instance)?;
     let objective = objective_of(alloc, &sum.terms)?;
-    let _fits = rows.len();
+    rows.facts();
     let parts = Parts {
         vars: instance.vars(),
         rows,
@@ -156,7 +165,7 @@ pub fn form_of<C: Count>(alloc: Global, instance: &Instance) -> Result<Form<C>, 
 }
 
 /// The form of these parts, in memory that its owners share.
-fn shared<C: Count>(alloc: Global, parts: Parts<C>) -> Result<Form<C>, Memory>
+fn shared<C: Coefficient>(alloc: Global, parts: Parts<C>) -> Result<Form<C>, Memory>
     requires { IsNormalWithin C.limit (record { vars = parts.vars; rows = parts.rows; base = parts.base; objective = parts.objective.items }) }
     ensures { IfOk result (λ form. form ≡ record { vars = parts.vars; rows = parts.rows; base = parts.base; objective = parts.objective.items }) }
 {
@@ -167,7 +176,7 @@ fn shared<C: Count>(alloc: Global, parts: Parts<C>) -> Result<Form<C>, Memory>
 }
 
 /// The terms of an objective, where their sum is below the limit.
-fn objective_of<C: Count>(
+fn objective_of<C: Coefficient>(
     alloc: Global,
     terms: &[PositiveTerm],
 ) -> Result<Vec<FormTerm<C>>, Unbuilt>
@@ -183,13 +192,13 @@ fn objective_of<C: Count>(
 }
 
 /// The terms at the width of a form.
-fn fitted<C: Count>(alloc: Global, terms: &[PositiveTerm]) -> Result<Vec<FormTerm<C>>, Memory>
+fn fitted<C: Coefficient>(alloc: Global, terms: &[PositiveTerm]) -> Result<Vec<FormTerm<C>>, Memory>
     requires fits { total_coefficient terms.now < C.limit }
     ensures { IfOk result (λ fitted. fitted.items ≡ terms.now) }
 {
     let mut fitted = Vec::with_capacity(alloc, terms.len())?;
     for term in terms {
-        let coef = Tally::fitting(term.coef);
+        let coef = Counter::fitting(term.coef);
         fitted.push(FormTerm::new(coef, term.lit))?;
     }
     Ok(fitted)
@@ -211,7 +220,7 @@ fn merge_objective(sum: &mut PositiveSum, instance: &Instance) -> Result<(), Mem
 }
 
 /// Adds the rows of the constraint, by way of the sum. An equality gives the row of `>=` before that of `<=`.
-fn add_constraint<C: Count>(
+fn add_constraint<C: Coefficient>(
     rows: &mut RowList<C>,
     sum: &mut PositiveSum,
     constraint: &Constraint<'_>,
@@ -235,7 +244,7 @@ fn add_constraint<C: Count>(
 }
 
 /// Adds the row that the sum is at least the bound, unless it always is.
-fn add_at_least<C: Count>(
+fn add_at_least<C: Coefficient>(
     rows: &mut RowList<C>,
     sum: &PositiveSum,
     bound: Number,
@@ -260,7 +269,7 @@ fn add_at_least<C: Count>(
 }
 
 /// Whether the degree, and the coefficients cut down to it together, are below the limit.
-fn has_sums_below<C: Count>(terms: &[PositiveTerm], degree: Magnitude) -> bool
+fn has_sums_below<C: Coefficient>(terms: &[PositiveTerm], degree: Magnitude) -> bool
     requires degree { degree ≤ SUM_BOUND }
     requires coefficients { total_coefficient terms.now ≤ SUM_BOUND }
     ensures fits { result ≡ true → HasSumsBelow C.limit (clipped_row degree terms.now) }
@@ -270,7 +279,7 @@ fn has_sums_below<C: Count>(terms: &[PositiveTerm], degree: Magnitude) -> bool
 }
 
 /// Adds the row that the sum is at most the bound, unless it always is, and leaves the sum negated.
-fn add_at_most<C: Count>(
+fn add_at_most<C: Coefficient>(
     rows: &mut RowList<C>,
     sum: &mut PositiveSum,
     bound: Number,

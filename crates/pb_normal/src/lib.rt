@@ -16,7 +16,7 @@ use pb_inst::MAX_TERMS;
 pub use positive_terms::PositiveTerms;
 pub use terms::{FormTerm, PositiveTerm, total_of};
 pub use unbuilt::Unbuilt;
-pub use widths::{EitherWidth, Normal, normalise};
+pub use widths::{Normal, Width, normalise};
 
 /// The most terms that all rows may have together: an equality gives two rows.
 pub const MAX_ROW_TERMS: usize = 2 * MAX_TERMS;

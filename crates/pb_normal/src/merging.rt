@@ -2,7 +2,7 @@
 
 ghost use Rattle.std.specs.Prelude.{◌≡◌, ℕ, ◌+◌, ◌≤◌, List, [], Bool, map, min, sum_by, unsigned_abs, IfOk, OnOk, pos, ◌+ℤ◌, ◌≤ℤ◌, neg_ℤ};
 ghost use Rattle.std.specs.List.Sorted.{IsNonDecreasingBy};
-ghost use Rattle.pb_inst.specs.declared.TheConstants.{SUM_BOUND};
+ghost use Rattle.pb_inst.specs.declared.limits.TheConstants.{SUM_BOUND};
 ghost use Rattle.pb_inst.specs.Limits.{total_magnitude, AllVariablesWithin};
 ghost use Rattle.pb_normal.specs.NormalForm.{positive_value, total_coefficient, ArePositiveTerms};
 ghost use Rattle.pb_normal.specs.Merging.{AreJoined, AddsNonzero, AddsPositive, AddsTerm, HasValueOf, opposite};

@@ -3,14 +3,14 @@
 ghost use Rattle.std.specs.Prelude.{◌≡◌, ◌↔◌, ◌<◌, length, slice_get, Some, IsTrue};
 
 use crate::terms::{FormTerm, PositiveTerm};
-use crate::widths::EitherWidth;
-use pb_count::Count;
+use crate::widths::Width;
+use pb_count::Coefficient;
 use std::marker::Model;
 
 /// The terms of a row or of the objective of a normal form, which it lends. Contracts see the list of them.
 #[derive(Drop)]
 pub struct PositiveTerms<'a> {
-    at_width: EitherWidth<&'a [FormTerm], &'a [FormTerm<u128>]>,
+    at_width: Width<&'a [FormTerm], &'a [FormTerm<u128>]>,
 }
 
 impl<'a> Model for PositiveTerms<'a> {
@@ -29,7 +29,7 @@ impl<'a> PositiveTerms<'a> {
         ensures { result ≡ terms.now }
     {
         PositiveTerms {
-            at_width: EitherWidth::Narrow(terms),
+            at_width: Width::Narrow(terms),
         }
     }
 
@@ -38,7 +38,7 @@ impl<'a> PositiveTerms<'a> {
         ensures { result ≡ terms.now }
     {
         PositiveTerms {
-            at_width: EitherWidth::Wide(terms),
+            at_width: Width::Wide(terms),
         }
     }
 
@@ -47,8 +47,8 @@ impl<'a> PositiveTerms<'a> {
         ensures { result ≡ length self.now }
     {
         match &self.at_width {
-            EitherWidth::Narrow(terms) => terms.len(),
-            EitherWidth::Wide(terms) => terms.len(),
+            Width::Narrow(terms) => terms.len(),
+            Width::Wide(terms) => terms.len(),
         }
     }
 
@@ -65,14 +65,14 @@ impl<'a> PositiveTerms<'a> {
         ensures { slice_get self.now i ≡ Some result }
     {
         match &self.at_width {
-            EitherWidth::Narrow(terms) => term_at(terms, i),
-            EitherWidth::Wide(terms) => term_at(terms, i),
+            Width::Narrow(terms) => term_at(terms, i),
+            Width::Wide(terms) => term_at(terms, i),
         }
     }
 }
 
 /// The i-th of the terms.
-fn term_at<C: Count>(terms: &[FormTerm<C>], i: usize) -> PositiveTerm
+fn term_at<C: Coefficient>(terms: &[FormTerm<C>], i: usize) -> PositiveTerm
     requires { i < length terms.now }
     ensures { slice_get terms.now i ≡ Some result }
 {

@@ -7,27 +7,27 @@ ghost use Rattle.pb_normal.specs.Fits.{HasSumsBelow};
 ghost use Rattle.pb_normal.specs.Merging.{clipped, clipped_row};
 
 use crate::terms::{FormTerm, PositiveTerm};
-use pb_count::{Count, Tally};
+use pb_count::{Coefficient, Counter};
 use pb_inst::{Magnitude, Memory};
 use std::alloc::Global;
 use std::marker::Model;
 
 /// Where a row's terms lie in the list of all terms, and its degree.
 #[derive(Clone, Copy)]
-struct Span<C: Count> {
+struct Span<C: Coefficient> {
     start: u32,
     end: u32,
-    degree: Tally<C>,
+    degree: Counter<C>,
 }
 
 /// Rows in the order in which they were added. Contracts see the list of them.
 #[derive(Drop)]
-pub struct RowList<C: Count> {
+pub struct RowList<C: Coefficient> {
     terms: Vec<FormTerm<C>>,
     spans: Vec<Span<C>>,
 }
 
-impl<C: Count> Model for RowList<C> {
+impl<C: Coefficient> Model for RowList<C> {
     ghost use Rattle.std.specs.Prelude.{List};
     ghost use Rattle.pb_normal.specs.NormalForm.{PositiveRow};
 
@@ -40,7 +40,7 @@ impl<C: Count> Model for RowList<C> {
     ghost invariant = { λ l. AreSpansWithin C.limit l.terms.items l.spans.items };
 }
 
-impl<C: Count> RowList<C> {
+impl<C: Coefficient> RowList<C> {
     pub fn new(alloc: Global) -> RowList<C>
         ensures { result ≡ [] }
     {
@@ -48,6 +48,14 @@ impl<C: Count> RowList<C> {
             terms: Vec::new(alloc),
             spans: Vec::new(alloc),
         }
+    }
+
+    /// What holds of every list of rows. It does nothing at run time.
+    #[inline(always)]
+    pub fn facts(&self)
+        ensures { All (λ row. HasSumsBelow C.limit row) self.now }
+    {
+        let _spans = &self.spans;
     }
 
     pub fn len(&self) -> usize
@@ -64,7 +72,7 @@ impl<C: Count> RowList<C> {
         self.terms.len()
     }
 
-    pub fn degree(&self, i: usize) -> Tally<C>
+    pub fn degree(&self, i: usize) -> Counter<C>
         requires { i < length self.now }
         ensures { IsSomeAnd (slice_get self.now i) (λ row. row.degree ≡ result) }
     {
@@ -90,14 +98,14 @@ impl<C: Count> RowList<C> {
         let start = self.terms.len() as u32;
         extend_with_clipped(&mut self.terms, terms, degree)?;
         let end = self.terms.len() as u32;
-        let degree = Tally::fitting(degree);
+        let degree = Counter::fitting(degree);
         self.spans.push_reserved(Span { start, end, degree });
         Ok(())
     }
 }
 
 /// The terms from `start` up to `end`.
-fn part<C: Count>(terms: &[FormTerm<C>], start: usize, end: usize) -> &[FormTerm<C>]
+fn part<C: Coefficient>(terms: &[FormTerm<C>], start: usize, end: usize) -> &[FormTerm<C>]
     requires ordered { start ≤ end }
     requires within { end ≤ length terms.now }
     ensures { result.now ≡ slice_range terms.now start end }
@@ -106,7 +114,7 @@ fn part<C: Count>(terms: &[FormTerm<C>], start: usize, end: usize) -> &[FormTerm
 }
 
 /// Adds the terms with coefficients cut down to the degree, or nothing where memory runs out.
-fn extend_with_clipped<C: Count>(
+fn extend_with_clipped<C: Coefficient>(
     all: &mut Vec<FormTerm<C>>,
     terms: &[PositiveTerm],
     degree: Magnitude,
@@ -117,7 +125,7 @@ fn extend_with_clipped<C: Count>(
 {
     all.reserve(terms.len())?;
     for term in terms {
-        let coef = Tally::fitting(term.coef.min(degree));
+        let coef = Counter::fitting(term.coef.min(degree));
         all.push_reserved(FormTerm::new(coef, term.lit));
     }
     Ok(())

@@ -3,7 +3,7 @@
 ghost use Rattle.std.specs.Prelude.{◌≡◌, ◌<◌, ◌^◌};
 ghost use Rattle.pb_normal.specs.NormalForm.{total_coefficient};
 
-use pb_count::{Count, Tally};
+use pb_count::{Coefficient, Counter};
 use pb_inst::{Lit, Magnitude};
 use std::marker::Model;
 
@@ -18,14 +18,14 @@ pub struct PositiveTerm {
 
 /// A term of a form, whose coefficient is of the width in which an engine over the form counts. Contracts see a `PositiveTerm`.
 #[derive(Clone, Copy)]
-pub struct FormTerm<C: Count = u64> {
-    coef: Tally<C>,
+pub struct FormTerm<C: Coefficient = u64> {
+    coef: Counter<C>,
     lit: Lit,
 }
 
 const _: () = prove!(size_of::<FormTerm<u64>>() == 16);
 
-impl<C: Count> Model for FormTerm<C> {
+impl<C: Coefficient> Model for FormTerm<C> {
     ghost use Rattle.pb_normal.specs.declared.terms.PositiveTerm.{PositiveTerm as Term};
 
     ghost Value = { Term };
@@ -35,16 +35,16 @@ impl<C: Count> Model for FormTerm<C> {
     ghost inverse = { λ t. record { coef = t.coef; lit = t.lit } };
 }
 
-impl<C: Count> FormTerm<C> {
+impl<C: Coefficient> FormTerm<C> {
     #[inline]
-    pub(crate) fn new(coef: Tally<C>, lit: Lit) -> FormTerm<C>
+    pub(crate) fn new(coef: Counter<C>, lit: Lit) -> FormTerm<C>
         ensures { result ≡ record { coef = coef; lit = lit } }
     {
         FormTerm { coef, lit }
     }
 
     #[inline]
-    pub fn coef(self) -> Tally<C>
+    pub fn coef(self) -> Counter<C>
         ensures { result ≡ self.coef }
     {
         self.coef
@@ -70,11 +70,11 @@ impl<C: Count> FormTerm<C> {
 }
 
 /// The sum of all coefficients.
-pub fn total_of<C: Count>(terms: &[FormTerm<C>]) -> Tally<C>
+pub fn total_of<C: Coefficient>(terms: &[FormTerm<C>]) -> Counter<C>
     requires { total_coefficient terms.now < C.limit }
     ensures { result ≡ total_coefficient terms.now }
 {
-    let mut total = Tally::of(0);
+    let mut total = Counter::of(0);
     for term in terms {
         total += term.coef();
     }

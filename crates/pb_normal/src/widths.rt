@@ -14,7 +14,7 @@ use std::marker::Model;
 
 /// What is kept at one of two widths.
 #[derive(Drop)]
-pub enum EitherWidth<N, W> {
+pub enum Width<N, W> {
     /// It counts in 64 bits.
     Narrow(N),
     /// It counts in 128 bits.
@@ -25,7 +25,7 @@ pub enum EitherWidth<N, W> {
 /// of 64 bits where the sums of its rows and of its objective are below 2^63, else in numbers of 128. Contracts see a
 /// `NormalForm`.
 pub struct Normal {
-    form: EitherWidth<Form, Form<u128>>,
+    form: Width<Form, Form<u128>>,
 }
 
 impl Model for Normal {
@@ -46,12 +46,12 @@ impl Drop for Normal {
 
 impl Normal {
     /// The form at its width.
-    pub fn form(&self) -> EitherWidth<&Form, &Form<u128>>
+    pub fn form(&self) -> Width<&Form, &Form<u128>>
         ensures { lent result ≡ self.now }
     {
         match &self.form {
-            EitherWidth::Narrow(form) => EitherWidth::Narrow(form),
-            EitherWidth::Wide(form) => EitherWidth::Wide(form),
+            Width::Narrow(form) => Width::Narrow(form),
+            Width::Wide(form) => Width::Wide(form),
         }
     }
 
@@ -61,8 +61,8 @@ impl Normal {
         ensures normal { IsNormal self.now }
     {
         match &self.form {
-            EitherWidth::Narrow(form) => form.vars(),
-            EitherWidth::Wide(form) => form.vars(),
+            Width::Narrow(form) => form.vars(),
+            Width::Wide(form) => form.vars(),
         }
     }
 
@@ -72,8 +72,8 @@ impl Normal {
         ensures normal { IsNormal self.now }
     {
         match &self.form {
-            EitherWidth::Narrow(form) => form.len(),
-            EitherWidth::Wide(form) => form.len(),
+            Width::Narrow(form) => form.len(),
+            Width::Wide(form) => form.len(),
         }
     }
 
@@ -83,8 +83,8 @@ impl Normal {
         ensures { IsSomeAnd (slice_get self.now.rows i) (λ row. row.terms ≡ result) }
     {
         match &self.form {
-            EitherWidth::Narrow(form) => PositiveTerms::narrow(form.terms(i)),
-            EitherWidth::Wide(form) => PositiveTerms::wide(form.terms(i)),
+            Width::Narrow(form) => PositiveTerms::narrow(form.terms(i)),
+            Width::Wide(form) => PositiveTerms::wide(form.terms(i)),
         }
     }
 
@@ -94,8 +94,8 @@ impl Normal {
         ensures { IsSomeAnd (slice_get self.now.rows i) (λ row. row.degree ≡ result) }
     {
         match &self.form {
-            EitherWidth::Narrow(form) => form.degree(i).number(),
-            EitherWidth::Wide(form) => form.degree(i).number(),
+            Width::Narrow(form) => form.degree(i).number(),
+            Width::Wide(form) => form.degree(i).number(),
         }
     }
 
@@ -105,8 +105,8 @@ impl Normal {
         ensures normal { IsNormal self.now }
     {
         match &self.form {
-            EitherWidth::Narrow(form) => form.base(),
-            EitherWidth::Wide(form) => form.base(),
+            Width::Narrow(form) => form.base(),
+            Width::Wide(form) => form.base(),
         }
     }
 
@@ -116,8 +116,8 @@ impl Normal {
         ensures normal { IsNormal self.now }
     {
         match &self.form {
-            EitherWidth::Narrow(form) => PositiveTerms::narrow(form.objective()),
-            EitherWidth::Wide(form) => PositiveTerms::wide(form.objective()),
+            Width::Narrow(form) => PositiveTerms::narrow(form.objective()),
+            Width::Wide(form) => PositiveTerms::wide(form.objective()),
         }
     }
 }
@@ -134,7 +134,7 @@ pub fn normalise(alloc: Global, instance: &Instance) -> Result<Normal, Memory>
 {
     match form_of(alloc, instance) {
         Ok(form) => Ok(Normal {
-            form: EitherWidth::Narrow(form),
+            form: Width::Narrow(form),
         }),
         Err(Unbuilt::Memory) => Err(AllocError),
         Err(Unbuilt::TooWide) => wide(alloc, instance),
@@ -151,7 +151,7 @@ fn wide(alloc: Global, instance: &Instance) -> Result<Normal, Memory>
 {
     match form_of(alloc, instance) {
         Ok(form) => Ok(Normal {
-            form: EitherWidth::Wide(form),
+            form: Width::Wide(form),
         }),
         Err(Unbuilt::Memory) => Err(AllocError),
         Err(Unbuilt::TooWide) => unreachable!(),

@@ -1,15 +1,15 @@
 //! Activities of variables, which conflicts bump. No answer depends on them, so nothing is promised.
 
-use crate::gains::{Gain, LearnedGains};
+use crate::pseudocosts::{Gain, Pseudocosts};
 use pb_inst::Lit;
 
-/// What a conflict adds to the activity of a variable that costs nothing, before any conflict.
+/// What the first conflict adds to the activity of a variable that costs nothing: the unit of activities and bumps.
 pub const BUMP: f64 = 1.0;
 
 /// By how much more each conflict adds than the one before, since what older ones added is to count less: 1 / 0.95.
 const GROWTH: f64 = 1.052_631_578_947_368_4;
 
-/// Where bumps are as large as this, they and all activities are scaled down.
+/// Where bumps are as large as this, they and all activities are scaled down. Only their quotients count, so the order stays.
 const LARGE: f64 = 1e100;
 
 /// What they are multiplied by then.
@@ -18,7 +18,9 @@ const SCALED_DOWN: f64 = 1e-100;
 /// The activity of a variable, and what a conflict adds to it, by the bump of one that costs nothing.
 #[derive(Clone, Copy)]
 pub struct VariableActivity {
+    /// In bumps of the first conflict.
     pub activity: f64,
+    /// How many times as much as to a variable that costs nothing a conflict adds: 1 + cost / mean cost.
     pub bump: f64,
 }
 
@@ -28,35 +30,36 @@ pub struct Activities {
     entries: Vec<VariableActivity>,
     /// What a conflict adds to the activity of a variable that costs nothing.
     bump: f64,
-    gains: LearnedGains,
-    /// Whether gains count too, or activities alone.
+    pseudocosts: Pseudocosts,
+    /// Whether pseudocosts count too, or activities alone. Where rows lead and multipliers don't pay, what decisions gained says
+    /// little, and activities alone lead faster.
     is_led_by_gains: bool,
 }
 
 impl Activities {
     /// These activities, which count alone at first.
-    pub fn new(entries: Vec<VariableActivity>, gains: LearnedGains) -> Activities {
+    pub fn new(entries: Vec<VariableActivity>, pseudocosts: Pseudocosts) -> Activities {
         Activities {
             entries,
             bump: BUMP,
-            gains,
+            pseudocosts,
             is_led_by_gains: false,
         }
     }
 
-    /// Whether gains count too.
+    /// Whether pseudocosts count too.
     pub fn is_led_by_gains(&self) -> bool {
         self.is_led_by_gains
     }
 
-    /// From now on gains count too, or not.
+    /// From now on pseudocosts count too, or not.
     pub fn lead_by_gains(&mut self, is_led: bool) {
         self.is_led_by_gains = is_led;
     }
 
     /// The decision for the literal gained so much.
     pub fn learn(&mut self, lit: Lit, gain: Gain) {
-        self.gains.learn(lit, gain);
+        self.pseudocosts.learn(lit, gain);
     }
 
     /// The activity at the index, 0 where there is none.
@@ -69,10 +72,10 @@ impl Activities {
 
     /// The activity of the variable at the index, times what its decisions gained.
     fn rank(&self, index: u32) -> f64 {
-        self.activity(index) * self.gains.factor(index)
+        self.activity(index) * self.pseudocosts.factor(index)
     }
 
-    /// Whether the first variable comes before the second: by falling activity, or rank where gains count too, and then by
+    /// Whether the first variable comes before the second: by falling activity, or rank where pseudocosts count too, and then by
     /// index.
     pub fn precedes(&self, first: u32, second: u32) -> bool {
         let (before, after) = if self.is_led_by_gains {

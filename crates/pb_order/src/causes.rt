@@ -1,7 +1,7 @@
 //! What led to a conflict: the variables of the row that could not be met, and those of the rows that forced their values,
 //! each found before the trail is walked past it. No answer depends on it, so nothing is promised.
 
-use pb_count::Count;
+use pb_count::Coefficient;
 use pb_inst::{Lit, Memory};
 use pb_rows::RowTerms;
 use pb_trail::Propagator;
@@ -57,7 +57,7 @@ impl Causes {
     }
 
     /// The variables of the row whose literals are false led to the conflict.
-    pub fn add_row<C: Count>(&mut self, propagator: &Propagator<C>, row: RowTerms<'_, C>) {
+    pub fn add_row<C: Coefficient>(&mut self, propagator: &Propagator<C>, row: RowTerms<'_, C>) {
         match row {
             RowTerms::Weighted(terms) => {
                 for term in terms {
@@ -87,7 +87,7 @@ impl Causes {
 
     /// The literal's variable led to the conflict, if the literal is false and was not walked past. A row with coefficients may
     /// have literals that became false after it forced one: they have no part in that.
-    fn add<C: Count>(&mut self, propagator: &Propagator<C>, lit: Lit) {
+    fn add<C: Coefficient>(&mut self, propagator: &Propagator<C>, lit: Lit) {
         if propagator.value(lit.var()) == Some(!lit.positive())
             && let Some(stamp) = self.stamps.get_mut(lit.var() as usize - 1)
             && *stamp < self.known

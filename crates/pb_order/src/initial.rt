@@ -4,7 +4,7 @@
 ghost use Rattle.std.specs.Prelude.{◌≤◌};
 
 use crate::activity::{BUMP, VariableActivity};
-use pb_count::Count;
+use pb_count::Coefficient;
 use pb_inst::{Cube, Lit, Memory};
 use pb_normal::{Form, FormTerm};
 use std::alloc::Global;
@@ -27,7 +27,7 @@ const HALF_SCALE: Score = 4096;
 /// cost) times the sum of coefficient / degree over the variable's rows. A conflict adds 1 + cost / mean cost. Where few
 /// variables have a cost, these begin before the others. Where cubes are to be false, their variables begin before all others,
 /// by falling number of occurrences in them.
-pub fn initial_activities<C: Count>(
+pub fn initial_activities<C: Coefficient>(
     alloc: Global,
     form: &Form<C>,
     scores: &[LiteralScores],
@@ -45,7 +45,7 @@ pub fn initial_activities<C: Count>(
 
 /// For each variable the literal that costs nothing, and the negated one where neither costs. Where nothing is minimised the
 /// literal that does more for its rows, by the sum of coefficient / degree, and the negated one where they do as much.
-pub fn initial_phases<C: Count>(
+pub fn initial_phases<C: Coefficient>(
     alloc: Global,
     form: &Form<C>,
     scores: &[LiteralScores],
@@ -100,7 +100,7 @@ fn greatest(scores: &[Score]) -> Score {
 }
 
 /// Adds to each variable's bump its cost by the mean cost.
-fn add_costs<C: Count>(activities: &mut [VariableActivity], objective: &[FormTerm<C>]) {
+fn add_costs<C: Coefficient>(activities: &mut [VariableActivity], objective: &[FormTerm<C>]) {
     let mean = mean_cost(objective);
     for term in objective {
         if let Some(entry) = activities.get_mut(term.lit().var() as usize - 1) {
@@ -111,7 +111,7 @@ fn add_costs<C: Count>(activities: &mut [VariableActivity], objective: &[FormTer
 
 /// Adds to the activity of each variable with a cost what a conflict adds, where few have one. Decided first they tell early
 /// what the rest will cost; where most have a cost that would leave the rows' order out of the count.
-fn lead_by_costs<C: Count>(activities: &mut [VariableActivity], objective: &[FormTerm<C>]) {
+fn lead_by_costs<C: Coefficient>(activities: &mut [VariableActivity], objective: &[FormTerm<C>]) {
     if objective.len() > activities.len() / VARIABLES_OF_A_COST {
         return;
     }
@@ -122,7 +122,8 @@ fn lead_by_costs<C: Count>(activities: &mut [VariableActivity], objective: &[For
     }
 }
 
-/// How many variables there are at least for each that has a cost where these begin before the others.
+/// How many variables there are at least for each that has a cost where these begin before the others: a criterion over some
+/// of the variables, as the questions of package managers have it.
 const VARIABLES_OF_A_COST: usize = 4;
 
 /// Adds to the activities of the variables that occur, for each time what a conflict adds.
@@ -145,7 +146,7 @@ pub struct LiteralScores {
 }
 
 /// The scores of the literals of each variable.
-pub fn literal_scores<C: Count>(
+pub fn literal_scores<C: Coefficient>(
     alloc: Global,
     form: &Form<C>,
 ) -> Result<Vec<LiteralScores>, Memory> {
@@ -163,7 +164,7 @@ pub fn literal_scores<C: Count>(
 }
 
 /// Adds coefficient / degree to the score of each literal of the row.
-fn add_row<C: Count>(scores: &mut [LiteralScores], terms: &[FormTerm<C>], degree: u128) {
+fn add_row<C: Coefficient>(scores: &mut [LiteralScores], terms: &[FormTerm<C>], degree: u128) {
     for term in terms {
         let lit = term.lit();
         if let Some(scores) = scores.get_mut(lit.var() as usize - 1) {
@@ -178,7 +179,7 @@ fn add_row<C: Count>(scores: &mut [LiteralScores], terms: &[FormTerm<C>], degree
 }
 
 /// The score of each variable, before any conflict.
-fn static_scores<C: Count>(
+fn static_scores<C: Coefficient>(
     alloc: Global,
     form: &Form<C>,
     scores: &[LiteralScores],
@@ -192,7 +193,7 @@ fn static_scores<C: Count>(
 }
 
 /// Multiplies the score of each variable by 1 + cost / mean cost.
-fn raise_by_cost<C: Count>(scores: &mut [Score], objective: &[FormTerm<C>]) {
+fn raise_by_cost<C: Coefficient>(scores: &mut [Score], objective: &[FormTerm<C>]) {
     let mean = mean_cost(objective);
     for term in objective {
         if let Some(score) = scores.get_mut(term.lit().var() as usize - 1) {
@@ -203,7 +204,7 @@ fn raise_by_cost<C: Count>(scores: &mut [Score], objective: &[FormTerm<C>]) {
 }
 
 /// The mean coefficient, at least 1.
-fn mean_cost<C: Count>(objective: &[FormTerm<C>]) -> u128 {
+fn mean_cost<C: Coefficient>(objective: &[FormTerm<C>]) -> u128 {
     let mut total: u128 = 0;
     for term in objective {
         total = total.saturating_add(coefficient(term));
@@ -213,7 +214,7 @@ fn mean_cost<C: Count>(objective: &[FormTerm<C>]) -> u128 {
 }
 
 /// The term's coefficient.
-fn coefficient<C: Count>(term: &FormTerm<C>) -> u128 {
+fn coefficient<C: Coefficient>(term: &FormTerm<C>) -> u128 {
     term.coef().number()
 }
 

@@ -4,10 +4,10 @@ ghost use Rattle.std.specs.Prelude.{◌<◌, length};
 
 use crate::activity::Activities;
 use crate::causes::Causes;
-use crate::gains::{Gain, LearnedGains};
 use crate::heap::Heap;
 use crate::initial::{initial_activities, initial_phases, literal_scores};
-use pb_count::Count;
+use crate::pseudocosts::{Gain, Pseudocosts};
+use pb_count::Coefficient;
 use pb_inst::{Assignment, Cube, Lit, Memory};
 use pb_normal::Form;
 use pb_rows::RowTerms;
@@ -59,11 +59,15 @@ impl Drop for Order {
 
 impl Order {
     /// All variables of the normal form. Where cubes are to be false, their variables come first.
-    pub fn new<C: Count>(alloc: Global, form: &Form<C>, negated: &[Cube]) -> Result<Order, Memory> {
+    pub fn new<C: Coefficient>(
+        alloc: Global,
+        form: &Form<C>,
+        negated: &[Cube],
+    ) -> Result<Order, Memory> {
         let scores = literal_scores(alloc, form)?;
         let entries = initial_activities(alloc, form, &scores, negated)?;
-        let gains = LearnedGains::new(alloc, vars_with_gains(form))?;
-        let activities = Activities::new(entries, gains);
+        let pseudocosts = Pseudocosts::new(alloc, vars_with_gains(form))?;
+        let activities = Activities::new(entries, pseudocosts);
         let heap = Heap::new(alloc, form.vars(), &activities)?;
         let phases = initial_phases(alloc, form, &scores)?;
         let causes = Causes::new(alloc, form.vars())?;
@@ -131,7 +135,7 @@ impl Order {
     /// Where a conflict stands: bumps the activities of the variables of the row that could not be met. Where nothing is
     /// minimised, those of the variables whose values led to that too, back to the decisions, and what was bumped before counts
     /// less from now on.
-    pub fn bump_conflict<C: Count>(&mut self, propagator: &Propagator<C>) {
+    pub fn bump_conflict<C: Coefficient>(&mut self, propagator: &Propagator<C>) {
         // Where a row could not be met the search is hard, so its variables come sooner from now on. Where costs are to be
         // paid, bounds close most nodes, and conflicts tell too little to forget for them what costs and rows told.
         let Some(row) = propagator.conflict_row() else {
@@ -145,7 +149,7 @@ impl Order {
     }
 
     /// Bumps the variables whose values led to the conflict at the row.
-    fn bump_causes<C: Count>(&mut self, propagator: &Propagator<C>, row: usize)
+    fn bump_causes<C: Coefficient>(&mut self, propagator: &Propagator<C>, row: usize)
         requires { row < length propagator.now.rows }
     {
         self.causes.begin();
@@ -159,7 +163,7 @@ impl Order {
     }
 
     /// Bumps the literal's variable where it led to the conflict, and then so did those of the row that forced it.
-    fn bump_cause<C: Count>(&mut self, propagator: &Propagator<C>, lit: Lit) {
+    fn bump_cause<C: Coefficient>(&mut self, propagator: &Propagator<C>, lit: Lit) {
         if self.causes.meet(lit.var()) {
             self.bump(lit);
             if let Some(row) = propagator.reason(lit.var()) {
@@ -169,7 +173,7 @@ impl Order {
     }
 
     /// Bumps the activities of the variables of a row.
-    fn bump_row<C: Count>(&mut self, row: RowTerms<'_, C>) {
+    fn bump_row<C: Coefficient>(&mut self, row: RowTerms<'_, C>) {
         match row {
             RowTerms::Weighted(terms) => {
                 for term in terms {
@@ -192,7 +196,8 @@ impl Order {
         }
     }
 
-    /// At this node gains are to lead the order too, or not. A change waits until enough nodes went by.
+    /// At this node pseudocosts are to lead the order too, or not. A change puts the whole heap in order again, so it waits until
+    /// enough nodes went by.
     pub fn lead_by_gains(&mut self, is_led: bool) {
         self.waited = self.waited.saturating_add(REBUILT_AT_A_NODE);
         if is_led != self.activities.is_led_by_gains() && self.waited >= self.heap.len() {
@@ -210,8 +215,8 @@ impl Order {
     }
 }
 
-/// Of how many variables gains are kept: of none where there is nothing to pay.
-fn vars_with_gains<C: Count>(form: &Form<C>) -> usize {
+/// Of how many variables pseudocosts are kept: of none where there is nothing to pay.
+fn vars_with_gains<C: Coefficient>(form: &Form<C>) -> usize {
     if form.objective().is_empty() {
         return 0;
     }

@@ -1,3 +1,4 @@
 pub mod UnderLemmas
 pub mod ExplainLemmas
 pub mod FixedLemmas
+pub mod KnownLemmas

@@ -4,6 +4,7 @@ use Rattle.std.specs.Option.{IfSome}
 use Rattle.pb_inst.specs.Literal.{Literal}
 use Rattle.pb_inst.specs.Problem.{Problem}
 use Rattle.pb_inst.specs.Meaning.{cost}
+use Rattle.pb_subtree.specs.declared.goal.Goal.{Goal}
 use Rattle.pb_questions.specs.declared.fixing.Among.{Among}
 use Rattle.pb_questions.specs.declared.fixing.Among.TheVariants.{Feasible, Least}
 use Rattle.pb_questions.specs.declared.fixing.Fixed.{Fixed}
@@ -18,6 +19,11 @@ use Rattle.pb_questions.specs.Under.{IsFeasibleUnder, IsInfeasibleUnder}
 abbrev pub IsAskedAbout : Problem → List Literal → Among → List Bool → Type 0
 IsAskedAbout p assumed Feasible a = IsFeasibleUnder p assumed a
 IsAskedAbout p assumed Least a = IsFeasibleUnder p assumed a × ((b : List Bool) → IsFeasibleUnder p assumed b → cost p a ≤ℤ cost p b)
+
+-- what a search for the first of them is for
+abbrev pub first_goal : Among → Goal
+first_goal Feasible = Goal.Any
+first_goal Least = Goal.Least
 
 -- what the status says of the variable at the place: a value in all of these assignments, or both values in two of them
 abbrev pub IsStatusOf : (List Bool → Type 0) → ℕ → VariableStatus → Type 0

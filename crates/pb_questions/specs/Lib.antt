@@ -3,3 +3,4 @@ pub mod Under
 pub mod Sought
 pub mod Explained
 pub mod Fixed
+pub mod Known

@@ -1,9 +1,10 @@
 -- What was sought under assumptions.
-use Rattle.std.specs.Prelude.{◌≡◌, ◌≢◌, ℕ, Bool, false, List, Option, ℤ, ◌≤ℤ◌, IsSomeAnd, slice_index_or, ⊤}
+use Rattle.std.specs.Prelude.{◌≡◌, ◌≢◌, ℕ, Bool, false, List, Option, None, Some, ℤ, ◌≤ℤ◌, IsSomeAnd, slice_index_or, ⊤}
 use Rattle.std.specs.Option.{IfSome}
 use Rattle.pb_inst.specs.Literal.{Literal}
 use Rattle.pb_inst.specs.Problem.{Problem}
 use Rattle.pb_inst.specs.Meaning.{cost}
+use Rattle.pb_subtree.specs.declared.goal.Goal.{Goal}
 use Rattle.pb_questions.specs.declared.seeking.Sought.{Sought}
 use Rattle.pb_questions.specs.declared.seeking.Sought.TheVariants.{Found, Nothing, Cut}
 use Rattle.pb_questions.specs.Under.{IsFeasibleUnder}
@@ -12,6 +13,11 @@ use Rattle.pb_questions.specs.Under.{IsFeasibleUnder}
 pub record IsWithin (p : Problem) (assumed : List Literal) (bound : Option ℤ) (a : List Bool) : Type 0 where
   pub feasible : IsFeasibleUnder p assumed a
   pub within : IfSome bound (λ most. cost p a ≤ℤ most)
+
+-- what a search for such an assignment is for
+abbrev pub goal_within : Option ℤ → Goal
+goal_within None = Goal.Any
+goal_within (Some most) = Goal.AtMost most
 
 -- such an assignment is held, or there is none
 abbrev pub IsAnswerTo : Problem → List Literal → Option ℤ → Sought → Type 0

@@ -2,11 +2,12 @@
 
 ghost use Rattle.std.specs.Prelude.{◌≡◌, ◌≢◌, ◌<◌, ◌≤◌, true, false, None, All, IfOk, IfNone, OnOk, length, replicate, slice_index_or};
 ghost use Rattle.pb_questions.specs.Sought.{IsAnswerToOther, IsWithin};
-ghost use Rattle.pb_questions.specs.Fixed.{fixed_to, AreKnown, AreStatusesOf, AreUnknown, HoldsFor, IsFixedAnswer, IsLearned, MarksFree};
+ghost use Rattle.pb_questions.specs.Fixed.{first_goal, fixed_to, AreKnown, AreStatusesOf, AreUnknown, HoldsFor, IsFixedAnswer, IsLearned, MarksFree};
 
 use crate::Questions;
 use crate::seeking::Sought;
 use pb_inst::{Assignment, Lit, Memory, Number};
+use pb_search::Goal;
 
 /// The assignments that are asked about.
 #[derive(Clone, Copy, Debug, PartialEq, Eq)]
@@ -56,7 +57,7 @@ impl<'a> Questions<'a> {
     {
         let mut left = nodes;
         let named = self.named(assumptions)?;
-        let answer = self.search_under(&named, &mut left)?;
+        let answer = self.search_for(&named, first_goal(among), &mut left)?;
         let Some(first) = answer.best.assignment() else {
             return self.without_first(answer.cut);
         };
@@ -141,6 +142,16 @@ impl<'a> Questions<'a> {
         let sought = self.seek(cube, bound, left)?;
         cube.pop();
         Ok(sought)
+    }
+}
+
+/// What the search for the first of the assignments is for.
+fn first_goal(among: Among) -> Goal
+    ensures { result ≡ first_goal among }
+{
+    match among {
+        Among::Feasible => Goal::Any,
+        Among::Least => Goal::Least,
     }
 }
 

@@ -1,13 +1,15 @@
 //! Questions on one instance, each under assumptions: the least assignment that makes some literals true (`questions`), why
 //! there is none (`explaining`), and which variables have one value in all that are left (`fixing`). One search answers all
-//! of them, so what it learned in one is there for the next.
+//! of them, so what it learned in one is there for the next, and answers that follow from earlier ones (`known`) take none.
 #![tactic(auto)]
 
 mod explaining;
 mod fixing;
+mod known;
 mod questions;
 mod seeking;
 
 pub use explaining::{Core, Explanation};
 pub use fixing::{Among, Fixed, VariableStatus};
+pub use known::KnownAnswers;
 pub use questions::{Answer, Questions};

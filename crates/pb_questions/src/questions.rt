@@ -1,14 +1,17 @@
 //! The questions' search, and the least assignment under assumptions.
 
-ghost use Rattle.std.specs.Prelude.{◌≡◌, ◌≤◌, false, None, length, All, IfOk, IfNone, IfSome, IsTrue};
+ghost use Rattle.std.specs.Prelude.{◌≡◌, ◌≢◌, ◌≤◌, false, true, None, length, All, IfOk, IfNone, IfSome, IsTrue};
 ghost use Rattle.std.specs.Option.{is_some};
 ghost use Rattle.pb_inst.specs.Cubes.{MakesTrue};
-ghost use Rattle.pb_inst.specs.declared.TheConstants.{MAX_VARS};
+ghost use Rattle.pb_inst.specs.declared.limits.TheConstants.{MAX_VARS};
 ghost use Rattle.pb_questions.specs.Form.{IsFormOf};
+ghost use Rattle.pb_subtree.specs.Goal.{IsMet};
+ghost use Rattle.pb_questions.specs.Known.{AreAnswersOf, IsAnswerOf, Tells};
 ghost use Rattle.pb_questions.specs.Under.{named_literals, HoldsLeastUnder, HoldsUnder};
 
+use crate::known::{Kind, KnownAnswer, KnownAnswers};
 use pb_inst::{Assignment, Best, Instance, Lit, Memory};
-use pb_search::{Alone, Outcome, WholeSearch};
+use pb_search::{Alone, Goal, Outcome, WholeSearch};
 use std::alloc::Global;
 use std::marker::Model;
 
@@ -22,6 +25,7 @@ pub struct Questions<'a> {
     alloc: Global,
     instance: &'a Instance,
     search: WholeSearch,
+    known: KnownAnswers,
     suggestion: Option<&'a Assignment>,
     /// Room for the next assignment that is found, where some was lent.
     room: Option<Assignment>,
@@ -34,10 +38,11 @@ impl<'a> Model for Questions<'a> {
 
     ghost use Rattle.std.specs.Prelude.{◌≡◌, length, IfSome};
     ghost use Rattle.pb_questions.specs.Form.{IsFormOf};
+    ghost use Rattle.pb_questions.specs.Known.{AreAnswersOf};
 
     ghost view = { λ q. q.instance.now };
 
-    ghost invariant = { λ q. IsFormOf q.instance.now q.search × IfSome q.suggestion (λ s. length s.now ≡ q.instance.now.vars) × IfSome q.room (λ r. length r ≡ q.instance.now.vars) };
+    ghost invariant = { λ q. IsFormOf q.instance.now q.search × AreAnswersOf q.instance.now q.known × IfSome q.suggestion (λ s. length s.now ≡ q.instance.now.vars) × IfSome q.room (λ r. length r ≡ q.instance.now.vars) };
 }
 
 /// What a search under assumptions held at its end.
@@ -50,15 +55,17 @@ pub struct Answer<'a> {
 }
 
 impl<'a> Questions<'a> {
-    /// Questions that are asked of a search of the instance. A suggestion is an assignment to its variables, of which nothing
+    /// Questions that are asked of a search of the instance, and of answers to earlier ones on it. A suggestion is an assignment to its variables, of which nothing
     /// else is known. Where it is feasible and makes a question's assumptions true, the search begins with it as the best one.
     pub fn new(
         alloc: Global,
         instance: &'a Instance,
         search: WholeSearch,
+        known: KnownAnswers,
         suggestion: Option<&'a Assignment>,
     ) -> Questions<'a>
         requires search { IsFormOf instance.now search }
+        requires known { AreAnswersOf instance.now known }
         requires suggestion { IfSome suggestion (λ s. length s.now ≡ instance.now.vars) }
         ensures { result ≡ instance.now }
     {
@@ -66,6 +73,7 @@ impl<'a> Questions<'a> {
             alloc,
             instance,
             search,
+            known,
             suggestion,
             room: None,
         }
@@ -80,11 +88,12 @@ impl<'a> Questions<'a> {
         self.room = Some(room);
     }
 
-    /// The search, with what the questions taught it.
-    pub fn into_search(self) -> WholeSearch
-        ensures { IsFormOf self.entry result }
+    /// The search, with what the questions taught it, and the answers that are kept.
+    pub fn into_parts(self) -> (WholeSearch, KnownAnswers)
+        ensures search { IsFormOf self.entry result.0 }
+        ensures known { AreAnswersOf self.entry result.1 }
     {
-        self.search
+        (self.search, self.known)
     }
 
     /// Searches for the least assignment under the assumptions, with at most `nodes` decisions where a budget is given.
@@ -128,7 +137,7 @@ impl<'a> Questions<'a> {
             .collect(self.alloc)
     }
 
-    /// Searches for the least assignment that makes the cube true, with what is left of a budget. Fails where memory is
+    /// Finds the least assignment that makes the cube true, with what is left of a budget, or knows it. Fails where memory is
     /// refused.
     pub(crate) fn search_under(
         &mut self,
@@ -142,10 +151,73 @@ impl<'a> Questions<'a> {
         ensures no_budget { IfNone left.old ((left.new ≡ None) × IfOk result (λ answer. answer.cut ≡ false)) }
         ensures unchanged { self.new ≡ self.old }
     {
+        self.search_for(cube, Goal::Least, left)
+    }
+
+    /// The same for any goal: where that is met the search may be cut.
+    pub(crate) fn search_for(
+        &mut self,
+        cube: &[Lit],
+        goal: Goal,
+        left: &mut Option<u64>,
+    ) -> Result<Answer<'a>, Memory>
+        requires { All (λ l. l.var ≤ self.old.vars) cube.now }
+        ensures same_instance { IfOk result (λ answer. answer.best.problem ≡ self.old) }
+        ensures under { IfOk result (λ answer. HoldsUnder self.old cube.now answer.best.held) }
+        ensures least { IfOk result (λ answer. answer.cut ≡ false → HoldsLeastUnder self.old cube.now answer.best.held) }
+        ensures no_budget { IfNone left.old ((left.new ≡ None) × IfOk result (λ answer. answer.cut ≡ true → IsMet goal answer.best.held)) }
+        ensures unchanged { self.new ≡ self.old }
+    {
+        if let Some(best) = self.recall(cube)? {
+            return Ok(Answer { best, cut: false });
+        }
+        let answer = self.search_anew(cube, goal, left)?;
+        if !answer.cut {
+            self.known.note(cube, &answer.best);
+        }
+        Ok(answer)
+    }
+
+    /// What is held at the end of a search under the cube, where that follows from an earlier answer. Fails where memory is
+    /// refused.
+    fn recall(&mut self, cube: &[Lit]) -> Result<Option<Best<'a>>, Memory>
+        requires { All (λ l. l.var ≤ self.old.vars) cube.now }
+        ensures same_instance { IfOk result (λ told. IfSome told (λ best. best.problem ≡ self.old)) }
+        ensures least { IfOk result (λ told. IfSome told (λ best. HoldsLeastUnder self.old cube.now best.held)) }
+        ensures unchanged { self.new ≡ self.old }
+    {
+        let room = self.take_room()?;
+        let last = self.known.last.tells(cube);
+        if last != Kind::Open {
+            return Ok(Some(best_told(self.instance, room, &self.known.last, cube, last)));
+        }
+        let first = self.known.first.tells(cube);
+        if first != Kind::Open {
+            return Ok(Some(best_told(self.instance, room, &self.known.first, cube, first)));
+        }
+        self.room = Some(room);
+        Ok(None)
+    }
+
+    /// Searches for the least assignment that makes the cube true, until the goal is met, with what is left of a budget. Fails
+    /// where memory is refused.
+    fn search_anew(
+        &mut self,
+        cube: &[Lit],
+        goal: Goal,
+        left: &mut Option<u64>,
+    ) -> Result<Answer<'a>, Memory>
+        requires { All (λ l. l.var ≤ self.old.vars) cube.now }
+        ensures same_instance { IfOk result (λ answer. answer.best.problem ≡ self.old) }
+        ensures under { IfOk result (λ answer. HoldsUnder self.old cube.now answer.best.held) }
+        ensures least { IfOk result (λ answer. answer.cut ≡ false → HoldsLeastUnder self.old cube.now answer.best.held) }
+        ensures no_budget { IfNone left.old ((left.new ≡ None) × IfOk result (λ answer. answer.cut ≡ true → IsMet goal answer.best.held)) }
+        ensures unchanged { self.new ≡ self.old }
+    {
         let mut best = self.first_best(cube)?;
         // A call tells that the variables are no more than an instance may have.
         let _ = self.instance.vars();
-        let outcome = self.search.run(cube, &mut best, &mut Alone, left);
+        let outcome = self.search.run(cube, &mut best, &mut Alone, goal, left);
         // A call tells that what is held is a solution.
         let _ = best.cost();
         Ok(Answer {
@@ -154,8 +226,8 @@ impl<'a> Questions<'a> {
         })
     }
 
-    /// What a search of the assignments that make the cube true begins with: the suggestion, where there is one and it is such an
-    /// assignment and feasible. Fails where memory is refused.
+    /// What a search of the assignments that make the cube true begins with: the best of the suggestion and of what earlier
+    /// questions found, where they are such assignments and feasible. Fails where memory is refused.
     fn first_best(&mut self, cube: &[Lit]) -> Result<Best<'a>, Memory>
         requires { All (λ l. l.var ≤ self.old.vars) cube.now }
         ensures same_instance { IfOk result (λ best. best.problem ≡ self.old) }
@@ -164,10 +236,17 @@ impl<'a> Questions<'a> {
     {
         let room = self.take_room()?;
         let mut best = Best::within(self.instance, room);
-        if let Some(values) = self.suggestion
-            && meets(values, cube)
-        {
-            let _ = best.take(values);
+        if let Some(values) = self.suggestion {
+            begin_with(&mut best, values, cube);
+        }
+        // With an objective the search finds better ones at once, and a worse one steers it elsewhere.
+        if !self.instance.has_objective() {
+            if let Some(values) = self.known.first.least() {
+                begin_with(&mut best, values, cube);
+            }
+            if let Some(values) = self.known.last.least() {
+                begin_with(&mut best, values, cube);
+            }
         }
         Ok(best)
     }
@@ -204,8 +283,43 @@ impl<'a> Questions<'a> {
     }
 }
 
+/// Begins with the assignment where it makes the cube true, is feasible, and is before what is held.
+fn begin_with(best: &mut Best<'_>, values: &Assignment, cube: &[Lit])
+    requires count { length values.now ≡ best.old.problem.vars }
+    requires variables { All (λ l. l.var ≤ best.old.problem.vars) cube.now }
+    requires under { HoldsUnder best.old.problem cube.now best.old.held }
+    ensures same_instance { best.new.problem ≡ best.old.problem }
+    ensures under { HoldsUnder best.old.problem cube.now best.new.held }
+{
+    if meets(values, cube) {
+        let _ = best.take(values);
+    }
+}
+
+/// What is held where an answer tells of the cube what it is.
+fn best_told<'a>(
+    instance: &'a Instance,
+    room: Assignment,
+    known: &KnownAnswer,
+    cube: &[Lit],
+    kind: Kind,
+) -> Best<'a>
+    requires room { length room ≡ instance.now.vars }
+    requires known { IsAnswerOf instance.now known.now }
+    requires told { kind ≢ Kind.Open }
+    requires tells { Tells instance.now cube.now known.now.values kind }
+    ensures same_instance { result.problem ≡ instance.now }
+    ensures least { HoldsLeastUnder instance.now cube.now result.held }
+{
+    let mut best = Best::within(instance, room);
+    if kind == Kind::Least {
+        let _ = best.take(known.values());
+    }
+    best
+}
+
 /// Whether the assignment makes the cube true.
-fn meets(values: &Assignment, cube: &[Lit]) -> bool
+pub(crate) fn meets(values: &Assignment, cube: &[Lit]) -> bool
     requires { All (λ l. l.var ≤ length values.now) cube.now }
     ensures { IsTrue result → MakesTrue values.now cube.now }
 {

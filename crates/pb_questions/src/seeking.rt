@@ -1,10 +1,11 @@
 //! The search for any assignment under assumptions that costs no more than a bound.
 
 ghost use Rattle.std.specs.Prelude.{◌≡◌, ◌≢◌, ◌≤◌, ◌≤ℤ◌, ◌<ℤ◌, false, None, All, IfOk, IfNone, IfSome, IsSomeAnd, IsTrue};
-ghost use Rattle.pb_questions.specs.Sought.{IsAnswerTo};
+ghost use Rattle.pb_questions.specs.Sought.{goal_within, IsAnswerTo};
 
 use crate::Questions;
 use pb_inst::{Best, Lit, Memory, Number};
+use pb_search::Goal;
 
 /// What came of such a search.
 #[derive(Drop)]
@@ -19,7 +20,7 @@ pub enum Sought<'a> {
 
 impl<'a> Questions<'a> {
     /// Seeks an assignment that makes the cube true and costs no more than the bound, where one is given, with what is left
-    /// of a budget. It searches for the least one: no search ends at the first that it finds. Fails where memory is refused.
+    /// of a budget. The search ends at the first that it finds. Fails where memory is refused.
     pub(crate) fn seek(
         &mut self,
         cube: &[Lit],
@@ -31,7 +32,7 @@ impl<'a> Questions<'a> {
         ensures no_budget { IfNone left.old ((left.new ≡ None) × IfOk result (λ sought. sought ≢ Sought.Cut)) }
         ensures unchanged { self.new ≡ self.old }
     {
-        let answer = self.search_under(cube, left)?;
+        let answer = self.search_for(cube, goal_within(bound), left)?;
         Ok(if holds_within(&answer.best, bound) {
             Sought::Found(answer.best)
         } else if answer.cut {
@@ -39,6 +40,16 @@ impl<'a> Questions<'a> {
         } else {
             Sought::Nothing
         })
+    }
+}
+
+/// The goal of such a search.
+fn goal_within(bound: Option<Number>) -> Goal
+    ensures { result ≡ goal_within bound }
+{
+    match bound {
+        Some(most) => Goal::AtMost(most),
+        None => Goal::Any,
     }
 }
 

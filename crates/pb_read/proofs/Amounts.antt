@@ -9,7 +9,7 @@ use Rattle.std.proofs.lemmas.Grind.{flat_map-append}
 use Rattle.pb_inst.specs.declared.constraints.Term.{Term}
 use Rattle.pb_inst.specs.Problem.{LinearConstraint, Statements}
 use Rattle.pb_inst.specs.Limits.{total_magnitude, term_count}
-use Rattle.pb_inst.specs.declared.TheConstants.{MAX_CONSTRAINTS, MAX_TERMS}
+use Rattle.pb_inst.specs.declared.limits.TheConstants.{MAX_CONSTRAINTS, MAX_TERMS}
 use Rattle.pb_read.specs.Runs.{first_is}
 use Rattle.pb_read.specs.Terms.{greatest_index}
 use Rattle.pb_read.specs.Refusal.{first_kind}

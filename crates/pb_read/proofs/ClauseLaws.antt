@@ -2,7 +2,7 @@
 use Rattle.std.proofs.Common.{◌≡◌, ℕ, ◌+◌, ◌<◌, ◌≤◌, min, refl, List, [], ◌∷◌, ◌++◌, Bool, false, ◌||◌, length, arith, Option, Some, None, ltb}
 use Rattle.std.specs.List.{AllByRecursion}
 use Rattle.std.proofs.lemmas.Bool.{or_parts, or_from, le-ltb, ltb-false, not-false, lt-ltb, ltb-true}
-use Rattle.pb_inst.specs.declared.TheConstants.{MAX_CONSTRAINTS, MAX_TERMS}
+use Rattle.pb_inst.specs.declared.limits.TheConstants.{MAX_CONSTRAINTS, MAX_TERMS}
 use Rattle.pb_read.specs.Refusal.{first_kind}
 use Rattle.pb_read.specs.Clauses.{Word, literals_in, word_faults, clause_faults, all_there}
 use Rattle.pb_read.proofs.ClausesSpelled.{Passes, IsTable, words_clear, words_back}

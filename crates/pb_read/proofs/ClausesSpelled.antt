@@ -7,7 +7,7 @@ use Rattle.std.proofs.lemmas.List.{append-nil, length-append}
 use Rattle.std.proofs.lemmas.List.Sums.{sum_by-append, sum_by-cons}
 use Rattle.std.proofs.lemmas.List.Folds.{flat_map-map}
 use Rattle.pb_inst.specs.Literal.{Literal}
-use Rattle.pb_inst.specs.declared.TheConstants.{MAX_TERMS}
+use Rattle.pb_inst.specs.declared.limits.TheConstants.{MAX_TERMS}
 use Rattle.pb_read.specs.declared.fault.ReadKind.{ReadKind}
 use Rattle.pb_read.specs.declared.fault.ReadFault.{ReadFault}
 use Rattle.pb_read.specs.Runs.{pieces}

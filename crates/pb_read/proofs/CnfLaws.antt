@@ -3,7 +3,7 @@ use Rattle.std.proofs.Common.{◌≡◌, ℕ, refl, sym, ap, ◌∙◌, List, []
 use Rattle.std.proofs.lemmas.Bool.{or_parts, or_from, le-ltb, ltb-false}
 use Rattle.pb_inst.specs.Literal.{Literal}
 use Rattle.pb_inst.specs.Problem.{Problem}
-use Rattle.pb_inst.specs.declared.TheConstants.{MAX_VARS, MAX_CONSTRAINTS}
+use Rattle.pb_inst.specs.declared.limits.TheConstants.{MAX_VARS, MAX_CONSTRAINTS}
 use Rattle.pb_read.specs.declared.fault.ReadKind.TheVariants.{TooMany, TooFewClauses}
 use Rattle.pb_read.specs.declared.fault.ReadFault.{ReadFault}
 use Rattle.pb_read.specs.Text.{Placed, items, content, clause_lines, last_line, words}

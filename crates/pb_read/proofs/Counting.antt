@@ -4,7 +4,7 @@ use Rattle.std.specs.Prelude.{count_by}
 use Rattle.std.proofs.lemmas.Bool.{lt-ltb, ltb-true, false≢true}
 use Rattle.std.proofs.lemmas.List.Sums.{sum_by-append, sum_by-cons}
 use Rattle.pb_inst.specs.Literal.{Literal}
-use Rattle.pb_inst.specs.declared.TheConstants.{MAX_TERMS}
+use Rattle.pb_inst.specs.declared.limits.TheConstants.{MAX_TERMS}
 use Rattle.pb_read.specs.declared.fault.ReadKind.TheVariants.{Unfinished, Syntax, BadVariable, TooMany}
 use Rattle.pb_read.specs.Refusal.{first_kind}
 use Rattle.pb_read.specs.Clauses.{Word, is_literal, whole_words, literals_in, literal_count, word_faults}

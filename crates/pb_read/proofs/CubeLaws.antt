@@ -2,7 +2,7 @@
 use Rattle.std.proofs.Common.{◌≡◌, ℕ, ◌+◌, min, sym, ◌∙◌, List, [], ◌∷◌, ◌++◌, Bool, true, ◌||◌, length, arith, None, ltb}
 use Rattle.std.proofs.lemmas.Bool.{or_parts, or_from, le-ltb, ltb-false, not-false}
 use Rattle.pb_inst.specs.Literal.{Literal}
-use Rattle.pb_inst.specs.declared.TheConstants.{MAX_TERMS, MAX_VARS}
+use Rattle.pb_inst.specs.declared.limits.TheConstants.{MAX_TERMS, MAX_VARS}
 use Rattle.pb_read.specs.declared.fault.ReadKind.{ReadKind}
 use Rattle.pb_read.specs.declared.fault.ReadKind.TheVariants.{Syntax}
 use Rattle.pb_read.specs.Text.{Placed, items, content}

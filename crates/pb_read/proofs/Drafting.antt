@@ -5,7 +5,7 @@ use Rattle.std.specs.List.{list_any, AllByRecursion}
 use Rattle.std.proofs.lemmas.Bool.{le-ltb, ne_eqb}
 use Rattle.std.proofs.lemmas.List.{append-nil}
 use Rattle.std.proofs.lemmas.List.Sums.{sum_by-cons, fold-append}
-use Rattle.pb_inst.specs.declared.TheConstants.{MAX_VARS, SUM_BOUND}
+use Rattle.pb_inst.specs.declared.limits.TheConstants.{MAX_VARS, SUM_BOUND}
 use Rattle.pb_inst.specs.declared.constraints.Relation.{Relation}
 use Rattle.pb_inst.specs.declared.constraints.Term.{Term}
 use Rattle.pb_inst.specs.Literal.{Literal}

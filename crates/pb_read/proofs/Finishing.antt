@@ -2,7 +2,7 @@
 use Rattle.std.proofs.Common.{◌≡◌, ◌<◌, ◌≤◌, sym, ap, ◌∙◌, List, Bool, true, false, None, Option, arith, ltb}
 use Rattle.std.proofs.lemmas.Bool.{ltb-true, ltb-false}
 use Rattle.std.specs.Prelude.{sum_by}
-use Rattle.pb_inst.specs.declared.TheConstants.{SUM_BOUND}
+use Rattle.pb_inst.specs.declared.limits.TheConstants.{SUM_BOUND}
 use Rattle.pb_read.specs.declared.fault.ReadKind.{ReadKind}
 use Rattle.pb_read.specs.Runs.{first_is}
 use Rattle.pb_read.specs.Refusal.{first_kind}

@@ -10,7 +10,7 @@ use Rattle.std.proofs.lemmas.Bool.{not-false, false≢true, lt-ltb, ltb-true}
 use Rattle.pb_inst.specs.Literal.{Literal}
 use Rattle.pb_inst.specs.Problem.{LinearConstraint, Statements}
 use Rattle.pb_inst.specs.Constraints.{clause_constraint}
-use Rattle.pb_inst.specs.declared.TheConstants.{MAX_CONSTRAINTS, MAX_TERMS}
+use Rattle.pb_inst.specs.declared.limits.TheConstants.{MAX_CONSTRAINTS, MAX_TERMS}
 use Rattle.pb_read.specs.declared.fault.ReadKind.{ReadKind}
 use Rattle.pb_read.specs.declared.fault.ReadFault.{ReadFault}
 use Rattle.pb_read.specs.declared.dimacs.clause_reader.ClauseReader.{ClauseReader}

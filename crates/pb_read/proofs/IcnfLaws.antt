@@ -2,7 +2,7 @@
 use Rattle.std.proofs.Common.{◌≡◌, ℕ, refl, sym, ap, ◌∙◌, List, [], ◌∷◌, Bool, true, false, cond, map, arith, Option, Some, None, max}
 use Rattle.pb_inst.specs.Literal.{Literal}
 use Rattle.pb_inst.specs.Problem.{Problem}
-use Rattle.pb_inst.specs.declared.TheConstants.{MAX_VARS}
+use Rattle.pb_inst.specs.declared.limits.TheConstants.{MAX_VARS}
 use Rattle.pb_read.specs.declared.fault.ReadKind.TheVariants.{BadHeader, ClauseAfterCube}
 use Rattle.pb_read.specs.declared.fault.ReadFault.{ReadFault}
 use Rattle.pb_read.specs.Text.{Placed, items, content, clause_lines, last_line, words}

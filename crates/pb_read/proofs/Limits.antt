@@ -7,7 +7,7 @@ use Rattle.std.proofs.lemmas.List.{length-append}
 use Rattle.std.proofs.lemmas.List.Elements.{All-nil, All-cons}
 use Rattle.std.proofs.lemmas.List.Concat.{length-flat_map}
 use Rattle.pb_inst.specs.declared.constraints.Term.{Term}
-use Rattle.pb_inst.specs.declared.TheConstants.{MAX_VARS, MAX_CONSTRAINTS, MAX_TERMS, SUM_BOUND}
+use Rattle.pb_inst.specs.declared.limits.TheConstants.{MAX_VARS, MAX_CONSTRAINTS, MAX_TERMS, SUM_BOUND}
 use Rattle.pb_inst.specs.Problem.{LinearConstraint, Problem}
 use Rattle.pb_inst.specs.Limits.{total_magnitude, constraint_magnitude, constraint_terms, AllVariablesWithin, IsProper}
 use Rattle.pb_read.specs.Terms.{all_terms}

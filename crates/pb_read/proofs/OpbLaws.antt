@@ -18,7 +18,7 @@ use Rattle.pb_inst.specs.Problem.{LinearConstraint, Problem}
 use Rattle.pb_read.proofs.Limits.{WithinLimits, all_append, all_front, all_back, all_map, all_both, proper_from_limits, limits_from_proper}
 use Rattle.pb_read.specs.Terms.{all_terms, greatest_index}
 use Rattle.pb_inst.specs.Limits.{total_magnitude}
-use Rattle.pb_inst.specs.declared.TheConstants.{MAX_VARS, MAX_CONSTRAINTS, MAX_TERMS, SUM_BOUND}
+use Rattle.pb_inst.specs.declared.limits.TheConstants.{MAX_VARS, MAX_CONSTRAINTS, MAX_TERMS, SUM_BOUND}
 use Rattle.pb_read.specs.Refusal.{first_kind, first_fault, at_line, ◌or_else◌}
 use Rattle.pb_read.specs.Opb.{Token, End, Min, Related, Number, Lit, term_tokens, objective_tokens, constraint_tokens, instance_tokens, is_end, is_relation, is_literal, statement_faults, statements, statement_of, tokens, header, opb_refusal, OpbText}
 use Rattle.pb_read.specs.Reading.{IsMemory}

@@ -8,7 +8,7 @@ use Rattle.pb_inst.specs.Literal.{Literal}
 use Rattle.pb_read.specs.declared.fault.ReadKind.TheVariants.{Unfinished, Syntax, BadVariable, TooMany}
 use Rattle.pb_read.specs.Refusal.{first_kind}
 use Rattle.pb_read.specs.declared.dimacs.word.Word.TheVariants as variants
-use Rattle.pb_inst.specs.declared.TheConstants.{MAX_VARS}
+use Rattle.pb_inst.specs.declared.limits.TheConstants.{MAX_VARS}
 use Rattle.pb_read.specs.Clauses.{Word, word_of, Lit, Zero, Bad, is_zero, is_over, is_whole, word_faults, whole_words}
 use Rattle.pb_read.specs.Capped.{cap_count}
 use Rattle.pb_read.specs.ClauseReading.{capped, IsBroken, Scanned, ending}

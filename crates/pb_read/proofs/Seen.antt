@@ -2,7 +2,7 @@
 use Rattle.std.proofs.Common.{◌≡◌, ℕ, zero, suc, ◌+◌, ◌<◌, ◌≤◌, refl, sym, ap, ◌∙◌, List, [], ◌∷◌, ◌++◌, Bool, true, false, Some, None, arith, ltb, eqb, inl, inr, cond, ℤ, pos, negsuc}
 use Rattle.std.specs.Prelude.{unsigned_abs, int_lt}
 use Rattle.std.proofs.lemmas.Bool.{cases_Bool, ltb-true, ltb-false, lt-ltb, le-ltb, ne_eqb, or_parts}
-use Rattle.pb_inst.specs.declared.TheConstants.{MAX_VARS, SUM_BOUND}
+use Rattle.pb_inst.specs.declared.limits.TheConstants.{MAX_VARS, SUM_BOUND}
 use Rattle.pb_read.specs.declared.opb.form.Place.{Place}
 use Rattle.pb_read.specs.declared.opb.form.Place.TheVariants.{Start, Terms, Coefficient, Literals, AfterRelation, AfterNumber, Whole, Wrong}
 use Rattle.pb_read.specs.declared.opb.token.Token as code

@@ -11,7 +11,7 @@ use Rattle.pb_inst.specs.Literal.{Literal}
 use Rattle.pb_inst.specs.declared.constraints.Term.{Term}
 use Rattle.pb_inst.specs.Problem.{LinearConstraint}
 use Rattle.pb_inst.specs.Limits.{total_magnitude}
-use Rattle.pb_inst.specs.declared.TheConstants.{MAX_VARS, MAX_CONSTRAINTS, MAX_TERMS, SUM_BOUND}
+use Rattle.pb_inst.specs.declared.limits.TheConstants.{MAX_VARS, MAX_CONSTRAINTS, MAX_TERMS, SUM_BOUND}
 use Rattle.pb_read.specs.Refusal.{Faults, first_kind}
 use Rattle.pb_read.specs.Opb.{Token, End, Min, Related, Number, Lit, term_tokens, objective_tokens, constraint_tokens, is_end, is_min, is_relation, is_literal, has_bad_index, size, both_literals, without_products, are_terms_and_end, is_objective, is_constraint, has_shape, statement_faults}
 

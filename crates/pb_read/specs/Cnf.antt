@@ -5,7 +5,7 @@ use Rattle.pb_read.specs.declared.fault.ReadFault.{ReadFault}
 use Rattle.pb_read.specs.Text.{Placed, items, clause_lines, content, last_line, words, is_text, are_digits, value}
 use Rattle.pb_inst.specs.Literal.{Literal}
 use Rattle.pb_inst.specs.Problem.{Problem}
-use Rattle.pb_inst.specs.declared.TheConstants.{MAX_VARS, MAX_CONSTRAINTS, MAX_TERMS}
+use Rattle.pb_inst.specs.declared.limits.TheConstants.{MAX_VARS, MAX_CONSTRAINTS, MAX_TERMS}
 use Rattle.pb_read.specs.Refusal.{first_fault, at_line, ◌or_else◌}
 use Rattle.pb_read.specs.Clauses.{Word, clause_faults, whole_words, placed_words, clauses_on, clause_instance, VarsUpTo, literal_count}
 

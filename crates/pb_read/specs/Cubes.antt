@@ -7,7 +7,7 @@ use Rattle.pb_read.specs.declared.fault.ReadFault.{ReadFault}
 use Rattle.pb_read.specs.Runs.{first_is}
 use Rattle.pb_read.specs.Text.{items, content, words, is_text}
 use Rattle.pb_inst.specs.Literal.{Literal}
-use Rattle.pb_inst.specs.declared.TheConstants.{MAX_VARS, MAX_TERMS}
+use Rattle.pb_inst.specs.declared.limits.TheConstants.{MAX_VARS, MAX_TERMS}
 use Rattle.pb_read.specs.Refusal.{Faults, first_fault}
 use Rattle.pb_read.specs.Clauses.{Word, word_faults, word_of, whole_words, literals_in, VarsUpTo, literal_count}
 

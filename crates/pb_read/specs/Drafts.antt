@@ -4,7 +4,7 @@ use Rattle.pb_inst.specs.Literal.{Literal}
 use Rattle.pb_inst.specs.declared.constraints.Term.{Term}
 use Rattle.pb_inst.specs.declared.constraints.Relation.{Relation}
 use Rattle.pb_inst.specs.declared.constraints.Relation.TheVariants.{Equal}
-use Rattle.pb_inst.specs.declared.TheConstants.{SUM_BOUND}
+use Rattle.pb_inst.specs.declared.limits.TheConstants.{SUM_BOUND}
 use Rattle.pb_read.specs.declared.fault.ReadKind.TheVariants.{LateObjective, Syntax, NonLinear, BadVariable}
 use Rattle.pb_read.specs.declared.opb.form.Place.{Place}
 use Rattle.pb_read.specs.declared.opb.form.Place.TheVariants.{Start}

@@ -1,5 +1,5 @@
--- What a text means, by its format.
-use Rattle.std.specs.Prelude.{◌≡◌, ℕ, List, [], Option}
+-- What a text means, by its format, and what the formats write.
+use Rattle.std.specs.Prelude.{◌≡◌, ℕ, Bool, true, false, List, [], Option, codes}
 use Rattle.pb_inst.specs.Literal.{Literal}
 use Rattle.pb_inst.specs.Problem.{Problem}
 use Rattle.pb_read.specs.declared.fault.ReadFault.{ReadFault}
@@ -20,3 +20,30 @@ abbrev pub text_refusal : Format → List ℕ → Option ReadFault
 text_refusal Opb text = opb_refusal text
 text_refusal Cnf text = cnf_refusal text
 text_refusal Icnf text = icnf_refusal text
+
+-- the name of a format
+abbrev pub format_name : Format → List ℕ
+format_name Opb = codes "opb"
+format_name Cnf = codes "cnf"
+format_name Icnf = codes "icnf"
+
+-- whether every constraint that the format can spell is a clause
+abbrev pub is_clausal : Format → Bool
+is_clausal Opb = false
+is_clausal Cnf = true
+is_clausal Icnf = true
+
+-- what a line of values has before the number of a variable with this value
+abbrev pub literal_prefix : Format → Bool → List ℕ
+literal_prefix Opb true = codes " x"
+literal_prefix Opb false = codes " -x"
+literal_prefix Cnf true = codes " "
+literal_prefix Cnf false = codes " -"
+literal_prefix Icnf true = codes " "
+literal_prefix Icnf false = codes " -"
+
+-- what a line of values has behind its literals
+abbrev pub ending : Format → List ℕ
+ending Opb = []
+ending Cnf = codes " 0"
+ending Icnf = codes " 0"

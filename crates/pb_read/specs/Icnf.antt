@@ -6,7 +6,7 @@ use Rattle.pb_read.specs.Runs.{skip_while}
 use Rattle.pb_read.specs.Text.{Placed, items, clause_lines, content, last_line, words, is_text}
 use Rattle.pb_inst.specs.Literal.{Literal}
 use Rattle.pb_inst.specs.Problem.{Problem}
-use Rattle.pb_inst.specs.declared.TheConstants.{MAX_VARS, MAX_CONSTRAINTS, MAX_TERMS}
+use Rattle.pb_inst.specs.declared.limits.TheConstants.{MAX_VARS, MAX_CONSTRAINTS, MAX_TERMS}
 use Rattle.pb_read.specs.Refusal.{first_fault, at_line, ◌or_else◌}
 use Rattle.pb_read.specs.Clauses.{clause_faults, whole_words, placed_words, clauses_on, clause_instance, VarsUpTo, literal_count, greatest_var}
 use Rattle.pb_read.specs.Cubes.{is_cube_line, cube_faults, CubeLines}

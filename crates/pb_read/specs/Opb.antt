@@ -13,7 +13,7 @@ use Rattle.pb_inst.specs.declared.constraints.Term.{Term}
 use Rattle.pb_inst.specs.Problem.{LinearConstraint, Problem}
 use Rattle.pb_read.specs.Terms.{all_terms, greatest_index}
 use Rattle.pb_inst.specs.Limits.{IsProper}
-use Rattle.pb_inst.specs.declared.TheConstants.{MAX_VARS, MAX_CONSTRAINTS, MAX_TERMS, SUM_BOUND}
+use Rattle.pb_inst.specs.declared.limits.TheConstants.{MAX_VARS, MAX_CONSTRAINTS, MAX_TERMS, SUM_BOUND}
 use Rattle.pb_read.specs.Refusal.{Faults, first_fault, at_line, ◌or_else◌}
 
 pub data Token : Type 0 where

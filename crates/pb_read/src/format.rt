@@ -2,7 +2,7 @@
 ghost use Rattle.std.specs.Prelude.{◌≡◌, ◌⊎◌, ◌≤◌, List, All, Some, IfOk, IfErr, MatchResult};
 ghost use Rattle.pb_inst.specs.Literal.{Literal};
 ghost use Rattle.pb_inst.specs.Problem.{Problem};
-ghost use Rattle.pb_read.specs.Format.{Spells, text_refusal};
+ghost use Rattle.pb_read.specs.Format.{Spells, ending, format_name, is_clausal, literal_prefix, text_refusal};
 ghost use Rattle.pb_read.specs.Reading.{IsMemory};
 
 use crate::dimacs::{read_cnf, read_icnf};
@@ -21,6 +21,51 @@ pub enum Format {
     Cnf,
     /// Clauses and then lines of cubes, under the header `p inccnf`.
     Icnf,
+}
+
+impl Format {
+    /// The name that a command line gives it.
+    pub fn name(self) -> &'static str
+        ensures { result.now ≡ format_name self }
+    {
+        match self {
+            Format::Opb => "opb",
+            Format::Cnf => "cnf",
+            Format::Icnf => "icnf",
+        }
+    }
+
+    /// Whether every constraint that it can spell is a clause, a list of numbers that `0` ends.
+    pub fn is_clausal(self) -> bool
+        ensures { result ≡ is_clausal self }
+    {
+        match self {
+            Format::Opb => false,
+            Format::Cnf | Format::Icnf => true,
+        }
+    }
+
+    /// What a line of values has before the number of a variable with this value: a space, and the literal's sign and name.
+    pub fn literal_prefix(self, value: bool) -> &'static [u8]
+        ensures { result.now ≡ literal_prefix self value }
+    {
+        match (self, value) {
+            (Format::Opb, true) => b" x",
+            (Format::Opb, false) => b" -x",
+            (Format::Cnf | Format::Icnf, true) => b" ",
+            (Format::Cnf | Format::Icnf, false) => b" -",
+        }
+    }
+
+    /// What a line of values has behind its literals.
+    pub fn ending(self) -> &'static [u8]
+        ensures { result.now ≡ ending self }
+    {
+        match self {
+            Format::Opb => b"",
+            Format::Cnf | Format::Icnf => b" 0",
+        }
+    }
 }
 
 /// The instance and the cubes that a text in the format spells; every other text is refused with its first fault.

@@ -9,3 +9,5 @@ pub mod Sending
 pub mod Statuses
 pub mod Written
 pub mod Laws
+pub mod Outcome
+pub mod Found

@@ -32,6 +32,9 @@ clause_at rows clauses c r n view count high =
 pub units_at_most : (lits : List Literal) → All (λ (t : PositiveTerm). t.coef ≤ 1) (clause_row lits).terms
 units_at_most lits = All-map (λ (t : PositiveTerm). t.coef ≤ 1) unit_term lits (λ k d h. omega arith)
 
+pub unit_clauses : (clauses : List (List Literal)) → All (λ (row : PositiveRow). (row.degree ≡ 1) × All (λ (t : PositiveTerm). t.coef ≤ 1) row.terms) (map clause_row clauses)
+unit_clauses clauses = All-map (λ (row : PositiveRow). (row.degree ≡ 1) × All (λ (t : PositiveTerm). t.coef ≤ 1) row.terms) clause_row clauses (λ k d h. (refl, units_at_most (get_or clauses k d)))
+
 pub total_units : (lits : List Literal) → sum_by (λ (t : PositiveTerm). t.coef) (clause_row lits).terms ≡ length lits
 total_units [] = refl
 total_units (l ∷ lits) =

@@ -14,7 +14,7 @@ mod weighs;
 
 pub use clauses::Clauses;
 pub use occurrences::{Occurrence, Occurs, UnitOccurrence, place_of};
-pub use pb_count::{Count, Tally};
+pub use pb_count::{Coefficient, Counter};
 use pb_inst::MAX_CONSTRAINTS;
 pub use rows::{Limits, Rows};
 pub use tables::{RowTerms, Tables};

@@ -44,6 +44,14 @@ impl LiteralLists {
         }
     }
 
+    /// What holds of all lists of literals. It does nothing at run time.
+    #[inline(always)]
+    pub fn facts(&self)
+        ensures { All (λ lits. length lits < 2 ^ 63) self.now }
+    {
+        let _lits = &self.lits;
+    }
+
     pub fn len(&self) -> usize
         ensures value { result ≡ length self.now }
         ensures small { result < 2 ^ 63 }

@@ -4,12 +4,12 @@ ghost use Rattle.std.specs.Prelude.{◌≡◌, ◌+◌, ◌*◌, ◌^◌, ◌<�
 ghost use Rattle.pb_rows.specs.Index.{literal_place, entries_of_row};
 
 use crate::weighs::Weighs;
-use pb_count::{Count, Tally};
+use pb_count::{Coefficient, Counter};
 use pb_inst::{Lit, Memory};
 use std::marker::Model;
 
 /// What says in which row a literal occurs, and with which coefficient.
-pub trait Occurs<C: Count>: Copy {
+pub trait Occurs<C: Coefficient>: Copy {
     ghost use Rattle.pb_rows.specs.Occurrences.{Occurrence as Weighted};
 
     /// The row and the coefficient.
@@ -18,18 +18,18 @@ pub trait Occurs<C: Count>: Copy {
     fn row(self) -> usize
         ensures { result ≡ (occurrence self).row };
 
-    fn coef(self) -> Tally<C>
+    fn coef(self) -> Counter<C>
         ensures { result ≡ (occurrence self).coef };
 }
 
 /// A row in which a literal occurs, and with which coefficient.
 #[derive(Clone, Copy)]
-pub struct Occurrence<C: Count> {
+pub struct Occurrence<C: Coefficient> {
     pub row: u32,
-    pub coef: Tally<C>,
+    pub coef: Counter<C>,
 }
 
-impl<C: Count> Model for Occurrence<C> {
+impl<C: Coefficient> Model for Occurrence<C> {
     ghost use Rattle.pb_rows.specs.Occurrences.{Occurrence as Weighted};
 
     ghost Value = { Weighted };
@@ -39,7 +39,7 @@ impl<C: Count> Model for Occurrence<C> {
     ghost inverse = { λ o. record { row = o.row; coef = o.coef } };
 }
 
-impl<C: Count> Occurs<C> for Occurrence<C> {
+impl<C: Coefficient> Occurs<C> for Occurrence<C> {
     ghost occurrence = { λ o. o };
 
     #[inline]
@@ -48,7 +48,7 @@ impl<C: Count> Occurs<C> for Occurrence<C> {
     }
 
     #[inline]
-    fn coef(self) -> Tally<C> {
+    fn coef(self) -> Counter<C> {
         self.coef
     }
 }
@@ -79,7 +79,7 @@ impl UnitOccurrence {
     }
 }
 
-impl<C: Count> Occurs<C> for UnitOccurrence {
+impl<C: Coefficient> Occurs<C> for UnitOccurrence {
     ghost occurrence = { λ o. o };
 
     #[inline]
@@ -88,23 +88,23 @@ impl<C: Count> Occurs<C> for UnitOccurrence {
     }
 
     #[inline]
-    fn coef(self) -> Tally<C> {
-        Tally::of(1)
+    fn coef(self) -> Counter<C> {
+        Counter::of(1)
     }
 }
 
 /// An occurrence, and the place of its literal. The occurrence's parts stand beside the place, since so an entry takes no more
 /// room than an occurrence alone: while tables are built there is one of each for every term. Contracts see an `Occurrence` in it.
 #[derive(Clone, Copy)]
-pub struct Entry<C: Count> {
+pub struct Entry<C: Coefficient> {
     pub place: u32,
     pub row: u32,
-    pub coef: Tally<C>,
+    pub coef: Counter<C>,
 }
 
 const _: () = prove!(size_of::<Entry<u64>>() == 16);
 
-impl<C: Count> Model for Entry<C> {
+impl<C: Coefficient> Model for Entry<C> {
     ghost use Rattle.pb_rows.specs.Occurrences.{Entry as Placed};
 
     ghost Value = { Placed };
@@ -124,7 +124,7 @@ pub fn place_of(lit: Lit) -> usize
 }
 
 /// Adds where the literals of a row occur.
-pub fn push_entries<C: Count, T: Weighs<C>>(
+pub fn push_entries<C: Coefficient, T: Weighs<C>>(
     entries: &mut Vec<Entry<C>>,
     row: u32,
     items: &[T],

@@ -11,7 +11,7 @@ ghost use Rattle.pb_normal.specs.Literals.{weight_of};
 use crate::costs::costs_of;
 use crate::index::{Index, part};
 use crate::occurrences::{Entry, Occurrence, place_of, push_entries};
-use pb_count::{Count, Tally};
+use pb_count::{Coefficient, Counter};
 use pb_inst::{Lit, Memory};
 use pb_normal::{Form, FormTerm};
 use std::alloc::Global;
@@ -19,22 +19,22 @@ use std::marker::Model;
 
 /// The degree of a row, and what it must be able to reach so that it forces no literal, side by side for the test of its sum.
 #[derive(Clone, Copy)]
-pub struct Limits<C: Count> {
-    pub degree: Tally<C>,
-    pub enough: Tally<C>,
+pub struct Limits<C: Coefficient> {
+    pub degree: Counter<C>,
+    pub enough: Counter<C>,
 }
 
 /// The rows of a normal form, with the rows in which each literal occurs and what the objective says of it. They have a share of
 /// the form, are built once and lent to engines.
 #[derive(Drop)]
-pub struct Rows<C: Count = u64> {
+pub struct Rows<C: Coefficient = u64> {
     form: Form<C>,
     limits: Vec<Limits<C>>,
     index: Index<C>,
-    costs: Vec<Tally<C>>,
+    costs: Vec<Counter<C>>,
 }
 
-impl<C: Count> Model for Rows<C> {
+impl<C: Coefficient> Model for Rows<C> {
     ghost use Rattle.pb_rows.specs.Table.{FormRows, AreFormRows};
 
     ghost Value = { FormRows };
@@ -44,7 +44,7 @@ impl<C: Count> Model for Rows<C> {
     ghost invariant = { λ r. AreFormRows r.form r.limits.items r.index.occurrences.items r.index.starts.items r.costs.items };
 }
 
-impl<C: Count> Rows<C> {
+impl<C: Coefficient> Rows<C> {
     /// The rows of the normal form.
     pub fn new(alloc: Global, form: &Form<C>) -> Result<Rows<C>, Memory>
         ensures { IfOk result (λ rows. rows.form ≡ form.now) }
@@ -71,6 +71,15 @@ impl<C: Count> Rows<C> {
         &self.form
     }
 
+    /// What holds of all rows. It does nothing at run time.
+    #[inline(always)]
+    pub fn facts(&self)
+        ensures normal { IsNormal self.now.form }
+        ensures fits { Fits C.limit self.now.form }
+    {
+        self.form.facts();
+    }
+
     /// The number of variables.
     pub fn vars(&self) -> u32
         ensures value { result ≡ self.now.form.vars }
@@ -89,7 +98,7 @@ impl<C: Count> Rows<C> {
     }
 
     /// The degree of the row.
-    pub fn degree(&self, row: usize) -> Tally<C>
+    pub fn degree(&self, row: usize) -> Counter<C>
         requires { row < length self.now.form.rows }
         ensures { result ≡ (row_at self.now.form.rows row).degree }
     {
@@ -125,7 +134,7 @@ impl<C: Count> Rows<C> {
     }
 
     /// The objective's coefficient of the literal, 0 where it has none.
-    pub fn cost(&self, lit: Lit) -> Tally<C>
+    pub fn cost(&self, lit: Lit) -> Counter<C>
         requires { lit.var ≤ self.now.form.vars }
         ensures { result ≡ weight_of lit self.now.form.objective }
     {
@@ -134,10 +143,10 @@ impl<C: Count> Rows<C> {
 }
 
 /// Where each literal of the rows occurs, row by row. There is room for all of them at once, so the list never grows.
-fn entries_of<C: Count>(alloc: Global, form: &Form<C>) -> Result<Vec<Entry<C>>, Memory>
+fn entries_of<C: Coefficient>(alloc: Global, form: &Form<C>) -> Result<Vec<Entry<C>>, Memory>
     ensures { IfOk result (λ entries. entries.items ≡ entries_from 0 form.now.rows (length form.now.rows)) }
 {
-    let _vars = form.vars();
+    form.facts();
     let mut entries = Vec::with_capacity(alloc, form.terms_len())?;
     for row in 0..form.len() {
         push_entries(&mut entries, row as u32, form.terms(row))?;
@@ -146,7 +155,7 @@ fn entries_of<C: Count>(alloc: Global, form: &Form<C>) -> Result<Vec<Entry<C>>, 
 }
 
 /// The limits of each row.
-fn limits_of<C: Count>(alloc: Global, form: &Form<C>) -> Result<Vec<Limits<C>>, Memory>
+fn limits_of<C: Coefficient>(alloc: Global, form: &Form<C>) -> Result<Vec<Limits<C>>, Memory>
     ensures { IfOk result (λ limits. AreLimitsOf form.now.rows (length form.now.rows) limits.items) }
 {
     let mut limits = Vec::with_capacity(alloc, form.len())?;
@@ -157,18 +166,18 @@ fn limits_of<C: Count>(alloc: Global, form: &Form<C>) -> Result<Vec<Limits<C>>, 
 }
 
 /// The limits of one row.
-fn limits_at<C: Count>(form: &Form<C>, row: usize) -> Limits<C>
+fn limits_at<C: Coefficient>(form: &Form<C>, row: usize) -> Limits<C>
     requires { row < length form.now.rows }
     ensures { AreLimits (row_at form.now.rows row) result }
 {
-    let _vars = form.vars();
+    form.facts();
     let degree = form.degree(row);
     let enough = enough(degree, form.terms(row));
     Limits { degree, enough }
 }
 
 /// The degree and the greatest coefficient together.
-fn enough<C: Count>(degree: Tally<C>, terms: &[FormTerm<C>]) -> Tally<C>
+fn enough<C: Coefficient>(degree: Counter<C>, terms: &[FormTerm<C>]) -> Counter<C>
     requires small { degree < C.limit }
     requires clipped { All (λ t. t.coef ≤ degree) terms.now }
     ensures degree { degree ≤ result }

@@ -13,26 +13,26 @@ ghost use Rattle.pb_normal.specs.Literals.{weight_of};
 use crate::clauses::Clauses;
 use crate::occurrences::{Occurrence, UnitOccurrence};
 use crate::rows::{Limits, Rows};
-use pb_count::{Count, Tally};
+use pb_count::{Coefficient, Counter};
 use pb_inst::Lit;
 use pb_normal::{Form, FormTerm, total_of};
 use std::marker::Model;
 
 /// The terms of a row of the form, or the literals of a clause, whose coefficients are 1.
 #[derive(Clone, Copy)]
-pub enum RowTerms<'a, C: Count> {
+pub enum RowTerms<'a, C: Coefficient> {
     Weighted(&'a [FormTerm<C>]),
     Units(&'a [Lit]),
 }
 
 /// The rows of a normal form, and the clauses of cubes numbered on from them, as one list of rows.
 #[derive(Drop)]
-pub struct Tables<'t, C: Count> {
+pub struct Tables<'t, C: Coefficient> {
     rows: &'t Rows<C>,
     clauses: &'t Clauses,
 }
 
-impl<'t, C: Count> Model for Tables<'t, C> {
+impl<'t, C: Coefficient> Model for Tables<'t, C> {
     ghost use Rattle.pb_rows.specs.Constraints.{Constraints};
     ghost use Rattle.pb_rows.specs.Tables.{constraints_of, AreBeside};
 
@@ -43,7 +43,7 @@ impl<'t, C: Count> Model for Tables<'t, C> {
     ghost invariant = { λ t. AreBeside t.rows.now t.clauses.now };
 }
 
-impl<'t, C: Count> Tables<'t, C> {
+impl<'t, C: Coefficient> Tables<'t, C> {
     /// The rows, and the clauses beside them.
     pub fn new(rows: &'t Rows<C>, clauses: &'t Clauses) -> Tables<'t, C>
         requires beside { AreBeside rows.now clauses.now }
@@ -59,6 +59,23 @@ impl<'t, C: Count> Tables<'t, C> {
         self.rows.form()
     }
 
+    /// What holds of all tables. It does nothing at run time.
+    #[inline(always)]
+    pub fn facts(&self)
+        ensures form { self.now.vars ≡ self.now.form.vars }
+        ensures within { length self.now.form.rows ≤ length self.now.rows }
+        ensures first { take (length self.now.form.rows) self.now.rows ≡ self.now.form.rows }
+        ensures units { (r : ℕ) → length self.now.form.rows ≤ r → r < length self.now.rows → ((row_at self.now.rows r).degree ≡ 1) × All (λ t. t.coef ≤ 1) (row_at self.now.rows r).terms }
+        ensures rows { AreRowsOver self.now.vars self.now.rows }
+        ensures rising { HaveRisingVariables self.now.rows }
+        ensures limits { All (λ row. HasSumsBelow C.limit row) self.now.rows }
+        ensures normal { IsNormal self.now.form }
+        ensures objective { total_coefficient self.now.form.objective < C.limit }
+    {
+        self.clauses.facts();
+        self.rows.facts();
+    }
+
     /// The number of variables.
     pub fn vars(&self) -> u32
         ensures value { result ≡ self.now.vars }
@@ -70,7 +87,7 @@ impl<'t, C: Count> Tables<'t, C> {
         ensures normal { IsNormal self.now.form }
         ensures objective { total_coefficient self.now.form.objective < C.limit }
     {
-        let _clauses = self.clauses.len();
+        self.facts();
         self.rows.vars()
     }
 
@@ -82,7 +99,7 @@ impl<'t, C: Count> Tables<'t, C> {
     }
 
     /// The degree of the row, which is 1 for a clause.
-    pub fn degree(&self, row: usize) -> Tally<C>
+    pub fn degree(&self, row: usize) -> Counter<C>
         requires { row < length self.now.rows }
         ensures { result ≡ (row_at self.now.rows row).degree }
     {
@@ -90,8 +107,8 @@ impl<'t, C: Count> Tables<'t, C> {
         if row < rows.len() {
             rows.degree(row)
         } else {
-            let _lits = self.clauses.lits(row - rows.len());
-            Tally::of(1)
+            self.facts();
+            Counter::of(1)
         }
     }
 
@@ -119,7 +136,7 @@ impl<'t, C: Count> Tables<'t, C> {
         ensures variables { All (λ t. (1 ≤ t.lit.var) × (t.lit.var ≤ self.now.vars)) result.now }
         ensures fit { All (λ t. t.coef < C.limit) result.now }
     {
-        let (_vars, _within) = (self.vars(), self.form_len());
+        self.facts();
         self.rows.terms(row)
     }
 
@@ -130,7 +147,7 @@ impl<'t, C: Count> Tables<'t, C> {
         ensures lits { row_at self.now.rows row ≡ clause_row result.now }
         ensures variables { All (λ l. (1 ≤ l.var) × (l.var ≤ self.now.vars)) result.now }
     {
-        let _vars = self.vars();
+        self.facts();
         let form_len = self.rows.len();
         self.clauses.lits(row - form_len)
     }
@@ -149,17 +166,17 @@ impl<'t, C: Count> Tables<'t, C> {
     }
 
     /// The sum of the row's coefficients.
-    pub fn total(&self, row: usize) -> Tally<C>
+    pub fn total(&self, row: usize) -> Counter<C>
         requires { row < length self.now.rows }
         ensures value { result ≡ total_coefficient (row_at self.now.rows row).terms }
         ensures fits { total_coefficient (row_at self.now.rows row).terms < C.limit }
     {
-        let _vars = self.vars();
+        self.facts();
         let rows = self.rows;
         if row < rows.len() {
             total_of(rows.terms(row))
         } else {
-            Tally::of(self.clauses.lits(row - rows.len()).len() as u64)
+            Counter::of(self.clauses.lits(row - rows.len()).len() as u64)
         }
     }
 
@@ -175,7 +192,7 @@ impl<'t, C: Count> Tables<'t, C> {
     }
 
     /// The objective's coefficient of the literal, 0 where it has none.
-    pub fn cost(&self, lit: Lit) -> Tally<C>
+    pub fn cost(&self, lit: Lit) -> Counter<C>
         requires { lit.var ≤ self.now.vars }
         ensures { result ≡ weight_of lit self.now.form.objective }
     {

@@ -10,7 +10,7 @@ ghost use Rattle.pb_rows.specs.Tables.{constraints_of, AreBeside};
 use crate::clauses::Clauses;
 use crate::rows::Rows;
 use crate::tables::Tables;
-use pb_count::Count;
+use pb_count::Coefficient;
 use pb_inst::{Cube, Memory};
 use pb_normal::Form;
 use std::alloc::{AllocError, Global};
@@ -19,12 +19,12 @@ use std::sync::Arc;
 
 /// An engine's share of rows and clauses. What runs over them takes `Tables`.
 #[derive(Drop)]
-pub struct TablesSource<C: Count> {
+pub struct TablesSource<C: Coefficient> {
     rows: Arc<Rows<C>, Global>,
     clauses: Arc<Clauses, Global>,
 }
 
-impl<C: Count> Model for TablesSource<C> {
+impl<C: Coefficient> Model for TablesSource<C> {
     ghost use Rattle.std.specs.Arc.{arc_value};
     ghost use Rattle.pb_rows.specs.Constraints.{Constraints};
     ghost use Rattle.pb_rows.specs.Tables.{constraints_of, AreBeside};
@@ -36,7 +36,7 @@ impl<C: Count> Model for TablesSource<C> {
     ghost invariant = { λ t. AreBeside (arc_value t.rows) (arc_value t.clauses) };
 }
 
-impl<C: Count> TablesSource<C> {
+impl<C: Coefficient> TablesSource<C> {
     /// A share of rows and clauses that were built before. Takes no memory, and fails only where there are 2^63 shares.
     pub fn shared(
         rows: &Arc<Rows<C>, Global>,

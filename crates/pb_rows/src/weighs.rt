@@ -3,29 +3,29 @@
 ghost use Rattle.std.specs.Prelude.{◌≡◌};
 ghost use Rattle.pb_rows.specs.Clauses.{unit_term};
 
-use pb_count::{Count, Tally};
+use pb_count::{Coefficient, Counter};
 use pb_inst::Lit;
 use pb_normal::FormTerm;
 
 /// What says of a literal which coefficient it has: a term, or a literal of a clause, whose coefficient is 1.
-pub trait Weighs<C: Count>: Copy {
+pub trait Weighs<C: Coefficient>: Copy {
     ghost use Rattle.pb_normal.specs.declared.terms.PositiveTerm.{PositiveTerm as Term};
 
     /// The coefficient and the literal.
     ghost term: { Self → Term };
 
-    fn coef(self) -> Tally<C>
+    fn coef(self) -> Counter<C>
         ensures { result ≡ (term self).coef };
 
     fn lit(self) -> Lit
         ensures { result ≡ (term self).lit };
 }
 
-impl<C: Count> Weighs<C> for FormTerm<C> {
+impl<C: Coefficient> Weighs<C> for FormTerm<C> {
     ghost term = { λ t. t };
 
     #[inline]
-    fn coef(self) -> Tally<C> {
+    fn coef(self) -> Counter<C> {
         self.coef()
     }
 
@@ -35,12 +35,12 @@ impl<C: Count> Weighs<C> for FormTerm<C> {
     }
 }
 
-impl<C: Count> Weighs<C> for Lit {
+impl<C: Coefficient> Weighs<C> for Lit {
     ghost term = { unit_term };
 
     #[inline]
-    fn coef(self) -> Tally<C> {
-        Tally::of(1)
+    fn coef(self) -> Counter<C> {
+        Counter::of(1)
     }
 
     #[inline]

@@ -4,7 +4,7 @@ ghost use Rattle.std.specs.Prelude.{◌<◌, length};
 
 use crate::floats::{add, at, float, put, refill};
 use crate::sparse::{Lines, product};
-use pb_count::Count;
+use pb_count::Coefficient;
 use pb_dual::Multipliers;
 use pb_inst::{Lit, Memory};
 use std::alloc::Global;
@@ -38,7 +38,7 @@ impl Problem {
     }
 
     /// Becomes what the trail of the multipliers leaves.
-    pub fn load<C: Count>(&mut self, multipliers: &Multipliers<C>) {
+    pub fn load<C: Coefficient>(&mut self, multipliers: &Multipliers<C>) {
         self.load_costs(multipliers);
         self.rows.clear();
         self.ids.clear();
@@ -50,7 +50,7 @@ impl Problem {
     }
 
     /// Takes the costs of the variables that have no value. What a negation costs its variable spares.
-    fn load_costs<C: Count>(&mut self, multipliers: &Multipliers<C>) {
+    fn load_costs<C: Coefficient>(&mut self, multipliers: &Multipliers<C>) {
         let form = multipliers.form();
         refill(&mut self.costs, form.vars() as usize, 0.0);
         for term in form.objective() {
@@ -63,7 +63,7 @@ impl Problem {
     }
 
     /// Takes the row, if the trail does not meet it. A negation is 1 less its variable.
-    fn load_row<C: Count>(&mut self, multipliers: &Multipliers<C>, row: usize)
+    fn load_row<C: Coefficient>(&mut self, multipliers: &Multipliers<C>, row: usize)
         requires { row < length multipliers.now.form.rows }
     {
         let form = multipliers.form();
@@ -160,7 +160,7 @@ fn signed(lit: Lit, size: f64) -> f64 {
 }
 
 /// Whether the trail makes the literal true, if it gives its variable a value.
-fn value<C: Count>(multipliers: &Multipliers<C>, lit: Lit) -> Option<bool> {
+fn value<C: Coefficient>(multipliers: &Multipliers<C>, lit: Lit) -> Option<bool> {
     if lit.var() > multipliers.form().vars() {
         return Some(false);
     }
@@ -168,7 +168,7 @@ fn value<C: Count>(multipliers: &Multipliers<C>, lit: Lit) -> Option<bool> {
 }
 
 /// Whether there is a row that the trail does not meet.
-pub fn has_row<C: Count>(multipliers: &Multipliers<C>) -> bool {
+pub fn has_row<C: Coefficient>(multipliers: &Multipliers<C>) -> bool {
     for row in 0..multipliers.form().len() {
         if !is_met(multipliers, row) {
             return true;
@@ -178,7 +178,7 @@ pub fn has_row<C: Count>(multipliers: &Multipliers<C>) -> bool {
 }
 
 /// Whether the trail meets the row.
-fn is_met<C: Count>(multipliers: &Multipliers<C>, row: usize) -> bool
+fn is_met<C: Coefficient>(multipliers: &Multipliers<C>, row: usize) -> bool
     requires { row < length multipliers.now.form.rows }
 {
     let form = multipliers.form();

@@ -10,7 +10,7 @@ use crate::restart::Restarts;
 use crate::scaling::{Scaling, VISITS};
 use crate::shifting::shift_to;
 use crate::step::Steps;
-use pb_count::{Count, Tally};
+use pb_count::{Coefficient, Counter};
 use pb_dual::Multipliers;
 use pb_inst::{Lit, Memory, Number};
 use pb_normal::Form;
@@ -81,7 +81,7 @@ impl Drop for Saddle {
 impl Saddle {
     /// Room for the problems that trails leave of the form, where it has no more terms than are worth it. Fails where there
     /// is no memory; nothing after it takes any.
-    pub fn new<C: Count>(alloc: Global, form: &Form<C>) -> Result<Saddle, Memory> {
+    pub fn new<C: Coefficient>(alloc: Global, form: &Form<C>) -> Result<Saddle, Memory> {
         let terms = form.terms_len();
         let is_open = terms <= MOST_TERMS;
         let (vars, rows, terms) = if is_open {
@@ -106,7 +106,7 @@ impl Saddle {
     /// Improves the multipliers for the trail as it is, by at most so many steps from where they are; none follows once their
     /// bound is over the limit, and none is made where no row is left. They are shifted for good, each to the nearest of their
     /// numbers, and only where their bound rises by a good part. Gives how many numbers were looked at.
-    pub fn improve<C: Count>(
+    pub fn improve<C: Coefficient>(
         &mut self,
         multipliers: &mut Multipliers<C>,
         steps: u32,
@@ -133,7 +133,7 @@ impl Saddle {
 
     /// Looks for multipliers by which nothing completes the trail, where nothing costs anything, by at most so many steps from 0
     /// on. Multipliers are shifted for good, and only where such are found. Gives how many numbers were looked at.
-    pub fn refute<C: Count>(&mut self, multipliers: &mut Multipliers<C>, steps: u32) -> u64
+    pub fn refute<C: Coefficient>(&mut self, multipliers: &mut Multipliers<C>, steps: u32) -> u64
         ensures { IsSameButShifted multipliers.old multipliers.new }
     {
         if !self.is_open || !has_row(multipliers) {
@@ -153,7 +153,7 @@ impl Saddle {
 
     /// Approaches a point of least cost under the trail as it is, by so many steps from the last point on, and plans anew in
     /// which order its variables are to be decided. Gives how many numbers were looked at.
-    pub fn approach<C: Count>(&mut self, multipliers: &Multipliers<C>, steps: u32) -> u64 {
+    pub fn approach<C: Coefficient>(&mut self, multipliers: &Multipliers<C>, steps: u32) -> u64 {
         if !self.is_open {
             return 0;
         }
@@ -180,14 +180,14 @@ impl Saddle {
     }
 
     /// Takes over the problem, and scales it.
-    fn load<C: Count>(&mut self, multipliers: &Multipliers<C>) {
+    fn load<C: Coefficient>(&mut self, multipliers: &Multipliers<C>) {
         self.problem.load(multipliers);
         self.scaling.fit(&self.problem);
         self.steps.begin(&self.problem, &self.scaling);
     }
 
     /// Begins at the multipliers as they are, where costs are scaled up by so much, and at x = 0.
-    fn begin_at<C: Count>(&mut self, multipliers: &Multipliers<C>, scale: f64) {
+    fn begin_at<C: Coefficient>(&mut self, multipliers: &Multipliers<C>, scale: f64) {
         refill(&mut self.x.current, self.problem.costs.len(), 0.0);
         self.y.current.clear();
         for row in &self.problem.ids {
@@ -290,17 +290,17 @@ impl Saddle {
     }
 
     /// Shifts all multipliers to the best y, where costs are scaled up by so much.
-    fn adopt<C: Count>(&self, multipliers: &mut Multipliers<C>, scale: f64)
+    fn adopt<C: Coefficient>(&self, multipliers: &mut Multipliers<C>, scale: f64)
         ensures { IsSameButShifted multipliers.old multipliers.new }
     {
         for row in 0..multipliers.form().len() {
             let nearest = number(at(&self.held, row) * scale + 0.5);
-            shift_to(multipliers, row, Tally::nearest(nearest));
+            shift_to(multipliers, row, Counter::nearest(nearest));
         }
     }
 
     /// The greatest of what the degrees promise by the best y.
-    fn greatest_promise<C: Count>(&self, multipliers: &Multipliers<C>) -> f64 {
+    fn greatest_promise<C: Coefficient>(&self, multipliers: &Multipliers<C>) -> f64 {
         let mut greatest = 0.0;
         for row in 0..multipliers.form().len() {
             let promise = float(multipliers.degree(row).number()) * at(&self.held, row);
@@ -312,7 +312,7 @@ impl Saddle {
     }
 
     /// Plans in which order the variables without a value are to be decided.
-    fn order<C: Count>(&mut self, multipliers: &Multipliers<C>) {
+    fn order<C: Coefficient>(&mut self, multipliers: &Multipliers<C>) {
         self.plan.clear();
         for column in 0..multipliers.form().vars() {
             let var = column + 1;

@@ -1,8 +1,8 @@
 //! By how much the rows and columns of a problem are scaled. Its entries stay as they are: a step along a scaled row or
 //! column is as much longer or shorter, and a distance is measured in scaled rows or columns.
 //!
-//! Each row and column is first scaled again and again to a greatest entry of 1 (Ruiz), and once by the sum of its entries
-//! (Pock and Chambolle), so that the norm of the scaled matrix is at most 1.
+//! Each row and column is first scaled again and again to a greatest entry of 1, and once by the sum of its entries, so
+//! that the norm of the scaled matrix is at most 1.
 
 use crate::floats::{add, at, refill};
 use crate::problem::Problem;

@@ -3,12 +3,12 @@
 ghost use Rattle.std.specs.Prelude.{◌<◌, length};
 ghost use Rattle.pb_saddle.specs.Shifting.{IsSameButShifted};
 
-use pb_count::{Count, Tally};
+use pb_count::{Coefficient, Counter};
 use pb_dual::{Multipliers, Signed};
 
 /// Shifts the multiplier of the row to this number, or as near to it as its range lets it, and keeps it so: the change can't
 /// be taken back. Where there is no room for a change the multiplier stays.
-pub fn shift_to<C: Count>(multipliers: &mut Multipliers<C>, row: usize, to: Tally<C>)
+pub fn shift_to<C: Coefficient>(multipliers: &mut Multipliers<C>, row: usize, to: Counter<C>)
     requires { row < length multipliers.old.form.rows }
     ensures { IsSameButShifted multipliers.old multipliers.new }
 {

@@ -6,15 +6,16 @@ use Rattle.pb_inst.specs.Literal.{Literal}
 use Rattle.pb_inst.specs.Problem.{Problem}
 use Rattle.pb_inst.specs.Meaning.{IsFeasible}
 use Rattle.pb_inst.specs.Cubes.{MakesFalse}
-use Rattle.pb_inst.specs.declared.TheConstants.{MAX_VARS}
+use Rattle.pb_inst.specs.declared.limits.TheConstants.{MAX_VARS}
 use Rattle.pb_normal.specs.NormalForm.{NormalForm, PositiveRow, MeetsRow, MeetsRows, KeepsFeasible, KeepsCost}
 use Rattle.pb_engine.specs.EngineState.{EngineState}
 use Rattle.pb_engine.specs.Laws.{ClausesSayCubesAreFalse}
 use Rattle.pb_cubes.specs.Pieces.{CubeList}
-use Rattle.pb_search.specs.declared.search_state.SearchState.{SearchState}
-use Rattle.pb_search.specs.Layout.{HasRowsOf, IsCubeState, IsLaidOut, IsMade}
-use Rattle.pb_search.specs.SearchState.{IsStateOf}
-use Rattle.pb_search.specs.Solutions.{SameConstraints}
+use Rattle.pb_subtree.specs.declared.search_state.SearchState.{SearchState}
+use Rattle.pb_search.specs.Layout.{IsCubeState, IsLaidOut}
+use Rattle.pb_subtree.specs.Made.{HasRowsOf, IsMade}
+use Rattle.pb_subtree.specs.SearchState.{IsStateOf}
+use Rattle.pb_subtree.specs.Solutions.{SameConstraints}
 
 -- what holds of two lists together holds of each
 all_left : (P : PositiveRow → Type 0) (xs ys : List PositiveRow) → All P (xs ++ ys) → All P xs
@@ -75,3 +76,13 @@ pub whole_state : {C : Type 0} (p : Problem) (f : NormalForm) (t : SearchState C
 whole_state p f t law is vars feasible costs few made =
     made_cube_state p t.engine.form t law (ap (λ (x : NormalForm). x.vars) is ∙ vars) (subst (λ (x : NormalForm). KeepsFeasible p x) (sym is) feasible) (subst (λ (x : NormalForm). KeepsCost p x) (sym is) costs)
     (subst (λ (n : ℕ). n ≤ MAX_VARS) vars few) made
+
+-- a search is laid out as before where the state of the remainder has the same constraints
+pub rest_laid_out : {C : Type 0} (p : Problem) (pieces : CubeList) (cube : Option (SearchState C)) (rest new : SearchState C) → IsLaidOut p pieces cube rest → IsStateOf p new → SameConstraints rest.engine new.engine → IsLaidOut p pieces cube new
+rest_laid_out p pieces cube rest new h made same = record {
+  vars = h.vars;
+  no_cubes = h.no_cubes;
+  cube_state = h.cube_state;
+  rest_state = made;
+  rest_rows = subst (λ (rows : List PositiveRow). (a : List Bool) → MeetsRows a rows ↔ (IsFeasible p a × All (λ c. MakesFalse a c) pieces.cubes)) (sym same.rows) h.rest_rows;
+}

@@ -1,18 +1,8 @@
 -- A budget of decisions.
-use Rattle.std.specs.Prelude.{◌≡◌, ℕ, ◌<◌, ◌≤◌, Option, None, Some, IsSomeAnd}
-use Rattle.pb_search.specs.Done.{Division}
+use Rattle.std.specs.Prelude.{ℕ}
+use Rattle.pb_cubes.specs.Done.{Division}
 
 -- what a search goes through piece by piece, and how many decisions its last run with a budget made
 pub record Searcher : Type 0 where
   pub division : Division
   pub decisions : ℕ
-
--- what may be left of a budget: no more than it was, and none where there is none
-abbrev pub IsLeftOf : Option ℕ → Option ℕ → Type 0
-IsLeftOf None left = left ≡ None
-IsLeftOf (Some budget) left = IsSomeAnd left (λ n. n ≤ budget)
-
--- some decisions were taken off a budget, where there is one
-abbrev pub IsPaidFrom : Option ℕ → Option ℕ → Type 0
-IsPaidFrom None left = left ≡ None
-IsPaidFrom (Some budget) left = IsSomeAnd left (λ n. n < budget)

@@ -5,27 +5,15 @@ use Rattle.pb_inst.specs.Literal.{Literal}
 use Rattle.pb_inst.specs.Problem.{Problem}
 use Rattle.pb_inst.specs.Meaning.{IsFeasible}
 use Rattle.pb_inst.specs.Cubes.{MakesFalse}
-use Rattle.pb_inst.specs.declared.TheConstants.{MAX_VARS}
+use Rattle.pb_inst.specs.declared.limits.TheConstants.{MAX_VARS}
 use Rattle.pb_normal.specs.NormalForm.{NormalForm, PositiveRow, MeetsRows, KeepsFeasible, KeepsCost}
 use Rattle.pb_engine.specs.Clauses.{AreClausesOf}
 use Rattle.pb_engine.specs.EngineState.{EngineState}
 use Rattle.pb_engine.specs.Table.{FormRows, ClauseRows}
 use Rattle.pb_engine.specs.Tables.{AreBeside}
 use Rattle.pb_cubes.specs.Pieces.{CubeList}
-use Rattle.pb_search.specs.declared.search_state.SearchState.{SearchState}
-use Rattle.pb_search.specs.SearchState.{IsStateOf}
-
--- the rows are those of the form and the clauses of the cubes
-abbrev pub HasRowsOf : NormalForm → List (List Literal) → EngineState → Type 0
-HasRowsOf f cubes s = (clauses : List PositiveRow) × (s.rows ≡ f.rows ++ clauses) × AreClausesOf cubes clauses
-
--- the state was made over the form, to make the cubes false
-pub record IsMade {C : Type 0} (f : NormalForm) (cubes : List (List Literal)) (t : SearchState C) : Type 0 where
-  pub form : t.engine.form ≡ f
-  pub vars : t.engine.vars ≡ f.vars
-  pub rows : HasRowsOf f cubes t.engine
-  pub candidate : length t.candidate ≡ f.vars
-  pub room : f.vars ≤ vec_capacity t.branches
+use Rattle.pb_subtree.specs.declared.search_state.SearchState.{SearchState}
+use Rattle.pb_subtree.specs.SearchState.{IsStateOf}
 
 -- the state is one for cubes: every feasible assignment meets its rows
 pub record IsCubeState {C : Type 0} (p : Problem) (t : SearchState C) : Type 0 where

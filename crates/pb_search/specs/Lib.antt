@@ -1,9 +1,4 @@
-pub mod Held
-pub mod Solutions
-pub mod Done
 pub mod Budget
-pub mod Paths
-pub mod SearchState
-pub mod Nodes
 pub mod Layout
-pub mod AgreedPrefix
+pub use Rattle.pb_cubes.specs.Done
+pub use Rattle.pb_subtree.specs.Held

@@ -1,65 +1,23 @@
 //! Searches of pieces that count in numbers of one width.
 
-ghost use Rattle.std.specs.Prelude.{◌≡◌, ◌⊎◌, ◌≤◌, [], false, List, Bool, All, length, IfOk, IfNone, IfSome, Some, IsSomeAnd};
-ghost use Rattle.pb_inst.specs.Incumbent.{IsSound};
+ghost use Rattle.std.specs.Prelude.{◌≡◌, ◌⊎◌, ◌≤◌, [], false, length, IfOk, IfNone, IfSome, Some, IsSomeAnd};
 ghost use Rattle.pb_normal.specs.NormalForm.{KeepsCost, KeepsFeasible};
 ghost use Rattle.pb_cubes.specs.Pieces.{LiesIn};
-ghost use Rattle.pb_search.specs.Held.{IsImprovement, IsNotAfter, MovesOn};
-ghost use Rattle.pb_search.specs.Solutions.{SameConstraints, SatisfiesUnder};
+ghost use Rattle.pb_subtree.specs.Held.{IsNotAfter};
 ghost use Rattle.pb_search.specs.Layout.{IsCubeState};
-ghost use Rattle.pb_search.specs.SearchState.{IsStateOf};
-ghost use Rattle.pb_search.specs.Budget.{IsLeftOf};
+ghost use Rattle.pb_subtree.specs.Left.{IsLeftOf};
 
-use crate::Share;
-use crate::incumbent::borrow;
-use crate::node::search_subtree;
-use crate::outcome::Outcome;
 use crate::piece_tables::PieceTables;
-use crate::root::{assume_cube, return_to_root};
-use crate::search_state::SearchState;
 use pb_cubes::{Piece, Pieces};
-use pb_engine::{Count, Step, clause_laws};
-use pb_inst::{Best, Instance, Lit, Memory};
+use pb_engine::{Coefficient, clause_laws};
+use pb_inst::{Best, Instance, Memory};
 use pb_normal::Form;
+use pb_subtree::{Goal, Outcome, SearchState, Share, search_under};
 use std::alloc::Global;
 use std::marker::Model;
 
-/// Searches all solutions of the state's constraints under the assumption that the cube is true, or stops where it would
-/// need one decision more than are left.
-pub fn search_under<C: Count, S: Share>(
-    state: &mut SearchState<C>,
-    cube: &[Lit],
-    best: &mut Best<'_>,
-    share: &mut S,
-    left: &mut Option<u64>,
-) -> Outcome
-    requires state { IsStateOf best.old.problem state.old }
-    requires variables { All (λ l. l.var ≤ state.old.engine.vars) cube.now }
-    ensures searched { result ≡ Outcome.Whole → (a : List Bool) → SatisfiesUnder state.old.engine cube.now a → ¬ IsImprovement best.old.problem a best.new.held }
-    ensures used_up { result ≡ Outcome.Cut → left.new ≡ Some 0 }
-    ensures budget { IsLeftOf left.old left.new }
-    ensures moves_on { MovesOn best.old best.new }
-    ensures held_sound { IsSound best.new }
-    ensures own { S.lends share.old ≡ false → (best.new ≡ best.old) ⊎ IsSomeAnd best.new.held (λ s. SatisfiesUnder state.old.engine cube.now s.assignment) }
-    ensures kept { S.keeps share.old share.new }
-    ensures same_lending { S.lends share.new ≡ S.lends share.old }
-    ensures made_for { IsStateOf best.old.problem state.new }
-    ensures constraints { SameConstraints state.old.engine state.new.engine }
-{
-    // Before the first bound is compared: what another piece gave may close this one at its root.
-    borrow(&mut state.candidate, best, share);
-    state.branches.clear();
-    if return_to_root(&mut state.engine) == Step::Conflict {
-        return Outcome::Whole;
-    }
-    if assume_cube(&mut state.engine, cube) == Step::Conflict {
-        return Outcome::Whole;
-    }
-    search_subtree(state, best, share, left)
-}
-
 /// A state for the searches of cubes, where there are any.
-fn cube_state<'a, C: Count>(
+fn cube_state<'a, C: Coefficient>(
     alloc: Global,
     instance: &Instance,
     form: &Form<C>,
@@ -81,15 +39,16 @@ fn cube_state<'a, C: Count>(
 
 /// An engine for the cubes, where there are any, and one for the remainder, which all searches use again, and the room for
 /// decisions and assignments. They count in numbers of type `C`.
-pub struct PieceSearch<'a, C: Count> {
+pub struct PieceSearch<'a, C: Coefficient> {
     instance: &'a Instance,
     pieces: &'a Pieces,
+    /// For all cubes, and none where there is no cube.
     cube: Option<SearchState<C>>,
     rest: SearchState<C>,
 }
 
-impl<'a, C: Count> Model for PieceSearch<'a, C> {
-    ghost use Rattle.pb_search.specs.Done.{Division};
+impl<'a, C: Coefficient> Model for PieceSearch<'a, C> {
+    ghost use Rattle.pb_cubes.specs.Done.{Division};
 
     ghost Value = { Division };
 
@@ -101,7 +60,7 @@ impl<'a, C: Count> Model for PieceSearch<'a, C> {
 }
 
 // By hand, so that letting go of a search is a call wherever it is done, and its parts are written out here alone.
-impl<'a, C: Count> Drop for PieceSearch<'a, C> {
+impl<'a, C: Coefficient> Drop for PieceSearch<'a, C> {
     fn drop(self) {
         let PieceSearch {
             instance: _,
@@ -112,8 +71,8 @@ impl<'a, C: Count> Drop for PieceSearch<'a, C> {
     }
 }
 
-impl<'a, C: Count> PieceSearch<'a, C> {
-    ghost use Rattle.pb_search.specs.Done.{IsDone};
+impl<'a, C: Coefficient> PieceSearch<'a, C> {
+    ghost use Rattle.pb_cubes.specs.Done.{IsDone};
 
     /// Makes all that the searches of the pieces need, over a normal form of the instance. Fails where memory is refused.
     pub fn new(
@@ -180,9 +139,11 @@ impl<'a, C: Count> PieceSearch<'a, C> {
                     // Never: there is a state wherever there is a cube.
                     return Outcome::Whole;
                 };
-                search_under(state, cube.lits(), best, share, left)
+                let outcome = search_under(state, cube.lits(), best, share, Goal::Least, left);
+                state.begin_piece();
+                outcome
             }
-            Piece::Rest(_) => search_under(&mut self.rest, &[], best, share, left),
+            Piece::Rest(_) => search_under(&mut self.rest, &[], best, share, Goal::Least, left),
         }
     }
 }

@@ -4,18 +4,18 @@ ghost use Rattle.std.specs.Prelude.{◌≡◌, [], IfOk, IfNone, IfSome};
 ghost use Rattle.pb_normal.specs.NormalForm.{KeepsCost, KeepsFeasible};
 ghost use Rattle.pb_search.specs.Layout.{AreTables, IsCubeState, IsLaidOut, pieces_of};
 
-use crate::search_state::SearchState;
 use pb_cubes::Pieces;
-use pb_engine::{Clauses, Count, Rows, clause_laws, shared_in};
+use pb_engine::{Clauses, Coefficient, Rows, clause_laws, shared_in};
 use pb_inst::{Instance, Memory};
 use pb_normal::Form;
+use pb_subtree::SearchState;
 use std::alloc::Global;
 use std::marker::Model;
 use std::sync::Arc;
 
 /// The rows of an instance's normal form and the clauses of its remainder, with where each literal occurs. They count in
 /// numbers of type `C`.
-pub struct PieceTables<'a, C: Count> {
+pub struct PieceTables<'a, C: Coefficient> {
     instance: &'a Instance,
     pieces: &'a Pieces,
     rows: Arc<Rows<C>, Global>,
@@ -23,8 +23,8 @@ pub struct PieceTables<'a, C: Count> {
     rest: Arc<Clauses, Global>,
 }
 
-impl<'a, C: Count> Model for PieceTables<'a, C> {
-    ghost use Rattle.pb_search.specs.Done.{Division};
+impl<'a, C: Coefficient> Model for PieceTables<'a, C> {
+    ghost use Rattle.pb_cubes.specs.Done.{Division};
 
     ghost Value = { Division };
 
@@ -37,7 +37,7 @@ impl<'a, C: Count> Model for PieceTables<'a, C> {
 }
 
 // By hand, so that letting go of tables is a call wherever it is done, and their parts are written out here alone.
-impl<'a, C: Count> Drop for PieceTables<'a, C> {
+impl<'a, C: Coefficient> Drop for PieceTables<'a, C> {
     fn drop(self) {
         let PieceTables {
             instance: _,
@@ -49,7 +49,7 @@ impl<'a, C: Count> Drop for PieceTables<'a, C> {
     }
 }
 
-impl<'a, C: Count> PieceTables<'a, C> {
+impl<'a, C: Coefficient> PieceTables<'a, C> {
     /// Builds the tables over a normal form of the instance. Fails where memory is refused.
     pub fn new(
         alloc: Global,

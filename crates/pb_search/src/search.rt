@@ -3,23 +3,22 @@
 ghost use Rattle.std.specs.Prelude.{◌≡◌, ◌⊎◌, ◌≤◌, false, length, IfOk, Some, IfSome, IfNone, IsSomeAnd};
 ghost use Rattle.pb_normal.specs.NormalForm.{KeepsCost, KeepsFeasible};
 ghost use Rattle.pb_cubes.specs.Pieces.{LiesIn};
-ghost use Rattle.pb_search.specs.Held.{IsNotAfter};
-ghost use Rattle.pb_search.specs.Budget.{IsLeftOf};
+ghost use Rattle.pb_subtree.specs.Held.{IsNotAfter};
+ghost use Rattle.pb_subtree.specs.Left.{IsLeftOf};
 
-use crate::Share;
-use crate::outcome::Outcome;
 use crate::piece_search::PieceSearch;
 use crate::tables::SearchTables;
 use pb_cubes::Pieces;
 use pb_inst::{Best, Instance, Memory};
-use pb_normal::{EitherWidth, Normal};
+use pb_normal::{Normal, Width};
+use pb_subtree::{Outcome, Share};
 use std::alloc::Global;
 use std::marker::Model;
 
 /// What the searches of an instance's pieces need: an engine for the cubes and one for the remainder, which all searches
 /// use again, and the room for decisions and assignments. They count in numbers of the normal form's width.
 pub struct Search<'a> {
-    at_width: EitherWidth<PieceSearch<'a, u64>, PieceSearch<'a, u128>>,
+    at_width: Width<PieceSearch<'a, u64>, PieceSearch<'a, u128>>,
     decisions: u64,
 }
 
@@ -43,7 +42,7 @@ impl<'a> Drop for Search<'a> {
 }
 
 impl<'a> Search<'a> {
-    ghost use Rattle.pb_search.specs.Done.{IsDone};
+    ghost use Rattle.pb_cubes.specs.Done.{IsDone};
 
     /// Makes all that the searches of the pieces need, over a normal form of the instance. Fails where memory is refused.
     pub fn new(
@@ -59,12 +58,10 @@ impl<'a> Search<'a> {
         ensures { IfOk result (λ s. s ≡ record { division = record { problem = instance.now; cubes = pieces.now.cubes }; decisions = 0 }) }
     {
         let at_width = match normal.form() {
-            EitherWidth::Narrow(form) => {
-                EitherWidth::Narrow(PieceSearch::new(alloc, instance, form, pieces)?)
+            Width::Narrow(form) => {
+                Width::Narrow(PieceSearch::new(alloc, instance, form, pieces)?)
             }
-            EitherWidth::Wide(form) => {
-                EitherWidth::Wide(PieceSearch::new(alloc, instance, form, pieces)?)
-            }
+            Width::Wide(form) => { Width::Wide(PieceSearch::new(alloc, instance, form, pieces)?) }
         };
         Ok(Search {
             at_width,
@@ -77,8 +74,8 @@ impl<'a> Search<'a> {
         ensures { IfOk result (λ s. s ≡ record { division = tables.now; decisions = 0 }) }
     {
         let at_width = match tables.at_width() {
-            EitherWidth::Narrow(tables) => EitherWidth::Narrow(PieceSearch::over(alloc, tables)?),
-            EitherWidth::Wide(tables) => EitherWidth::Wide(PieceSearch::over(alloc, tables)?),
+            Width::Narrow(tables) => Width::Narrow(PieceSearch::over(alloc, tables)?),
+            Width::Wide(tables) => Width::Wide(PieceSearch::over(alloc, tables)?),
         };
         Ok(Search {
             at_width,
@@ -148,8 +145,8 @@ impl<'a> Search<'a> {
         ensures unchanged { self.new ≡ self.old }
     {
         match &mut self.at_width {
-            EitherWidth::Narrow(search) => search.search(piece, best, share, left),
-            EitherWidth::Wide(search) => search.search(piece, best, share, left),
+            Width::Narrow(search) => search.search(piece, best, share, left),
+            Width::Wide(search) => search.search(piece, best, share, left),
         }
     }
 }

@@ -7,18 +7,18 @@ ghost use Rattle.pb_normal.specs.Widths.{lent};
 use crate::piece_tables::PieceTables;
 use pb_cubes::Pieces;
 use pb_inst::{Instance, Memory};
-use pb_normal::{EitherWidth, Normal};
+use pb_normal::{Normal, Width};
 use std::alloc::Global;
 use std::marker::Model;
 
 /// The rows of an instance's normal form and the clauses of its remainder, with where each literal occurs. They are built
 /// once and lent to the searches of all workers. They count in numbers of the normal form's width.
 pub struct SearchTables<'a> {
-    at_width: EitherWidth<PieceTables<'a, u64>, PieceTables<'a, u128>>,
+    at_width: Width<PieceTables<'a, u64>, PieceTables<'a, u128>>,
 }
 
 impl<'a> Model for SearchTables<'a> {
-    ghost use Rattle.pb_search.specs.Done.{Division};
+    ghost use Rattle.pb_cubes.specs.Done.{Division};
     ghost use Rattle.pb_normal.specs.Widths.{either};
 
     ghost Value = { Division };
@@ -48,23 +48,21 @@ impl<'a> SearchTables<'a> {
         ensures { IfOk result (λ t. t ≡ record { problem = instance.now; cubes = pieces.now.cubes }) }
     {
         let at_width = match normal.form() {
-            EitherWidth::Narrow(form) => {
-                EitherWidth::Narrow(PieceTables::new(alloc, instance, form, pieces)?)
+            Width::Narrow(form) => {
+                Width::Narrow(PieceTables::new(alloc, instance, form, pieces)?)
             }
-            EitherWidth::Wide(form) => {
-                EitherWidth::Wide(PieceTables::new(alloc, instance, form, pieces)?)
-            }
+            Width::Wide(form) => { Width::Wide(PieceTables::new(alloc, instance, form, pieces)?) }
         };
         Ok(SearchTables { at_width })
     }
 
     /// The tables at their width.
-    pub(crate) fn at_width(&self) -> EitherWidth<&PieceTables<'a, u64>, &PieceTables<'a, u128>>
+    pub(crate) fn at_width(&self) -> Width<&PieceTables<'a, u64>, &PieceTables<'a, u128>>
         ensures { lent result ≡ self.now }
     {
         match &self.at_width {
-            EitherWidth::Narrow(tables) => EitherWidth::Narrow(tables),
-            EitherWidth::Wide(tables) => EitherWidth::Wide(tables),
+            Width::Narrow(tables) => Width::Narrow(tables),
+            Width::Wide(tables) => Width::Wide(tables),
         }
     }
 }

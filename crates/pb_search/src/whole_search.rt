@@ -3,15 +3,15 @@
 ghost use Rattle.std.specs.Prelude.{◌≡◌, ◌⊎◌, ◌≤◌, [], ◌∷◌, false, All, IfOk, Some, IsSomeAnd};
 ghost use Rattle.pb_normal.specs.NormalForm.{KeepsCost, KeepsFeasible};
 ghost use Rattle.pb_inst.specs.Cubes.{MakesTrue};
-ghost use Rattle.pb_inst.specs.declared.TheConstants.{MAX_VARS};
-ghost use Rattle.pb_search.specs.Held.{IsNotAfter};
-ghost use Rattle.pb_search.specs.Budget.{IsLeftOf};
+ghost use Rattle.pb_inst.specs.declared.limits.TheConstants.{MAX_VARS};
+ghost use Rattle.pb_subtree.specs.Goal.{IsMet};
+ghost use Rattle.pb_subtree.specs.Held.{IsNotAfter};
+ghost use Rattle.pb_subtree.specs.Left.{IsLeftOf};
 
-use crate::Share;
-use crate::outcome::Outcome;
 use crate::whole_search_at::WholeSearchAt;
 use pb_inst::{Assignment, Best, Lit, Memory};
-use pb_normal::{EitherWidth, Normal};
+use pb_normal::{Normal, Width};
+use pb_subtree::{Goal, Outcome, Share};
 use std::alloc::Global;
 use std::marker::Model;
 
@@ -19,7 +19,7 @@ use std::marker::Model;
 /// what the searches so far have taught the order of decisions and the multipliers. Contracts see the normal form that it was
 /// made of; the instance may be any one whose normal form that is.
 pub struct WholeSearch {
-    at_width: EitherWidth<WholeSearchAt<u64>, WholeSearchAt<u128>>,
+    at_width: Width<WholeSearchAt<u64>, WholeSearchAt<u128>>,
 }
 
 impl Model for WholeSearch {
@@ -39,22 +39,22 @@ impl Drop for WholeSearch {
 }
 
 impl WholeSearch {
-    ghost use Rattle.pb_search.specs.Done.{IsDone};
+    ghost use Rattle.pb_cubes.specs.Done.{IsDone};
 
     /// Makes all that the searches need, over a normal form. Fails where memory is refused.
     pub fn new(alloc: Global, normal: &Normal) -> Result<WholeSearch, Memory>
         ensures { IfOk result (λ s. s ≡ normal.now) }
     {
         let at_width = match normal.form() {
-            EitherWidth::Narrow(form) => EitherWidth::Narrow(WholeSearchAt::new(alloc, form)?),
-            EitherWidth::Wide(form) => EitherWidth::Wide(WholeSearchAt::new(alloc, form)?),
+            Width::Narrow(form) => Width::Narrow(WholeSearchAt::new(alloc, form)?),
+            Width::Wide(form) => Width::Wide(WholeSearchAt::new(alloc, form)?),
         };
         Ok(WholeSearch { at_width })
     }
 
     /// Searches the assignments that make a cube true, whose literals are of the instance's variables: the piece of that cube.
     /// Its decisions are taken off a budget, of which so many are left, if there is one, so that several calls can share it. It
-    /// answers `Cut` where it would need one more, and without a budget always `Whole`. After `Whole` no feasible assignment
+    /// answers `Cut` where it would need one more, and where the goal is met and something is left to search. After `Whole` no feasible assignment
     /// of the piece is before the best one. In any case the best one is not after what it was, is none only where it was none,
     /// and the search may run again. It takes no memory, and asks the share as `Search::run` does.
     pub fn run<S: Share>(
@@ -62,6 +62,7 @@ impl WholeSearch {
         cube: &[Lit],
         best: &mut Best<'_>,
         share: &mut S,
+        goal: Goal,
         left: &mut Option<u64>,
     ) -> Outcome
         requires vars { self.old.vars ≡ best.old.problem.vars }
@@ -70,7 +71,7 @@ impl WholeSearch {
         requires few { self.old.vars ≤ MAX_VARS }
         requires variables { All (λ l. l.var ≤ self.old.vars) cube.now }
         ensures done { result ≡ Outcome.Whole → IsDone (record { problem = best.old.problem; cubes = cube.now ∷ [] }) 0 best.new.held }
-        ensures used_up { result ≡ Outcome.Cut → left.new ≡ Some 0 }
+        ensures cut { result ≡ Outcome.Cut → (left.new ≡ Some 0) ⊎ IsMet goal best.new.held }
         ensures budget { IsLeftOf left.old left.new }
         ensures not_after { IsNotAfter best.old.problem best.old.held best.new.held }
         ensures own { S.lends share.old ≡ false → (best.new ≡ best.old) ⊎ IsSomeAnd best.new.held (λ s. MakesTrue s.assignment cube.now) }
@@ -80,8 +81,8 @@ impl WholeSearch {
         ensures unchanged { self.new ≡ self.old }
     {
         match &mut self.at_width {
-            EitherWidth::Narrow(search) => search.search(cube, best, share, left),
-            EitherWidth::Wide(search) => search.search(cube, best, share, left),
+            Width::Narrow(search) => search.search(cube, best, share, goal, left),
+            Width::Wide(search) => search.search(cube, best, share, goal, left),
         }
     }
 
@@ -91,8 +92,8 @@ impl WholeSearch {
         ensures { self.new ≡ self.old }
     {
         match &mut self.at_width {
-            EitherWidth::Narrow(search) => search.suggest(values),
-            EitherWidth::Wide(search) => search.suggest(values),
+            Width::Narrow(search) => search.suggest(values),
+            Width::Wide(search) => search.suggest(values),
         }
     }
 }

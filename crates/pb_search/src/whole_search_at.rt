@@ -3,33 +3,31 @@
 ghost use Rattle.std.specs.Prelude.{◌≡◌, ◌⊎◌, ◌≤◌, [], ◌∷◌, false, All, IfOk, Some, IsSomeAnd};
 ghost use Rattle.pb_normal.specs.NormalForm.{KeepsCost, KeepsFeasible};
 ghost use Rattle.pb_inst.specs.Cubes.{MakesTrue};
-ghost use Rattle.pb_inst.specs.declared.TheConstants.{MAX_VARS};
-ghost use Rattle.pb_search.specs.Held.{IsNotAfter};
-ghost use Rattle.pb_search.specs.Budget.{IsLeftOf};
+ghost use Rattle.pb_inst.specs.declared.limits.TheConstants.{MAX_VARS};
+ghost use Rattle.pb_subtree.specs.Goal.{IsMet};
+ghost use Rattle.pb_subtree.specs.Held.{IsNotAfter};
+ghost use Rattle.pb_subtree.specs.Left.{IsLeftOf};
 
-use crate::Share;
-use crate::outcome::Outcome;
-use crate::piece_search::search_under;
-use crate::search_state::SearchState;
-use pb_engine::{Count, clause_laws};
+use pb_engine::{Coefficient, clause_laws};
 use pb_inst::{Assignment, Best, Lit, Memory};
 use pb_normal::Form;
+use pb_subtree::{Goal, Outcome, SearchState, Share, search_under};
 use std::alloc::Global;
 use std::marker::Model;
 
 /// An engine for the rows of a normal form, which all searches use again, and the room for decisions and assignments. They
 /// count in numbers of type `C`. Contracts see the form.
-pub struct WholeSearchAt<C: Count> {
+pub struct WholeSearchAt<C: Coefficient> {
     state: SearchState<C>,
 }
 
-impl<C: Count> Model for WholeSearchAt<C> {
+impl<C: Coefficient> Model for WholeSearchAt<C> {
     ghost use Rattle.pb_normal.specs.NormalForm.{NormalForm};
 
     ghost Value = { NormalForm };
 
     ghost use Rattle.std.specs.Prelude.{[]};
-    ghost use Rattle.pb_search.specs.Layout.{IsMade};
+    ghost use Rattle.pb_subtree.specs.Made.{IsMade};
 
     ghost view = { λ s. s.state.engine.form };
 
@@ -37,14 +35,14 @@ impl<C: Count> Model for WholeSearchAt<C> {
 }
 
 // By hand, so that letting go of a search is a call wherever it is done, and its parts are written out here alone.
-impl<C: Count> Drop for WholeSearchAt<C> {
+impl<C: Coefficient> Drop for WholeSearchAt<C> {
     fn drop(self) {
         let WholeSearchAt { state: _ } = self;
     }
 }
 
-impl<C: Count> WholeSearchAt<C> {
-    ghost use Rattle.pb_search.specs.Done.{IsDone};
+impl<C: Coefficient> WholeSearchAt<C> {
+    ghost use Rattle.pb_cubes.specs.Done.{IsDone};
 
     /// Makes all that the searches need, over a normal form. Fails where memory is refused.
     pub fn new(alloc: Global, form: &Form<C>) -> Result<WholeSearchAt<C>, Memory>
@@ -54,12 +52,14 @@ impl<C: Count> WholeSearchAt<C> {
         Ok(WholeSearchAt { state })
     }
 
-    /// Searches the assignments that make the cube true, or stops where it would need one decision more than are left.
+    /// Searches the assignments that make the cube true, or stops where it would need one decision more than are left, or where
+    /// the goal is met.
     pub fn search<S: Share>(
         &mut self,
         cube: &[Lit],
         best: &mut Best<'_>,
         share: &mut S,
+        goal: Goal,
         left: &mut Option<u64>,
     ) -> Outcome
         requires vars { self.old.vars ≡ best.old.problem.vars }
@@ -68,7 +68,7 @@ impl<C: Count> WholeSearchAt<C> {
         requires few { self.old.vars ≤ MAX_VARS }
         requires variables { All (λ l. l.var ≤ self.old.vars) cube.now }
         ensures done { result ≡ Outcome.Whole → IsDone (record { problem = best.old.problem; cubes = cube.now ∷ [] }) 0 best.new.held }
-        ensures used_up { result ≡ Outcome.Cut → left.new ≡ Some 0 }
+        ensures cut { result ≡ Outcome.Cut → (left.new ≡ Some 0) ⊎ IsMet goal best.new.held }
         ensures budget { IsLeftOf left.old left.new }
         ensures not_after { IsNotAfter best.old.problem best.old.held best.new.held }
         ensures own { S.lends share.old ≡ false → (best.new ≡ best.old) ⊎ IsSomeAnd best.new.held (λ s. MakesTrue s.assignment cube.now) }
@@ -78,7 +78,9 @@ impl<C: Count> WholeSearchAt<C> {
         ensures unchanged { self.new ≡ self.old }
     {
         clause_laws();
-        search_under(&mut self.state, cube, best, share, left)
+        let outcome = search_under(&mut self.state, cube, best, share, goal, left);
+        self.state.begin_question();
+        outcome
     }
 
     /// The values of the assignment are tried first from now on.

@@ -1,6 +1,6 @@
 -- Why questions on what a session was told are refused.
 use Rattle.std.specs.Prelude.{◌≢◌, ◌≤◌, [], ⊤}
-use Rattle.pb_inst.specs.declared.TheConstants.{MAX_VARS}
+use Rattle.pb_inst.specs.declared.limits.TheConstants.{MAX_VARS}
 use Rattle.pb_inst.specs.declared.faults.InstFault.TheVariants as refused
 use Rattle.pb_inst.specs.Limits.{HasVariablesWithin}
 use Rattle.pb_inst.specs.Problem.{Problem, statements}

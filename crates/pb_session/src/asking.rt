@@ -6,6 +6,7 @@ ghost use Rattle.pb_inst.specs.Incumbent.{IsSolution};
 ghost use Rattle.pb_questions.specs.Explained.{IsExplained, IsInFull};
 ghost use Rattle.pb_questions.specs.Fixed.{AreKnown, IsFixedAnswer};
 ghost use Rattle.pb_questions.specs.Form.{IsFormOf};
+ghost use Rattle.pb_questions.specs.Known.{AreAnswersOf};
 ghost use Rattle.pb_questions.specs.Under.{HoldsLeastUnder, HoldsUnder};
 ghost use Rattle.pb_solve.specs.Solving.{HoldsLeast};
 ghost use Rattle.pb_session.specs.Asked.{IsRefusal};
@@ -16,7 +17,7 @@ use crate::faults::SessionFault;
 use crate::found::{Found, ended_as, found_or_room};
 use crate::ready::Ready;
 use pb_inst::{Assignment, InstFault, Instance, Lit, Memory};
-use pb_questions::{Among, Answer, Explanation, Fixed, Questions};
+use pb_questions::{Among, Answer, Explanation, Fixed, KnownAnswers, Questions};
 use pb_search::WholeSearch;
 use pb_solve::Ran;
 use std::alloc::Global;
@@ -64,13 +65,21 @@ impl Session {
         ensures unended { IsErrOf result SessionFault.Unended ↔ (self.old.terms ≢ []) }
         ensures refused { IfErr result (IsRefusal self.old) }
     {
-        let Ready { instance, search } = self.take_ready()?;
+        let Ready {
+            instance,
+            search,
+            known,
+        } = self.take_ready()?;
         let room = self.rooms.pop();
-        let mut questions = asked(self.alloc, &instance, search, &self.suggestion);
+        let mut questions = asked(self.alloc, &instance, search, known, &self.suggestion);
         let searched = search_under(&mut questions, room, assumptions, nodes);
         let has_objective = questions.has_objective();
-        let search = questions.into_search();
-        self.keep_ready(Ready { instance, search });
+        let (search, known) = questions.into_parts();
+        self.keep_ready(Ready {
+            instance,
+            search,
+            known,
+        });
         let Searched { found, room, cut } = searched?;
         let status = ended_as(has_objective, cut, found.is_some());
         self.keep_found(found, room);
@@ -132,11 +141,19 @@ impl Session {
         ensures unended { IsErrOf result SessionFault.Unended ↔ (self.old.terms ≢ []) }
         ensures refused { IfErr result (IsRefusal self.old) }
     {
-        let Ready { instance, search } = self.take_ready()?;
-        let mut questions = asked(self.alloc, &instance, search, &self.suggestion);
+        let Ready {
+            instance,
+            search,
+            known,
+        } = self.take_ready()?;
+        let mut questions = asked(self.alloc, &instance, search, known, &self.suggestion);
         let explanation = questions.explain(assumptions, nodes);
-        let search = questions.into_search();
-        self.keep_ready(Ready { instance, search });
+        let (search, known) = questions.into_parts();
+        self.keep_ready(Ready {
+            instance,
+            search,
+            known,
+        });
         Ok(explanation?)
     }
 
@@ -155,11 +172,19 @@ impl Session {
         ensures unended { IsErrOf result SessionFault.Unended ↔ (self.old.terms ≢ []) }
         ensures refused { IfErr result (IsRefusal self.old) }
     {
-        let Ready { instance, search } = self.take_ready()?;
-        let mut questions = asked(self.alloc, &instance, search, &self.suggestion);
+        let Ready {
+            instance,
+            search,
+            known,
+        } = self.take_ready()?;
+        let mut questions = asked(self.alloc, &instance, search, known, &self.suggestion);
         let fixed = questions.fixed(assumptions, among, nodes);
-        let search = questions.into_search();
-        self.keep_ready(Ready { instance, search });
+        let (search, known) = questions.into_parts();
+        self.keep_ready(Ready {
+            instance,
+            search,
+            known,
+        });
         Ok(fixed?)
     }
 
@@ -203,21 +228,23 @@ impl Session {
     }
 }
 
-/// Questions that are asked of the search, and begin with the suggestion where it is to all variables of the instance.
+/// Questions that are asked of the search and of earlier answers, and begin with the suggestion where it is to all variables of the instance.
 fn asked<'a>(
     alloc: Global,
     instance: &'a Instance,
     search: WholeSearch,
+    known: KnownAnswers,
     suggestion: &'a Option<Assignment>,
 ) -> Questions<'a>
-    requires { IsFormOf instance.now search }
+    requires search { IsFormOf instance.now search }
+    requires known { AreAnswersOf instance.now known }
     ensures { result ≡ instance.now }
 {
     match suggestion {
         Some(values) if values.len() == instance.vars() => {
-            Questions::new(alloc, instance, search, Some(values))
+            Questions::new(alloc, instance, search, known, Some(values))
         }
-        _ => Questions::new(alloc, instance, search, None),
+        _ => Questions::new(alloc, instance, search, known, None),
     }
 }
 

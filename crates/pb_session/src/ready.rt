@@ -2,29 +2,33 @@
 
 ghost use Rattle.std.specs.Prelude.{◌≡◌, IfErr, IfOk};
 ghost use Rattle.pb_questions.specs.Form.{IsFormOf};
+ghost use Rattle.pb_questions.specs.Known.{AreAnswersOf};
 
 use pb_inst::{Assignment, Instance, Memory};
 use pb_normal::normalise;
+use pb_questions::KnownAnswers;
 use pb_search::WholeSearch;
 use std::alloc::Global;
 use std::marker::Model;
 
-/// An instance, and the search of it with what it was taught so far. Contracts see the instance's `Problem`.
+/// An instance, the search of it with what it was taught so far, and answers to earlier questions. Contracts see the instance's `Problem`.
 #[derive(Drop)]
 pub(crate) struct Ready {
     pub(crate) instance: Instance,
     pub(crate) search: WholeSearch,
+    pub(crate) known: KnownAnswers,
 }
 
 impl Model for Ready {
     ghost use Rattle.pb_inst.specs.Problem.{Problem};
     ghost use Rattle.pb_questions.specs.Form.{IsFormOf};
+    ghost use Rattle.pb_questions.specs.Known.{AreAnswersOf};
 
     ghost Value = { Problem };
 
     ghost view = { λ r. r.instance };
 
-    ghost invariant = { λ r. IsFormOf r.instance r.search };
+    ghost invariant = { λ r. IsFormOf r.instance r.search × AreAnswersOf r.instance r.known };
 }
 
 impl Ready {
@@ -33,8 +37,12 @@ impl Ready {
         ensures ready { IfOk result (λ ready. ready ≡ instance) }
         ensures returned { IfErr result (λ returned. returned ≡ instance) }
     {
-        match search_of(alloc, &instance) {
-            Ok(search) => Ok(Ready { instance, search }),
+        match made_for(alloc, &instance) {
+            Ok((search, known)) => Ok(Ready {
+                instance,
+                search,
+                known,
+            }),
             Err(_) => Err(instance),
         }
     }
@@ -54,10 +62,13 @@ impl Ready {
     }
 }
 
-/// A search of the instance that was taught nothing yet. Fails where memory is refused.
-fn search_of(alloc: Global, instance: &Instance) -> Result<WholeSearch, Memory>
-    ensures { IfOk result (λ search. IsFormOf instance.now search) }
+/// A search of the instance that was taught nothing yet, and room for answers. Fails where memory is refused.
+fn made_for(alloc: Global, instance: &Instance) -> Result<(WholeSearch, KnownAnswers), Memory>
+    ensures search { IfOk result (λ made. IsFormOf instance.now made.0) }
+    ensures known { IfOk result (λ made. AreAnswersOf instance.now made.1) }
 {
     let normal = normalise(alloc, instance)?;
-    WholeSearch::new(alloc, &normal)
+    let search = WholeSearch::new(alloc, &normal)?;
+    let known = KnownAnswers::new(alloc, instance.vars())?;
+    Ok((search, known))
 }

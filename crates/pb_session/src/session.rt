@@ -2,7 +2,7 @@
 
 ghost use Rattle.std.specs.Prelude.{◌≡◌, ◌≢◌, ◌↔◌, ◌⊎◌, ◌+◌, ◌-◌, ◌<◌, ◌≤◌, ◌++◌, [], ◌∷◌, true, false, None, Some, length, unsigned_abs, IfOk, IfErr, IfSome, IfNone, IsErrOf, IsTrue, OnOk, OnErr, slice_index_or};
 ghost use Rattle.std.specs.Option.{option_map};
-ghost use Rattle.pb_inst.specs.declared.TheConstants.{MAX_TERMS, SUM_BOUND};
+ghost use Rattle.pb_inst.specs.declared.limits.TheConstants.{MAX_TERMS, SUM_BOUND};
 ghost use Rattle.pb_inst.specs.Limits.{constraint_terms, total_magnitude, HasRoom};
 ghost use Rattle.pb_inst.specs.Problem.{statements};
 ghost use Rattle.pb_read.specs.Terms.{greatest_index};
@@ -17,7 +17,7 @@ use crate::ready::Ready;
 use pb_inst::{
     Assignment, FinishFault, InstFault, Instance, InstanceBuilder, Lit, Number, Relation, Term,
 };
-use pb_solve::{Device, Format, Ran, Status, run_alone};
+use pb_solve::{Device, Format, Ran, Status, run_without_threads};
 use std::alloc::Global;
 use std::marker::Model;
 use std::mem::replace;
@@ -33,7 +33,8 @@ pub struct Session {
     terms: Vec<Term>,
     /// The statements, while nothing is ready.
     builder: InstanceBuilder,
-    /// The instance of the statements and its search, from a question to the next statement.
+    /// The instance of the statements and its search, from a question to the next statement: an instance never changes, and the
+    /// tables of a search are of all its rows.
     pub(crate) ready: Option<Ready>,
     pub(crate) suggestion: Option<Assignment>,
     /// Assignments that are no longer needed, for those that are found next.
@@ -179,7 +180,8 @@ impl Session {
         self.ready = None;
     }
 
-    /// The instance of the statements and its search, taken out: `keep_ready` puts them back. Makes them where they are not made.
+    /// The instance of the statements and its search, taken out: `keep_ready` puts them back. So a question owns them while it
+    /// lasts, and nothing holds a reference to what stands beside it. Makes them where they are not made.
     /// Fails as `make_ready` does.
     pub(crate) fn take_ready(&mut self) -> Result<Ready, SessionFault>
         ensures ready { IfOk result (λ ready. ready ≡ self.old.problem) }
@@ -318,7 +320,7 @@ impl Session {
     {
         let mut input = Device::new(text);
         let mut out = Device::new(Vec::new(self.alloc));
-        match run_alone(self.alloc, &mut input, format, nodes, &mut out) {
+        match run_without_threads(self.alloc, &mut input, format, nodes, &mut out) {
             Ok(ran) => {
                 self.report = out.into_inner();
                 Ok(ran)

@@ -6,7 +6,7 @@ use Rattle.std.proofs.lemmas.List.Elements.{All-nil, All-cons, All-append}
 use Rattle.pb_inst.specs.Literal.{Literal}
 use Rattle.pb_read.specs.Clauses.{VarsUpTo}
 use Rattle.pb_read.proofs.Limits.{all_front, all_back, all_map, all_of}
-use Rattle.pb_cubes.specs.declared.TheConstants.{MAX_CUBES}
+use Rattle.pb_inst.specs.declared.limits.TheConstants.{MAX_CUBES}
 use Rattle.pb_cubes.specs.declared.faults.CubeFault.{CubeFault}
 use Rattle.pb_cubes.specs.declared.faults.CubeFault.TheVariants.{TooMany, BadVariable, Memory}
 use Rattle.pb_cubes.specs.Pieces.{AreWithin, HasVariableOver}

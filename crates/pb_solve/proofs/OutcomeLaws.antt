@@ -19,8 +19,8 @@ use Rattle.pb_solve.specs.Outcome.{Refused, Feasible, Optimal, IsOutcome}
 use Rattle.pb_report.specs.Written.{attained_report, satisfiable_report, optimum_report, refusal_report, unknown_report}
 use Rattle.pb_solve.specs.Budgeted as budgeted
 use Rattle.pb_solve.specs.Budgeted.{Found, Nothing, Costing, IsFound, IsFoundIn, found_of, found_report, found_status}
-use Rattle.pb_solve.specs.Parts.{PartView, IsAnswerOf, KeepsBudget}
-use Rattle.pb_solve.specs.declared.workers.solve.Answer.{Answer}
+use Rattle.pb_workers.specs.Parts.{PartView, IsAnswerOf, KeepsBudget}
+use Rattle.pb_workers.specs.declared.solving.Answer.{Answer}
 use Rattle.pb_solve.specs.Run.{WhereTold, Reports, ReportsFound, Answers, AnswersFound, AnswersHeld, IsAccepted}
 
 -- ---- facts about what readers tell

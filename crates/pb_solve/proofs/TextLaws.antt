@@ -12,10 +12,10 @@ use Rattle.pb_read.specs.declared.format.Format.{Format}
 use Rattle.pb_read.specs.declared.format.Format.TheVariants.{Opb, Cnf, Icnf}
 use Rattle.pb_read.specs.Format.{Spells, text_refusal}
 use Rattle.pb_report.specs.declared.ends.Refusal.TheVariants as refusal
-use Rattle.pb_solve.specs.declared.prepare.Halt.{Halt}
-use Rattle.pb_solve.specs.declared.prepare.Halt.TheVariants.{ReadInput, ReadCubes, Memory, Refused}
+use Rattle.pb_solve.specs.declared.prepare.PrepareError.{PrepareError}
+use Rattle.pb_solve.specs.declared.prepare.PrepareError.TheVariants.{ReadInput, ReadCubes, Memory, Refused}
 use Rattle.pb_solve.specs.declared.prepare.Prepared.{Prepared}
-use Rattle.pb_solve.specs.Run.{HaltsInput, StopsAtFault}
+use Rattle.pb_solve.specs.Run.{IsInputError, StopsAtFault}
 use Rattle.pb_solve.specs.Texts.{SpellsCubes, cube_text_refusal}
 
 not_refused : (format : Format) (text : List ℕ) (p : Problem) (input_cubes : List (List Literal)) → Spells format text p input_cubes → text_refusal format text ≡ None
@@ -42,18 +42,18 @@ pub same_fault : (o : Option ReadFault) (f g : ReadFault) → o ≡ Some f → o
 same_fault o f g h k = let both : Some f ≡ Some g = sym h ∙ k in cc
 
 -- what stops at an input that is refused stops at its fault
-pub stops_at_fault : (format : Format) (input : Option (List ℕ)) (halt : Halt) → HaltsInput format input halt → IfSome input (λ t. (fault : ReadFault) → text_refusal format t ≡ Some fault → StopsAtFault fault (Err halt))
-stops_at_fault format None halt halts = tt
-stops_at_fault format (Some ts) ReadInput halts = λ fault refused. tt
-stops_at_fault format (Some ts) ReadCubes halts = absurd halts
-stops_at_fault format (Some ts) Memory halts = λ fault refused. tt
-stops_at_fault format (Some ts) (Refused (refusal.Input found)) halts = λ fault refused. ap refusal.Input (same_fault (text_refusal format ts) found fault halts refused)
-stops_at_fault format (Some ts) (Refused (refusal.Cubes found)) halts = absurd halts
-stops_at_fault format (Some ts) (Refused refusal.Split) halts = absurd halts
-stops_at_fault format (Some ts) (Refused refusal.TooManyCubes) halts = absurd halts
+pub stops_at_fault : (format : Format) (input : Option (List ℕ)) (error : PrepareError) → IsInputError format input error → IfSome input (λ t. (fault : ReadFault) → text_refusal format t ≡ Some fault → StopsAtFault fault (Err error))
+stops_at_fault format None error is = tt
+stops_at_fault format (Some ts) ReadInput is = λ fault refused. tt
+stops_at_fault format (Some ts) ReadCubes is = absurd is
+stops_at_fault format (Some ts) Memory is = λ fault refused. tt
+stops_at_fault format (Some ts) (Refused (refusal.Input found)) is = λ fault refused. ap refusal.Input (same_fault (text_refusal format ts) found fault is refused)
+stops_at_fault format (Some ts) (Refused (refusal.Cubes found)) is = absurd is
+stops_at_fault format (Some ts) (Refused refusal.Split) is = absurd is
+stops_at_fault format (Some ts) (Refused refusal.TooManyCubes) is = absurd is
 
 -- what holds where a run stops at the fault holds where the input is refused for it
-pub where_refused : (X : ReadFault → Type 0) (format : Format) (input : Option (List ℕ)) (found : Result Prepared Halt) → IfSome input (λ t. (fault : ReadFault) → text_refusal format t ≡ Some fault → StopsAtFault fault found) → ((fault : ReadFault) → StopsAtFault fault found → X fault)
+pub where_refused : (X : ReadFault → Type 0) (format : Format) (input : Option (List ℕ)) (found : Result Prepared PrepareError) → IfSome input (λ t. (fault : ReadFault) → text_refusal format t ≡ Some fault → StopsAtFault fault found) → ((fault : ReadFault) → StopsAtFault fault found → X fault)
     → IfSome input (λ t. (fault : ReadFault) → text_refusal format t ≡ Some fault → X fault)
 where_refused X format None found stops h = tt
 where_refused X format (Some ts) found stops h = λ fault refused. h fault (stops fault refused)

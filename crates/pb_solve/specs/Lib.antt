@@ -3,10 +3,6 @@ pub mod Texts
 pub mod Outcome
 pub mod Budgeted
 pub mod Division
-pub mod Report
-pub mod Solving
+pub use Rattle.pb_cubes.specs.Solving
 pub mod Run
 pub mod Laws
-pub mod Parts
-pub mod Dealing
-pub mod Claims

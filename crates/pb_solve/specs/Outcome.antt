@@ -1,33 +1,15 @@
 -- What a run has to report. Nothing here speaks of workers, and an answer speaks of the instance alone.
-use Rattle.std.specs.Prelude.{◌≡◌, ℕ, ℤ, ◌+◌, ◌^◌, ◌<◌, ◌≤◌, ◌⊎◌, ◌==◌, if◌then◌else◌, Bool, List, [], length, Option, None, Some, IsSome, IsSomeAnd}
+use Rattle.std.specs.Prelude.{◌≡◌, ℕ, ◌+◌, ◌^◌, ◌<◌, ◌≤◌, ◌⊎◌, ◌==◌, if◌then◌else◌, List, [], length, Option, None, Some, IsSomeAnd}
 use Rattle.pb_inst.specs.Literal.{Literal}
 use Rattle.pb_inst.specs.Problem.{Problem}
-use Rattle.pb_inst.specs.Meaning.{IsFeasible, cost}
-use Rattle.pb_inst.specs.Order.{IsLeast}
 use Rattle.pb_read.specs.declared.fault.ReadFault.{ReadFault}
 use Rattle.pb_read.specs.declared.format.Format.{Format}
 use Rattle.pb_report.specs.declared.ends.Refusal.{Refusal}
 use Rattle.pb_report.specs.declared.ends.Refusal.TheVariants.{Input, Cubes, Split, TooManyCubes}
 use Rattle.pb_read.specs.Format.{Spells, text_refusal}
+pub use Rattle.pb_report.specs.Outcome.{Outcome, Refused, Infeasible, Feasible, Optimal, IsAnswer}
+pub use Rattle.pb_cubes.specs.Solving.{IsInfeasible}
 use Rattle.pb_solve.specs.Texts.{SpellsCubes, cube_text_refusal}
-
--- a refusal, or the answer: nothing is feasible, or this assignment is least, with its cost where there is an objective
-pub data Outcome : Type 0 where
-  Refused : Refusal → Outcome
-  Infeasible : Outcome
-  Feasible : List Bool → Outcome
-  Optimal : ℤ → List Bool → Outcome
-
--- no assignment to the instance's variables meets every constraint
-abbrev pub IsInfeasible : Problem → Type 0
-IsInfeasible p = (a : List Bool) → length a ≡ p.vars → ¬ IsFeasible p a
-
--- the answer on an instance
-abbrev pub IsAnswer : Problem → Outcome → Type 0
-IsAnswer p (Refused refusal) = ⊥
-IsAnswer p Infeasible = IsInfeasible p
-IsAnswer p (Feasible a) = (p.objective ≡ None) × IsLeast p a
-IsAnswer p (Optimal z a) = IsSome p.objective × IsLeast p a × (z ≡ cost p a)
 
 -- the most cubes that may be taken together
 abbrev pub most_cubes : ℕ

@@ -5,7 +5,6 @@ use Rattle.std.specs.Borrow.{MutBor}
 use Rattle.std.specs.Io.KnownBytes.{Appends}
 use Rattle.pb_inst.specs.Literal.{Literal}
 use Rattle.pb_inst.specs.Problem.{Problem}
-use Rattle.pb_inst.specs.Incumbent.{Solution}
 use Rattle.pb_cubes.specs.Pieces.{CubeList}
 use Rattle.pb_read.specs.declared.format.Format.{Format}
 use Rattle.pb_read.specs.declared.fault.ReadFault.{ReadFault}
@@ -13,16 +12,19 @@ use Rattle.pb_report.specs.declared.statuses.Status.{Status}
 use Rattle.pb_report.specs.declared.statuses.Status.TheVariants.{Unsupported}
 use Rattle.pb_report.specs.Written.{refusal_report}
 use Rattle.pb_solve.specs.declared.prepare.Prepared.{Prepared}
-use Rattle.pb_solve.specs.declared.prepare.Halt.{Halt}
-use Rattle.pb_solve.specs.declared.prepare.Halt.TheVariants.{ReadInput, ReadCubes, Memory, Refused}
+use Rattle.pb_solve.specs.declared.prepare.PrepareError.{PrepareError}
+use Rattle.pb_solve.specs.declared.prepare.PrepareError.TheVariants.{ReadInput, ReadCubes, Memory, Refused}
 use Rattle.pb_report.specs.Device.{Device}
 use Rattle.pb_report.specs.declared.ends.Refusal.TheVariants as refusal
 use Rattle.pb_read.specs.Format.{Spells, text_refusal}
-use Rattle.pb_solve.specs.Outcome as outcome
-use Rattle.pb_solve.specs.Outcome.{Outcome, IsOutcome, IsAnswer, IsDivisionRefused}
-use Rattle.pb_solve.specs.Budgeted.{Found, IsFound, IsFoundIn, IsFoundOf, found_of, found_report, found_status}
+use Rattle.pb_report.specs.Outcome as outcome
+use Rattle.pb_report.specs.Outcome.{Outcome, report, status_of}
+pub use Rattle.pb_report.specs.Outcome.{Answers}
+use Rattle.pb_report.specs.Found.{Found, found_report, found_status}
+pub use Rattle.pb_report.specs.Found.{AnswersHeld}
+use Rattle.pb_solve.specs.Outcome.{IsOutcome, IsDivisionRefused}
+use Rattle.pb_solve.specs.Budgeted.{IsFoundIn, IsFoundOf}
 use Rattle.pb_solve.specs.Division.{IsDivided}
-use Rattle.pb_solve.specs.Report.{report, status_of}
 
 -- what the cube file has left: nothing where there is no file, else its text where the reader tells it
 abbrev pub text_left : {T : Type 0} → (T → Option (List ℕ)) → Option (MutBor (Device T)) → Option (Option (List ℕ))
@@ -72,19 +74,6 @@ pub record ReportsRefusal (fault : ReadFault) (old new : Option (List ℕ)) (end
   pub ends : ended ≡ Unsupported
   pub writes : Appends old new (refusal_report (refusal.Input fault))
 
--- a run ended with this status, and all that it wrote is the report of the answer on the instance
-pub record Answers (format : Format) (p : Problem) (old new : Option (List ℕ)) (ended : Status) : Type 0 where
-  pub outcome : Outcome
-  pub ends : ended ≡ status_of outcome
-  pub writes : Appends old new (report format outcome)
-  pub right : IsAnswer p outcome
-
--- a run that was cut ended with this status, and all that it wrote is the report of what is held, as what was found
-pub record AnswersHeld (format : Format) (p : Problem) (held : Option Solution) (old new : Option (List ℕ)) (ended : Status) : Type 0 where
-  pub ends : ended ≡ found_status (found_of p held)
-  pub writes : Appends old new (found_report format (found_of p held))
-  pub right : IsFound p (found_of p held)
-
 -- a run that was cut ended with this status, and all that it wrote is the report of what was found of the instance and its pieces
 pub record AnswersFound (format : Format) (p : Problem) (pieces : CubeList) (old new : Option (List ℕ)) (ended : Status) : Type 0 where
   pub found : Found
@@ -97,7 +86,7 @@ abbrev pub IsAccepted : Format → List ℕ → Option (List ℕ) → ℕ → Pr
 IsAccepted format text cube_text split found = (input_cubes : List (List Literal)) × Spells format text found.instance input_cubes × IsDivided found.instance input_cubes cube_text split found.pieces.cubes
 
 -- the instance and the pieces of the texts and the split, unless something is refused: then that is the outcome
-abbrev pub IsPrepared : Format → Option (List ℕ) → Option (Option (List ℕ)) → ℕ → Result Prepared Halt → Type 0
+abbrev pub IsPrepared : Format → Option (List ℕ) → Option (Option (List ℕ)) → ℕ → Result Prepared PrepareError → Type 0
 IsPrepared format input cubes split (Ok found) = WhereTold input cubes (λ text cube_text. IsAccepted format text cube_text split found)
 IsPrepared format input cubes split (Err ReadInput) = ⊤
 IsPrepared format input cubes split (Err ReadCubes) = ⊤
@@ -105,17 +94,17 @@ IsPrepared format input cubes split (Err Memory) = ⊤
 IsPrepared format input cubes split (Err (Refused refusal)) = WhereTold input cubes (λ text cube_text. IsOutcome format text cube_text split (outcome.Refused refusal))
 
 -- the input could not be read, or memory ran out, or the input is refused with this fault
-abbrev pub HaltsInput : Format → Option (List ℕ) → Halt → Type 0
-HaltsInput format input ReadInput = ⊤
-HaltsInput format input ReadCubes = ⊥
-HaltsInput format input Memory = ⊤
-HaltsInput format input (Refused (refusal.Input fault)) = IfSome input (λ text. text_refusal format text ≡ Some fault)
-HaltsInput format input (Refused (refusal.Cubes fault)) = ⊥
-HaltsInput format input (Refused refusal.Split) = ⊥
-HaltsInput format input (Refused refusal.TooManyCubes) = ⊥
+abbrev pub IsInputError : Format → Option (List ℕ) → PrepareError → Type 0
+IsInputError format input ReadInput = ⊤
+IsInputError format input ReadCubes = ⊥
+IsInputError format input Memory = ⊤
+IsInputError format input (Refused (refusal.Input fault)) = IfSome input (λ text. text_refusal format text ≡ Some fault)
+IsInputError format input (Refused (refusal.Cubes fault)) = ⊥
+IsInputError format input (Refused refusal.Split) = ⊥
+IsInputError format input (Refused refusal.TooManyCubes) = ⊥
 
 -- of an input that is refused for this nothing is prepared: it could not be read, or memory ran out, or that is the refusal
-abbrev pub StopsAtFault : ReadFault → Result Prepared Halt → Type 0
+abbrev pub StopsAtFault : ReadFault → Result Prepared PrepareError → Type 0
 StopsAtFault fault (Ok found) = ⊥
 StopsAtFault fault (Err ReadInput) = ⊤
 StopsAtFault fault (Err ReadCubes) = ⊥
@@ -129,14 +118,14 @@ CubesTold (Some None) P = ⊤
 CubesTold (Some (Some cubes)) P = P (Some cubes)
 
 -- the cube file could not be read, or memory ran out, or this is refused of the cubes and the split
-abbrev pub HaltsDivision : Problem → List (List Literal) → Option (List ℕ) → ℕ → Halt → Type 0
-HaltsDivision p input_cubes cube_text split ReadInput = ⊥
-HaltsDivision p input_cubes cube_text split ReadCubes = ⊤
-HaltsDivision p input_cubes cube_text split Memory = ⊤
-HaltsDivision p input_cubes cube_text split (Refused refusal) = IsDivisionRefused p input_cubes cube_text split refusal
+abbrev pub IsDivisionError : Problem → List (List Literal) → Option (List ℕ) → ℕ → PrepareError → Type 0
+IsDivisionError p input_cubes cube_text split ReadInput = ⊥
+IsDivisionError p input_cubes cube_text split ReadCubes = ⊤
+IsDivisionError p input_cubes cube_text split Memory = ⊤
+IsDivisionError p input_cubes cube_text split (Refused refusal) = IsDivisionRefused p input_cubes cube_text split refusal
 
 -- the input answered a fault
-abbrev pub stops_at_input : {T : Type 0} → Result T Halt → Bool
+abbrev pub stops_at_input : {T : Type 0} → Result T PrepareError → Bool
 stops_at_input (Ok found) = false
 stops_at_input (Err ReadInput) = true
 stops_at_input (Err ReadCubes) = false
@@ -144,7 +133,7 @@ stops_at_input (Err Memory) = false
 stops_at_input (Err (Refused refusal)) = false
 
 -- the cube file answered a fault
-abbrev pub stops_at_cubes : {T : Type 0} → Result T Halt → Bool
+abbrev pub stops_at_cubes : {T : Type 0} → Result T PrepareError → Bool
 stops_at_cubes (Ok found) = false
 stops_at_cubes (Err ReadInput) = false
 stops_at_cubes (Err ReadCubes) = true

@@ -15,7 +15,8 @@ pub struct Options {
     /// So many variables are split into cubes, at most 12; 0 makes none.
     pub split: u32,
     /// So many decisions are made in each piece at most, of first and second values of variables alike; a piece that needs
-    /// more is cut. None sets no limit.
+    /// more is cut. None sets no limit. The workers share no budget: none waits for another's count, and a run of one worker is the
+    /// same each time.
     pub nodes: Option<u64>,
 }
 

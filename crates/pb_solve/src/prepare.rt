@@ -2,7 +2,7 @@
 ghost use Rattle.std.specs.Prelude.{◌≡◌, false, Some, IfOk, IfErr, IfSome};
 ghost use Rattle.pb_cubes.specs.Pieces.{AreWithin};
 ghost use Rattle.pb_read.specs.Format.{Spells, text_refusal};
-ghost use Rattle.pb_solve.specs.Run.{IsPrepared, HaltsInput, StopsAtFault, stops_at_input, stops_at_cubes};
+ghost use Rattle.pb_solve.specs.Run.{IsPrepared, IsInputError, StopsAtFault, stops_at_input, stops_at_cubes};
 
 mod division;
 pub(crate) mod reading;
@@ -18,7 +18,7 @@ use std::io::Read;
 
 /// Why a run ends before anything is solved.
 #[derive(Clone, Copy)]
-pub(crate) enum Halt {
+pub(crate) enum PrepareError {
     ReadInput,
     ReadCubes,
     Memory,
@@ -40,7 +40,7 @@ pub(crate) fn prepare<I: Read, C: CubeFile>(
     cubes: &mut C,
     format: Format,
     split: u32,
-) -> Result<Prepared, Halt>
+) -> Result<Prepared, PrepareError>
     requires input { input.old.failed ≡ false }
     requires cubes { C.has_failed cubes.old ≡ false }
     ensures prepared { IsPrepared format (I.remaining input.old.held) (C.text_left cubes.old) split result }
@@ -52,11 +52,11 @@ pub(crate) fn prepare<I: Read, C: CubeFile>(
 {
     let (instance, input_cubes) = match read_instance(alloc, input, format) {
         Ok(found) => found,
-        Err(halt) => return Err(halt),
+        Err(error) => return Err(error),
     };
     match divide(alloc, cubes, &instance, input_cubes, split) {
         Ok(pieces) => Ok(Prepared { instance, pieces }),
-        Err(halt) => Err(halt),
+        Err(error) => Err(error),
     }
 }
 
@@ -65,21 +65,21 @@ fn read_instance<I: Read>(
     alloc: Global,
     input: &mut Device<I>,
     format: Format,
-) -> Result<(Instance, Vec<Cube>), Halt>
+) -> Result<(Instance, Vec<Cube>), PrepareError>
     requires { input.old.failed ≡ false }
     ensures found { IfOk result (λ r. IfSome (I.remaining input.old.held) (λ text. Spells format text r.0 r.1.items)) }
     ensures within { IfOk result (λ r. AreWithin r.0.vars r.1.items) }
-    ensures refused { IfErr result (HaltsInput format (I.remaining input.old.held)) }
+    ensures refused { IfErr result (IsInputError format (I.remaining input.old.held)) }
     ensures failed { input.new.failed ≡ stops_at_input result }
 {
     let text = match read_all(alloc, input) {
         Ok(text) => text,
-        Err(ReadStop::Fault) => return Err(Halt::ReadInput),
-        Err(ReadStop::Memory) => return Err(Halt::Memory),
+        Err(ReadStop::Fault) => return Err(PrepareError::ReadInput),
+        Err(ReadStop::Memory) => return Err(PrepareError::Memory),
     };
     match read(alloc, format, &text) {
         Ok(found) => Ok(found),
-        Err(fault) if fault.kind == ReadKind::Memory => Err(Halt::Memory),
-        Err(fault) => Err(Halt::Refused(Refusal::Input(fault))),
+        Err(fault) if fault.kind == ReadKind::Memory => Err(PrepareError::Memory),
+        Err(fault) => Err(PrepareError::Refused(Refusal::Input(fault))),
     }
 }

@@ -6,21 +6,19 @@ ghost use Rattle.pb_solve.specs.Solving.{HoldsLeast};
 ghost use Rattle.pb_report.specs.Written.{memory_report};
 ghost use Rattle.pb_read.specs.Format.{text_refusal};
 ghost use Rattle.pb_cubes.specs.Pieces.{CubeList};
-ghost use Rattle.pb_solve.specs.Parts.{IsAnswerOf, PartView};
+ghost use Rattle.pb_workers.specs.Parts.{IsAnswerOf, PartView};
 ghost use Rattle.pb_solve.specs.Run.{Reports, ReportsFound, Answers, AnswersFound, AnswersHeld, IsPrepared, IsUnfailed, IsUnread, ReportsRefusal, StopsAtFault, failed_after, stops_at_cubes, stops_at_input, text_left};
 
 use crate::options::{Options, Ran};
 use crate::prepare::reading::NoCubeFile;
-use crate::prepare::{Halt, Prepared, prepare};
-use crate::workers::alone::solve_alone;
-use crate::workers::gate::OpenGate;
-use crate::workers::solve::{Answer, SolveFault, solve};
+use crate::prepare::{PrepareError, Prepared, prepare};
 use pb_inst::{Best, Instance};
 use pb_read::Format;
 use pb_report::{
     Device, RunFault, Status, report_attained, report_infeasible, report_memory, report_optimum,
     report_refusal, report_satisfiable, report_unknown,
 };
+use pb_workers::{Answer, OpenGate, SolveFault, solve, solve_alone};
 use std::alloc::Global;
 use std::io::{Read, Write};
 use std::thread::Threads;
@@ -72,6 +70,8 @@ pub fn run<R: Threads + Sync, I: Read, C: Read, W: Write>(
     ensures unread { IfSome (I.remaining input.old.held) (λ text. (fault : ReadFault) → text_refusal options.format text ≡ Some fault
         → IsUnread cubes.entry cubes.exit) }
 {
+    // Whether there is a cube file is asked here alone: were the option passed on by value, what the file is at the end would be
+    // hidden from the clauses.
     let found = match cubes {
         None => prepare(alloc, input, &mut NoCubeFile, options.format, options.split),
         Some(cubes) => prepare(alloc, input, cubes, options.format, options.split),
@@ -81,7 +81,7 @@ pub fn run<R: Threads + Sync, I: Read, C: Read, W: Write>(
 
 /// The same with no cube file and no split, by one search on the caller's own thread: it asks for no leave to start others.
 /// The report and the status are those of `run`.
-pub fn run_alone<I: Read, W: Write>(
+pub fn run_without_threads<I: Read, W: Write>(
     alloc: Global,
     input: &mut Device<I>,
     format: Format,
@@ -113,7 +113,7 @@ pub fn run_alone<I: Read, W: Write>(
             let answered = solve_alone(alloc, instance, pieces, nodes);
             report_answered(out, format, instance, answered)
         }
-        Err(halt) => report_halt(out, halt),
+        Err(error) => report_prepare_error(out, error),
     }
 }
 
@@ -121,7 +121,7 @@ pub fn run_alone<I: Read, W: Write>(
 fn conclude<R: Threads + Sync, W: Write>(
     rt: &R,
     alloc: Global,
-    found: Result<Prepared, Halt>,
+    found: Result<Prepared, PrepareError>,
     options: Options,
     out: &mut Device<W>,
 ) -> Result<Ran, RunFault>
@@ -144,30 +144,30 @@ fn conclude<R: Threads + Sync, W: Write>(
 {
     match found {
         Ok(found) => answer(rt, alloc, &found, options, out),
-        Err(halt) => report_halt(out, halt),
+        Err(error) => report_prepare_error(out, error),
     }
 }
 
 /// Ends a run in which nothing is solved.
-fn report_halt<W: Write>(out: &mut Device<W>, halt: Halt) -> Result<Ran, RunFault>
+fn report_prepare_error<W: Write>(out: &mut Device<W>, error: PrepareError) -> Result<Ran, RunFault>
     requires out { out.old.failed ≡ false }
-    ensures reports { (format : Format) (input : Option (List ℕ)) (cubes : Option (Option (List ℕ))) (split : ℕ) → IsPrepared format input cubes split (Err halt)
+    ensures reports { (format : Format) (input : Option (List ℕ)) (cubes : Option (Option (List ℕ))) (split : ℕ) → IsPrepared format input cubes split (Err error)
         → IfOk result (λ ran. ran.cut ≡ false → ran.status ≢ Status.Unknown
         → Reports format input cubes split (W.contents out.old.held) (W.contents out.new.held) ran.status) }
     ensures uncut { IfOk result (λ ran. ran.cut ≡ false) }
-    ensures refused_input { (fault : ReadFault) → StopsAtFault fault (Err halt) → IfOk result (λ ran. ran.status ≢ Status.Unknown
+    ensures refused_input { (fault : ReadFault) → StopsAtFault fault (Err error) → IfOk result (λ ran. ran.status ≢ Status.Unknown
         → ReportsRefusal fault (W.contents out.old.held) (W.contents out.new.held) ran.status) }
     ensures memory { IfOk result (λ ran. ran.status ≡ Status.Unknown → Appends (W.contents out.old.held) (W.contents out.new.held) memory_report) }
-    ensures read_input { (halt ≡ Halt.ReadInput) ↔ IsErrOf result RunFault.ReadInput }
-    ensures read_cubes { (halt ≡ Halt.ReadCubes) ↔ IsErrOf result RunFault.ReadCubes }
+    ensures read_input { (error ≡ PrepareError.ReadInput) ↔ IsErrOf result RunFault.ReadInput }
+    ensures read_cubes { (error ≡ PrepareError.ReadCubes) ↔ IsErrOf result RunFault.ReadCubes }
     ensures write { IsTrue out.new.failed ↔ IsErrOf result RunFault.Write }
     ensures unwritten { IfErr result (λ fault. fault ≢ RunFault.Write → out.new ≡ out.old) }
 {
-    match halt {
-        Halt::Refused(refusal) => Ok(Ran::uncut(report_refusal(out, refusal)?)),
-        Halt::Memory => Ok(Ran::uncut(report_memory(out)?)),
-        Halt::ReadInput => Err(RunFault::ReadInput),
-        Halt::ReadCubes => Err(RunFault::ReadCubes),
+    match error {
+        PrepareError::Refused(refusal) => Ok(Ran::uncut(report_refusal(out, refusal)?)),
+        PrepareError::Memory => Ok(Ran::uncut(report_memory(out)?)),
+        PrepareError::ReadInput => Err(RunFault::ReadInput),
+        PrepareError::ReadCubes => Err(RunFault::ReadCubes),
     }
 }
 

@@ -28,17 +28,17 @@ pub record AreLevels (rows : List PositiveRow) (trail : List Literal) (levels : 
   pub settled : (k : ℕ) (d : Level) → k < length levels → (slice_index_or levels k d).settled ≡ true → AllSettled rows (take (slice_index_or levels k d).start trail)
 
 -- the levels are in order, the trail is proper and justified by them, a conflict leaves no completion, and while none stands it is known from where on rows may be unsettled, if at all
-pub record IsEngine (vars : ℕ) (rows : List PositiveRow) (trail : List Literal) (levels : List Level) (settled_until : Option ℕ) (conflict : Bool) (capacity : ℕ) : Type 0 where
+pub record IsEngine (vars : ℕ) (rows : List PositiveRow) (trail : List Literal) (levels : List Level) (propagated : Option ℕ) (conflict : Bool) (capacity : ℕ) : Type 0 where
   pub levels_in_order : AreLevels rows trail levels
   pub proper : IsProperTrail vars trail
   pub justified : IsJustified rows trail (starts_of levels)
   pub stands : conflict ≡ true → HasNoCompletion rows trail
-  pub checked : conflict ≡ false → ForSome settled_until (λ from. AllSettledFrom rows trail from)
+  pub checked : conflict ≡ false → ForSome propagated (λ from. AllSettledFrom rows trail from)
   pub count : length levels ≤ vars
   pub small : vars < 2 ^ 32
   pub room : vars ≤ capacity
 
 -- the trail is up to date with the tables, and it and the levels are those of an engine
-pub record IsPropagator (c : Constraints) (t : TrailState) (levels : List Level) (settled_until : Option ℕ) (conflict : Bool) (capacity : ℕ) : Type 0 where
+pub record IsPropagator (c : Constraints) (t : TrailState) (levels : List Level) (propagated : Option ℕ) (conflict : Bool) (capacity : ℕ) : Type 0 where
   pub up_to_date : IsUpToDate c t
-  pub engine : IsEngine c.vars c.rows t.lits levels settled_until conflict capacity
+  pub engine : IsEngine c.vars c.rows t.lits levels propagated conflict capacity

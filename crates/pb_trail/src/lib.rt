@@ -5,9 +5,9 @@ mod looks;
 mod propagation;
 mod propagator;
 mod reasons;
-mod slacks;
 mod trail;
+mod trail_view;
 
 pub use propagation::Step;
 pub use propagator::Propagator;
-pub use slacks::Slacks;
+pub use trail_view::TrailView;

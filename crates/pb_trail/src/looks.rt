@@ -3,7 +3,7 @@
 ghost use Rattle.std.specs.Prelude.{◌≡◌, ◌<◌, true, length, IfOk, IfSome};
 ghost use Rattle.pb_trail.specs.Looks.{IsKnown, IsLookOf, KnowsNothing, NotesOnly};
 
-use pb_count::{Count, Tally};
+use pb_count::{Coefficient, Counter};
 use pb_inst::Memory;
 use pb_normal::{Form, FormTerm};
 use std::alloc::Global;
@@ -15,13 +15,13 @@ const LONG: usize = 64;
 
 /// The last look through a row: the slack at which it was, and the number of undoings from which on it tells nothing.
 #[derive(Clone, Copy)]
-struct Look<C: Count> {
+struct Look<C: Coefficient> {
     row: usize,
-    slack: Tally<C>,
+    slack: Counter<C>,
     until: u64,
 }
 
-impl<C: Count> Model for Look<C> {
+impl<C: Coefficient> Model for Look<C> {
     ghost use Rattle.pb_trail.specs.Looks.{Look as Looked};
 
     ghost Value = { Looked };
@@ -34,13 +34,13 @@ impl<C: Count> Model for Look<C> {
 /// The last look through each long row, by the numbers of the rows, and how often literals were taken off the trail. A look
 /// tells something as long as none was since. What is known of short rows is nothing, and takes no memory.
 #[derive(Drop)]
-pub struct Looks<C: Count> {
+pub struct Looks<C: Coefficient> {
     last: Vec<Look<C>>,
     /// Stays at its greatest number, from which on nothing is known.
     undone: u64,
 }
 
-impl<C: Count> Model for Looks<C> {
+impl<C: Coefficient> Model for Looks<C> {
     ghost use Rattle.std.specs.Prelude.{◌+◌, ◌^◌, ◌<◌, ◌≤◌, All};
     ghost use Rattle.pb_trail.specs.Looks.{LooksState};
 
@@ -51,7 +51,7 @@ impl<C: Count> Model for Looks<C> {
     ghost invariant = { λ l. All (λ look. (look.until ≤ l.undone + 1) × (look.until < 2 ^ 64)) l.last.items };
 }
 
-impl<C: Count> Looks<C> {
+impl<C: Coefficient> Looks<C> {
     /// Nothing is known yet. It makes room for all long rows of the form.
     pub fn new(alloc: Global, form: &Form<C>) -> Result<Looks<C>, Memory>
         ensures { IfOk result (λ looks. KnowsNothing looks) }
@@ -59,7 +59,7 @@ impl<C: Count> Looks<C> {
         let mut last = Vec::with_capacity(alloc, count_long(form))?;
         for row in 0..form.len() {
             if is_long(form.terms(row)) {
-                let slack = Tally::of(0);
+                let slack = Counter::of(0);
                 last.push(Look {
                     row,
                     slack,
@@ -71,7 +71,7 @@ impl<C: Count> Looks<C> {
     }
 
     /// Whether the row was looked through at this slack or a lesser one, with nothing undone since.
-    pub fn knows(&self, row: usize, slack: Tally<C>) -> bool
+    pub fn knows(&self, row: usize, slack: Counter<C>) -> bool
         ensures { result ≡ true → IsKnown self.now row slack }
     {
         match self.place_of(row) {
@@ -84,7 +84,7 @@ impl<C: Count> Looks<C> {
     }
 
     /// Notes that the row was looked through at the slack. A row that isn't long is not noted.
-    pub fn note(&mut self, row: usize, slack: Tally<C>)
+    pub fn note(&mut self, row: usize, slack: Counter<C>)
         ensures { NotesOnly self.old self.new row slack }
     {
         if let Some(place) = self.place_of(row) {
@@ -113,12 +113,12 @@ impl<C: Count> Looks<C> {
 
 /// Whether a row of these terms is long.
 #[inline]
-pub fn is_long<C: Count>(terms: &[FormTerm<C>]) -> bool {
+pub fn is_long<C: Coefficient>(terms: &[FormTerm<C>]) -> bool {
     terms.len() >= LONG
 }
 
 /// The number of long rows.
-fn count_long<C: Count>(form: &Form<C>) -> usize {
+fn count_long<C: Coefficient>(form: &Form<C>) -> usize {
     let mut count = 0;
     for row in 0..form.len() {
         if is_long(form.terms(row)) {

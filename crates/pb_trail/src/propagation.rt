@@ -1,21 +1,17 @@
 //! Looking at rows for literals that they force.
 
-ghost use Rattle.std.specs.Prelude.{◌≡◌, ℕ, ◌+◌, ◌<◌, ◌≤◌, length, All};
+ghost use Rattle.std.specs.Prelude.{◌≡◌, ℕ, ◌+◌, ◌<◌, ◌≤◌, length, All, None, IfSome};
 ghost use Rattle.pb_rows.specs.Constraints.{row_at};
 ghost use Rattle.pb_rows.specs.Index.{total_by};
-ghost use Rattle.pb_normal.specs.Literals.{weight_of};
-ghost use Rattle.pb_trail.specs.Tracked.{HasNothingOver, IsUpToDate};
+ghost use Rattle.pb_trail.specs.Tracked.{IsUpToDate};
 ghost use Rattle.pb_trail.specs.Trail.{reachable};
-ghost use Rattle.pb_trail.specs.Completion.{IsSettled};
 ghost use Rattle.pb_trail.specs.Propagation.{AddsForced, IsBroken, IsSettledFrom};
 ghost use Rattle.std.specs.Option.{ForSome};
 ghost use Rattle.pb_trail.specs.Levels.{AllSettled, AllSettledFrom};
 
 use crate::looks::is_long;
 use crate::trail::Trail;
-use pb_count::{Count, Tally};
-use pb_inst::Lit;
-use pb_normal::FormTerm;
+use pb_count::{Coefficient, Counter};
 use pb_rows::{Occurs, Tables};
 
 /// What a step of the engine found.
@@ -28,7 +24,11 @@ pub enum Step {
 /// Puts the literals that the row forces on the trail, or finds that the row can't be met any more.
 // Most rows that are looked at force nothing. So the question stands in the loops themselves, and only what adds literals is called.
 #[inline(always)]
-fn look_at<C: Count>(tables: &Tables<'_, C>, trail: &mut Trail<C>, row: usize) -> Step
+fn propagate_constraint<C: Coefficient>(
+    tables: &Tables<'_, C>,
+    trail: &mut Trail<C>,
+    row: usize,
+) -> Step
     requires row { row < length tables.now.rows }
     requires up_to_date { IsUpToDate tables.now trail.old }
     ensures up_to_date { IsUpToDate tables.now trail.new }
@@ -37,15 +37,15 @@ fn look_at<C: Count>(tables: &Tables<'_, C>, trail: &mut Trail<C>, row: usize) -
     ensures broken { result ≡ Step.Conflict → reachable trail.new.lits (row_at tables.now.rows row).terms < (row_at tables.now.rows row).degree }
 {
     if row < tables.form_len() {
-        look_at_row(tables, trail, row)
+        propagate_row(tables, trail, row)
     } else {
-        look_at_clause(tables, trail, row)
+        propagate_clause(tables, trail, row)
     }
 }
 
 /// Looks at a row of the form.
 #[inline(always)]
-fn look_at_row<C: Count>(tables: &Tables<'_, C>, trail: &mut Trail<C>, row: usize) -> Step
+fn propagate_row<C: Coefficient>(tables: &Tables<'_, C>, trail: &mut Trail<C>, row: usize) -> Step
     requires row { row < length tables.now.form.rows }
     requires up_to_date { IsUpToDate tables.now trail.old }
     ensures up_to_date { IsUpToDate tables.now trail.new }
@@ -68,7 +68,11 @@ fn look_at_row<C: Count>(tables: &Tables<'_, C>, trail: &mut Trail<C>, row: usiz
 
 /// Looks at a clause.
 #[inline(always)]
-fn look_at_clause<C: Count>(tables: &Tables<'_, C>, trail: &mut Trail<C>, row: usize) -> Step
+fn propagate_clause<C: Coefficient>(
+    tables: &Tables<'_, C>,
+    trail: &mut Trail<C>,
+    row: usize,
+) -> Step
     requires form { length tables.now.form.rows ≤ row }
     requires exists { row < length tables.now.rows }
     requires up_to_date { IsUpToDate tables.now trail.old }
@@ -77,9 +81,9 @@ fn look_at_clause<C: Count>(tables: &Tables<'_, C>, trail: &mut Trail<C>, row: u
     ensures settled { result ≡ Step.Fixed → (head : ℕ) → head ≤ length trail.old.lits → IsSettledFrom head trail.new.lits (row_at tables.now.rows row) }
     ensures broken { result ≡ Step.Conflict → reachable trail.new.lits (row_at tables.now.rows row).terms < (row_at tables.now.rows row).degree }
 {
-    let _clause = tables.clause(row);
+    tables.facts();
     let reachable = trail.sum(row);
-    if !reachable.is_below(Tally::of(2)) {
+    if !reachable.is_below(Counter::of(2)) {
         return Step::Fixed;
     }
     if reachable.is_zero() {
@@ -90,35 +94,69 @@ fn look_at_clause<C: Count>(tables: &Tables<'_, C>, trail: &mut Trail<C>, row: u
     Step::Fixed
 }
 
-/// Adds what is forced, where the rows are known to be settled but for the literals from a place on, or nothing is known.
-pub fn propagate_all<C: Count>(
+/// Adds what is forced, where the rows are known to be settled but for the literals from a place on, or nothing is known: looks
+/// at the rows that the literals from there on touch, and at those that their own literals touch in turn.
+pub fn propagate_all<C: Coefficient>(
     tables: &Tables<'_, C>,
     trail: &mut Trail<C>,
-    settled_until: Option<usize>,
+    propagated: Option<usize>,
 ) -> Step
-    requires settled { ForSome settled_until (λ from. AllSettledFrom tables.now.rows trail.old.lits from) }
+    requires settled { ForSome propagated (λ from. AllSettledFrom tables.now.rows trail.old.lits from) }
     requires up_to_date { IsUpToDate tables.now trail.old }
     ensures up_to_date { IsUpToDate tables.now trail.new }
     ensures forced { AddsForced tables.now.rows trail.old.lits trail.new.lits }
     ensures settled { result ≡ Step.Fixed → AllSettled tables.now.rows trail.new.lits }
     ensures broken { result ≡ Step.Conflict → IsBroken tables.now.rows trail.new.lits }
 {
-    match settled_until {
-        Some(start) => propagate_from(tables, trail, start),
-        None => {
-            let start = trail.len();
-            if let Step::Conflict = look_at_all(tables, trail) {
-                return Step::Conflict;
-            }
-            propagate_from(tables, trail, start)
+    let Some(start) = settled_from(tables, trail, propagated) else {
+        return Step::Conflict;
+    };
+    let mut head = start;
+    while head < trail.len() {
+        let falsified = trail.literal(head).negate();
+        if let Step::Conflict = propagate_occurrences(
+            tables,
+            trail,
+            tables.occurrences(falsified),
+        ) {
+            return Step::Conflict;
         }
+        if let Step::Conflict = propagate_occurrences(tables, trail, tables.units(falsified)) {
+            return Step::Conflict;
+        }
+        head += 1;
+    }
+    Step::Fixed
+}
+
+/// From which literal on rows may not be settled. Where nothing is known it looks at every row; there is none at a conflict.
+#[inline(always)]
+fn settled_from<C: Coefficient>(
+    tables: &Tables<'_, C>,
+    trail: &mut Trail<C>,
+    propagated: Option<usize>,
+) -> Option<usize>
+    requires settled { ForSome propagated (λ from. AllSettledFrom tables.now.rows trail.old.lits from) }
+    requires up_to_date { IsUpToDate tables.now trail.old }
+    ensures up_to_date { IsUpToDate tables.now trail.new }
+    ensures forced { AddsForced tables.now.rows trail.old.lits trail.new.lits }
+    ensures settled { IfSome result (λ from. AllSettledFrom tables.now.rows trail.new.lits from) }
+    ensures broken { result ≡ None → IsBroken tables.now.rows trail.new.lits }
+{
+    if let Some(start) = propagated {
+        return Some(start);
+    }
+    let start = trail.len();
+    match propagate_every_row(tables, trail) {
+        Step::Fixed => Some(start),
+        Step::Conflict => None,
     }
 }
 
 /// Looks at every row.
 // A search calls it once, at its start. In the place of that call it would keep the compiler from taking `propagate` into the search.
 #[inline(never)]
-fn look_at_all<C: Count>(tables: &Tables<'_, C>, trail: &mut Trail<C>) -> Step
+fn propagate_every_row<C: Coefficient>(tables: &Tables<'_, C>, trail: &mut Trail<C>) -> Step
     requires up_to_date { IsUpToDate tables.now trail.old }
     ensures up_to_date { IsUpToDate tables.now trail.new }
     ensures forced { AddsForced tables.now.rows trail.old.lits trail.new.lits }
@@ -126,30 +164,15 @@ fn look_at_all<C: Count>(tables: &Tables<'_, C>, trail: &mut Trail<C>) -> Step
     ensures broken { result ≡ Step.Conflict → IsBroken tables.now.rows trail.new.lits }
 {
     for row in 0..tables.len() {
-        if let Step::Conflict = look_at(tables, trail, row) {
+        if let Step::Conflict = propagate_constraint(tables, trail, row) {
             return Step::Conflict;
         }
     }
     Step::Fixed
 }
 
-/// Looks at every row and clause in which the literal occurs.
-fn look_at_literal<C: Count>(tables: &Tables<'_, C>, trail: &mut Trail<C>, lit: Lit) -> Step
-    requires variable { lit.var ≤ tables.now.vars }
-    requires up_to_date { IsUpToDate tables.now trail.old }
-    ensures up_to_date { IsUpToDate tables.now trail.new }
-    ensures forced { AddsForced tables.now.rows trail.old.lits trail.new.lits }
-    ensures settled { result ≡ Step.Fixed → (r head : ℕ) → r < length tables.now.rows → 0 < weight_of lit (row_at tables.now.rows r).terms → head ≤ length trail.old.lits → IsSettledFrom head trail.new.lits (row_at tables.now.rows r) }
-    ensures broken { result ≡ Step.Conflict → IsBroken tables.now.rows trail.new.lits }
-{
-    if let Step::Conflict = look_at_occurrences(tables, trail, tables.occurrences(lit)) {
-        return Step::Conflict;
-    }
-    look_at_occurrences(tables, trail, tables.units(lit))
-}
-
 /// Looks at every row that an occurrence names.
-fn look_at_occurrences<C: Count, O: Occurs<C>>(
+fn propagate_occurrences<C: Coefficient, O: Occurs<C>>(
     tables: &Tables<'_, C>,
     trail: &mut Trail<C>,
     occurrences: &[O],
@@ -162,30 +185,9 @@ fn look_at_occurrences<C: Count, O: Occurs<C>>(
     ensures broken { result ≡ Step.Conflict → IsBroken tables.now.rows trail.new.lits }
 {
     for occurrence in occurrences {
-        if let Step::Conflict = look_at(tables, trail, occurrence.row()) {
+        if let Step::Conflict = propagate_constraint(tables, trail, occurrence.row()) {
             return Step::Conflict;
         }
-    }
-    Step::Fixed
-}
-
-/// Looks at the rows that the literals from `start` on touch, and at those that their own literals touch in turn.
-fn propagate_from<C: Count>(tables: &Tables<'_, C>, trail: &mut Trail<C>, start: usize) -> Step
-    requires within { start ≤ length trail.old.lits }
-    requires settled { (r : ℕ) → r < length tables.now.rows → IsSettledFrom start trail.old.lits (row_at tables.now.rows r) }
-    requires up_to_date { IsUpToDate tables.now trail.old }
-    ensures up_to_date { IsUpToDate tables.now trail.new }
-    ensures forced { AddsForced tables.now.rows trail.old.lits trail.new.lits }
-    ensures settled { result ≡ Step.Fixed → (r : ℕ) → r < length tables.now.rows → IsSettled trail.new.lits (row_at tables.now.rows r) }
-    ensures broken { result ≡ Step.Conflict → IsBroken tables.now.rows trail.new.lits }
-{
-    let mut head = start;
-    while head < trail.len() {
-        let lit = trail.literal(head);
-        if let Step::Conflict = look_at_literal(tables, trail, lit.negate()) {
-            return Step::Conflict;
-        }
-        head += 1;
     }
     Step::Fixed
 }
@@ -193,7 +195,12 @@ fn propagate_from<C: Count>(tables: &Tables<'_, C>, trail: &mut Trail<C>, start:
 /// Puts the literals of a row of the form that have no value and a coefficient greater than the slack on the trail. A long row
 /// that was looked through at this slack, with nothing taken off since, has none and is passed over.
 #[inline(never)]
-fn add_forced<C: Count>(tables: &Tables<'_, C>, trail: &mut Trail<C>, row: usize, slack: Tally<C>)
+fn add_forced<C: Coefficient>(
+    tables: &Tables<'_, C>,
+    trail: &mut Trail<C>,
+    row: usize,
+    slack: Counter<C>,
+)
     requires form { row < length tables.now.form.rows }
     requires exists { row < length tables.now.rows }
     requires slack { (row_at tables.now.rows row).degree + slack ≡ reachable trail.old.lits (row_at tables.now.rows row).terms }
@@ -207,42 +214,20 @@ fn add_forced<C: Count>(tables: &Tables<'_, C>, trail: &mut Trail<C>, row: usize
     if long && trail.knows(row, slack) {
         return;
     }
-    add_over(tables, trail, row, terms, slack);
-    if long {
-        trail.note(row, slack);
-    }
-}
-
-/// Puts the row's literals without a value and with a coefficient greater than the slack on the trail.
-#[inline(always)]
-fn add_over<C: Count>(
-    tables: &Tables<'_, C>,
-    trail: &mut Trail<C>,
-    row: usize,
-    terms: &[FormTerm<C>],
-    slack: Tally<C>,
-)
-    requires exists { row < length tables.now.rows }
-    requires terms { terms.now ≡ (row_at tables.now.rows row).terms }
-    requires variables { All (λ t. (1 ≤ t.lit.var) × (t.lit.var ≤ tables.now.vars)) terms.now }
-    requires slack { (row_at tables.now.rows row).degree + slack ≡ reachable trail.old.lits (row_at tables.now.rows row).terms }
-    requires up_to_date { IsUpToDate tables.now trail.old }
-    ensures up_to_date { IsUpToDate tables.now trail.new }
-    ensures forced { AddsForced tables.now.rows trail.old.lits trail.new.lits }
-    ensures settled { (head : ℕ) → head ≤ length trail.old.lits → IsSettledFrom head trail.new.lits (row_at tables.now.rows row) }
-    ensures nothing_over { HasNothingOver slack trail.new.lits (row_at tables.now.rows row) }
-{
     for term in terms {
         let lit = term.lit();
         if slack.is_below(term.coef()) && trail.value(lit.var()).is_none() {
             trail.push(tables, lit, row);
         }
     }
+    if long {
+        trail.note(row, slack);
+    }
 }
 
 /// Puts the literal of a clause that is not false yet on the trail, if it has no value.
 #[inline(never)]
-fn add_last<C: Count>(tables: &Tables<'_, C>, trail: &mut Trail<C>, row: usize)
+fn add_last<C: Coefficient>(tables: &Tables<'_, C>, trail: &mut Trail<C>, row: usize)
     requires form { length tables.now.form.rows ≤ row }
     requires exists { row < length tables.now.rows }
     requires slack { reachable trail.old.lits (row_at tables.now.rows row).terms ≡ 1 }

@@ -12,9 +12,9 @@ ghost use Rattle.pb_trail.specs.Soundness.{IsFull, IsSolved, IsSoundTrail};
 
 use crate::propagation::{Step, propagate_all};
 use crate::reasons::NO_ROW;
-use crate::slacks::Slacks;
 use crate::trail::Trail;
-use pb_count::Count;
+use crate::trail_view::TrailView;
+use pb_count::Coefficient;
 use pb_inst::{Lit, Memory};
 use pb_rows::{RowTerms, TablesSource};
 use std::alloc::Global;
@@ -29,15 +29,15 @@ struct Level {
 
 /// A trail over the variables of rows with some literals assumed, and whether a conflict stands.
 #[derive(Drop)]
-pub struct Propagator<C: Count> {
+pub struct Propagator<C: Coefficient> {
     source: TablesSource<C>,
     trail: Trail<C>,
     levels: Vec<Level>,
-    settled_until: Option<usize>,
+    propagated: Option<usize>,
     conflict: bool,
 }
 
-impl<C: Count> Model for Propagator<C> {
+impl<C: Coefficient> Model for Propagator<C> {
     ghost use Rattle.std.specs.Vec.{vec_capacity};
     ghost use Rattle.pb_trail.specs.EngineState.{EngineState};
 
@@ -47,10 +47,10 @@ impl<C: Count> Model for Propagator<C> {
 
     ghost view = { λ p. record { form = p.source.form; vars = p.source.vars; rows = p.source.rows; trail = p.trail.lits; levels = starts_of p.levels.items; conflict = p.conflict } };
 
-    ghost invariant = { λ p. IsPropagator p.source p.trail p.levels.items p.settled_until p.conflict (vec_capacity p.levels) };
+    ghost invariant = { λ p. IsPropagator p.source p.trail p.levels.items p.propagated p.conflict (vec_capacity p.levels) };
 }
 
-impl<C: Count> Propagator<C> {
+impl<C: Coefficient> Propagator<C> {
     /// The empty trail over the rows. Nothing after it takes memory.
     pub fn new(alloc: Global, source: TablesSource<C>) -> Result<Propagator<C>, Memory>
         ensures { IfOk result (λ p. p ≡ record { form = source.form; vars = source.vars; rows = source.rows; trail = []; levels = []; conflict = false }) }
@@ -62,19 +62,19 @@ impl<C: Count> Propagator<C> {
             source,
             trail,
             levels,
-            settled_until: None,
+            propagated: None,
             conflict: false,
         })
     }
 
     /// The trail with the slacks of the rows.
-    pub fn slacks(&self) -> Slacks<'_, C>
+    pub fn slacks(&self) -> TrailView<'_, C>
         ensures form { result.form ≡ self.now.form }
         ensures vars { result.vars ≡ self.now.vars }
         ensures rows { result.rows ≡ self.now.rows }
         ensures trail { result.trail ≡ self.now.trail }
     {
-        Slacks::new(self.source.tables(), &self.trail)
+        TrailView::new(self.source.tables(), &self.trail)
     }
 
     /// Where the assumption after as many others stands on the trail, and the trail's length where there is none.
@@ -184,7 +184,7 @@ impl<C: Count> Propagator<C> {
         ensures sound { IsSoundTrail self.new }
     {
         let start = self.trail.len();
-        let settled = is_at(self.settled_until, start);
+        let settled = is_at(self.propagated, start);
         self.trail.push(&self.source.tables(), lit, NO_ROW);
         self.levels.push_reserved(Level { start, settled });
         Step::Fixed
@@ -202,10 +202,10 @@ impl<C: Count> Propagator<C> {
         ensures sound { IsSoundTrail self.new }
     {
         let tables = self.source.tables();
-        let step = propagate_all(&tables, &mut self.trail, self.settled_until);
+        let step = propagate_all(&tables, &mut self.trail, self.propagated);
         let length = self.trail.len();
         match step {
-            Step::Fixed => self.settled_until = Some(length),
+            Step::Fixed => self.propagated = Some(length),
             Step::Conflict => self.conflict = true,
         }
         step
@@ -219,31 +219,31 @@ impl<C: Count> Propagator<C> {
     {
         let level = level as usize;
         if level == self.levels.len() {
-            self.settled_until = known_if(!self.conflict, self.settled_until);
+            self.propagated = known_if(!self.conflict, self.propagated);
             self.conflict = false;
             return;
         }
         let Level { start, settled } = self.levels[level];
         self.trail.cut(&self.source.tables(), start);
         self.levels.truncate(level);
-        self.settled_until = known_if(settled, Some(start));
+        self.propagated = known_if(settled, Some(start));
         self.conflict = false;
     }
 }
 
 /// Whether rows are known to be settled up to just this place.
-fn is_at(settled_until: Option<usize>, place: usize) -> bool
-    ensures { result ≡ true → settled_until ≡ Some place }
+fn is_at(propagated: Option<usize>, place: usize) -> bool
+    ensures { result ≡ true → propagated ≡ Some place }
 {
-    match settled_until {
+    match propagated {
         Some(until) => until == place,
         None => false,
     }
 }
 
 /// The place where it is known, and else none.
-fn known_if(known: bool, settled_until: Option<usize>) -> Option<usize>
-    ensures { ForSome result (λ place. (known ≡ true) × (settled_until ≡ Some place)) }
+fn known_if(known: bool, propagated: Option<usize>) -> Option<usize>
+    ensures { ForSome result (λ place. (known ≡ true) × (propagated ≡ Some place)) }
 {
-    if known { settled_until } else { None }
+    if known { propagated } else { None }
 }

@@ -11,7 +11,7 @@ ghost use Rattle.pb_trail.specs.Trail.{value_on, reachable};
 
 use crate::looks::Looks;
 use crate::reasons::Reasons;
-use pb_count::{Count, Tally};
+use pb_count::{Coefficient, Counter};
 use pb_inst::{Lit, Memory};
 use pb_rows::{Occurs, Tables};
 use std::alloc::Global;
@@ -20,8 +20,8 @@ use std::marker::Model;
 /// The literals of a trail, the value of each variable, and for each row of some tables the sum that it can still reach. The
 /// tables are not kept here, so whoever changes the trail hands them over, and may hold a part of them meanwhile.
 #[derive(Drop)]
-pub struct Trail<C: Count> {
-    sums: Vec<Tally<C>>,
+pub struct Trail<C: Coefficient> {
+    sums: Vec<Counter<C>>,
     values: Vec<Option<bool>>,
     lits: Vec<Lit>,
     looks: Looks<C>,
@@ -31,7 +31,7 @@ pub struct Trail<C: Count> {
     reasons: Reasons,
 }
 
-impl<C: Count> Model for Trail<C> {
+impl<C: Coefficient> Model for Trail<C> {
     ghost use Rattle.std.specs.Prelude.{length};
     ghost use Rattle.std.specs.Vec.{vec_capacity};
     ghost use Rattle.pb_trail.specs.Tracked.{TrailState, AreValues};
@@ -43,7 +43,7 @@ impl<C: Count> Model for Trail<C> {
     ghost invariant = { λ t. AreValues t.values.items t.lits.items (vec_capacity t.lits) };
 }
 
-impl<C: Count> Trail<C> {
+impl<C: Coefficient> Trail<C> {
     /// The empty trail over the rows. It makes room for all variables.
     pub fn new(alloc: Global, tables: &Tables<'_, C>) -> Result<Trail<C>, Memory>
         ensures empty { IfOk result (λ trail. trail.lits ≡ []) }
@@ -99,7 +99,7 @@ impl<C: Count> Trail<C> {
     }
 
     /// The sum that the row can still reach.
-    pub fn sum(&self, row: usize) -> Tally<C>
+    pub fn sum(&self, row: usize) -> Counter<C>
         requires { row < length self.now.sums }
         ensures { result ≡ slice_index self.now.sums row }
     {
@@ -125,14 +125,14 @@ impl<C: Count> Trail<C> {
 
     /// Whether the row was looked through at this slack or a lesser one, with nothing taken off since. Of short rows that is
     /// not known.
-    pub fn knows(&self, row: usize, slack: Tally<C>) -> bool
+    pub fn knows(&self, row: usize, slack: Counter<C>) -> bool
         ensures { result ≡ true → IsKnown self.now.looks row slack }
     {
         self.looks.knows(row, slack)
     }
 
     /// Notes that the row was looked through at the slack.
-    pub fn note(&mut self, row: usize, slack: Tally<C>)
+    pub fn note(&mut self, row: usize, slack: Counter<C>)
         ensures noted { NotesOnly self.old.looks self.new.looks row slack }
         ensures rest { self.new ≡ record self.old { looks = self.new.looks } }
     {
@@ -175,7 +175,7 @@ impl<C: Count> Trail<C> {
         ensures nothing_known { KnowsNothing self.new.looks }
         ensures popped { self.new.lits ≡ take (length self.old.lits - 1) self.old.lits }
     {
-        let _vars = tables.vars();
+        tables.facts();
         if let Some(lit) = self.lits.pop() {
             self.values[lit.var() as usize - 1] = None;
             raise_rows(&mut self.sums, tables, lit.negate());
@@ -184,7 +184,7 @@ impl<C: Count> Trail<C> {
 }
 
 /// The sum of all coefficients, for each row.
-fn totals<C: Count>(alloc: Global, tables: &Tables<'_, C>) -> Result<Vec<Tally<C>>, Memory>
+fn totals<C: Coefficient>(alloc: Global, tables: &Tables<'_, C>) -> Result<Vec<Counter<C>>, Memory>
     ensures { IfOk result (λ sums. (length sums.items ≡ length tables.now.rows) × ((r : ℕ) → r < length tables.now.rows → slice_index sums.items r ≡ reachable [] (row_at tables.now.rows r).terms)) }
 {
     let mut sums = Vec::with_capacity(alloc, tables.len())?;
@@ -195,7 +195,7 @@ fn totals<C: Count>(alloc: Global, tables: &Tables<'_, C>) -> Result<Vec<Tally<C
 }
 
 /// Takes the literal's coefficients from the sums of its rows and clauses.
-fn lower_rows<C: Count>(sums: &mut [Tally<C>], tables: &Tables<'_, C>, lit: Lit)
+fn lower_rows<C: Coefficient>(sums: &mut [Counter<C>], tables: &Tables<'_, C>, lit: Lit)
     requires variable { lit.var ≤ tables.now.vars }
     requires count { length sums.old ≡ length tables.now.rows }
     requires enough { (r : ℕ) → r < length sums.old → weight_of lit (row_at tables.now.rows r).terms ≤ slice_index sums.old r }
@@ -206,7 +206,7 @@ fn lower_rows<C: Count>(sums: &mut [Tally<C>], tables: &Tables<'_, C>, lit: Lit)
 }
 
 /// Adds the literal's coefficients to the sums of its rows and clauses.
-fn raise_rows<C: Count>(sums: &mut [Tally<C>], tables: &Tables<'_, C>, lit: Lit)
+fn raise_rows<C: Coefficient>(sums: &mut [Counter<C>], tables: &Tables<'_, C>, lit: Lit)
     requires variable { lit.var ≤ tables.now.vars }
     requires count { length sums.old ≡ length tables.now.rows }
     requires fits { (r : ℕ) → r < length sums.old → slice_index sums.old r + weight_of lit (row_at tables.now.rows r).terms < 2 * C.limit }
@@ -217,7 +217,7 @@ fn raise_rows<C: Count>(sums: &mut [Tally<C>], tables: &Tables<'_, C>, lit: Lit)
 }
 
 /// Takes the coefficients of the occurrences from the sums of their rows.
-fn lower<C: Count, O: Occurs<C>>(sums: &mut [Tally<C>], occurrences: &[O])
+fn lower<C: Coefficient, O: Occurs<C>>(sums: &mut [Counter<C>], occurrences: &[O])
     requires rows_exist { All (λ o. (O.occurrence o).row < length sums.old) occurrences.now }
     requires enough { (r : ℕ) → r < length sums.old → total_by O.occurrence r occurrences.now ≤ slice_index sums.old r }
     ensures { (r : ℕ) → r < length sums.old → slice_index sums.new r + total_by O.occurrence r occurrences.now ≡ slice_index sums.old r }
@@ -228,7 +228,7 @@ fn lower<C: Count, O: Occurs<C>>(sums: &mut [Tally<C>], occurrences: &[O])
 }
 
 /// Adds the coefficients of the occurrences to the sums of their rows.
-fn raise<C: Count, O: Occurs<C>>(sums: &mut [Tally<C>], occurrences: &[O])
+fn raise<C: Coefficient, O: Occurs<C>>(sums: &mut [Counter<C>], occurrences: &[O])
     requires rows_exist { All (λ o. (O.occurrence o).row < length sums.old) occurrences.now }
     requires fits { (r : ℕ) → r < length sums.old → slice_index sums.old r + total_by O.occurrence r occurrences.now < 2 * C.limit }
     ensures { (r : ℕ) → r < length sums.old → slice_index sums.new r ≡ slice_index sums.old r + total_by O.occurrence r occurrences.now }

@@ -7,7 +7,7 @@ use Rattle.std.proofs.lemmas.List.Elements.{All-more, All-push}
 use Rattle.std.proofs.lemmas.List.Sums.{sum_by-append, sum_by-cons, sum_by_more, sum_by_more_le}
 use Rattle.std.proofs.lemmas.Option.{get_or_from_slice_get, slice_get_within}
 use Rattle.pb_inst.specs.Constraints.{unit_term, clause_constraint}
-use Rattle.pb_inst.specs.declared.TheConstants.{MAX_CONSTRAINTS, MAX_TERMS}
+use Rattle.pb_inst.specs.declared.limits.TheConstants.{MAX_CONSTRAINTS, MAX_TERMS}
 use Rattle.pb_inst.specs.Limits.{constraint_terms, term_count}
 use Rattle.pb_inst.specs.Literal.{Literal}
 use Rattle.pb_inst.specs.Problem.{LinearConstraint, Problem, statements}

@@ -7,7 +7,7 @@ use Rattle.std.proofs.lemmas.Bool.{and_from}
 use Rattle.std.proofs.lemmas.List.Folds.{list_all-append}
 use Rattle.std.proofs.lemmas.List.Sums.{sum_by-cons}
 use Rattle.pb_inst.specs.declared.constraints.Term.{Term}
-use Rattle.pb_inst.specs.declared.TheConstants.{MAX_VARS, SUM_BOUND}
+use Rattle.pb_inst.specs.declared.limits.TheConstants.{MAX_VARS, SUM_BOUND}
 use Rattle.pb_inst.specs.Limits.{total_magnitude, constraint_magnitude}
 use Rattle.pb_inst.specs.Problem.{LinearConstraint}
 use Rattle.pb_read.specs.Opb.{Token, End, Min, Related, Number, Lit, line_tokens, is_comment, term_tokens, objective_tokens, constraint_tokens, token_of}

@@ -5,7 +5,7 @@ use Rattle.std.specs.List.{list_all, AllByRecursion}
 use Rattle.std.proofs.lemmas.Bool.{and_parts, and_from, not-true, false≢true}
 use Rattle.std.proofs.lemmas.List.{map-append}
 use Rattle.pb_inst.specs.declared.constraints.Term.{Term}
-use Rattle.pb_inst.specs.declared.TheConstants.{MAX_VARS, SUM_BOUND}
+use Rattle.pb_inst.specs.declared.limits.TheConstants.{MAX_VARS, SUM_BOUND}
 use Rattle.pb_inst.specs.Limits.{total_magnitude, constraint_magnitude, IsProper}
 use Rattle.pb_inst.specs.Problem.{LinearConstraint, Problem}
 use Rattle.pb_read.specs.declared.format.Format.TheVariants.{Opb}

@@ -73,5 +73,5 @@ spelled f p clauses form proper counts variables within =
   where
     by : (f : Format) → HasText f p → IsProper (with_clauses p clauses) → Spells (written_format f) (text_with_clauses f p clauses) (with_clauses p clauses) []
     by Opb form proper = (subst (λ t. OpbText t (with_clauses p clauses)) (sym (text_of_whole Opb p clauses)) (opb_spelled (with_clauses p clauses) proper), refl)
-    by Cnf form proper = (subst (λ t. CnfText t (with_clauses p clauses)) (sym (text_of_whole Cnf p clauses)) (cnf_spelled (with_clauses p clauses) proper (still_clauses p clauses form)), refl)
-    by Icnf form proper = (subst (λ t. CnfText t (with_clauses p clauses)) (sym (text_of_whole Icnf p clauses)) (cnf_spelled (with_clauses p clauses) proper (still_clauses p clauses form)), refl)
+    by Cnf form proper = (subst (λ t. CnfText t (with_clauses p clauses)) (sym (text_of_whole Cnf p clauses)) (cnf_spelled (with_clauses p clauses) proper (still_clauses p clauses (form refl))), refl)
+    by Icnf form proper = (subst (λ t. CnfText t (with_clauses p clauses)) (sym (text_of_whole Icnf p clauses)) (cnf_spelled (with_clauses p clauses) proper (still_clauses p clauses (form refl))), refl)

@@ -1,7 +1,7 @@
 -- The instance of one piece: the whole instance, and the clauses that its assignments alone meet.
 use Rattle.std.specs.Prelude.{ℕ, ◌≤◌, not, List, [], ◌∷◌, ◌++◌, length, map, slice_get}
 use Rattle.std.specs.Option.{option_map_or}
-use Rattle.pb_inst.specs.declared.TheConstants.{MAX_CONSTRAINTS, MAX_TERMS}
+use Rattle.pb_inst.specs.declared.limits.TheConstants.{MAX_CONSTRAINTS, MAX_TERMS}
 use Rattle.pb_inst.specs.Constraints.{clause_constraint}
 use Rattle.pb_inst.specs.Limits.{term_count}
 use Rattle.pb_inst.specs.Literal.{Literal}

@@ -9,7 +9,7 @@ use Rattle.pb_inst.specs.Constraints.{unit_term}
 use Rattle.pb_inst.specs.Literal.{Literal}
 use Rattle.pb_inst.specs.Problem.{LinearConstraint, Problem}
 use Rattle.pb_read.specs.declared.format.Format.{Format}
-use Rattle.pb_read.specs.declared.format.Format.TheVariants.{Opb, Cnf, Icnf}
+use Rattle.pb_read.specs.Format.{is_clausal}
 use Rattle.pb_write.specs.Written.{literals_of}
 use Rattle.pb_write.specs.Pieces.{with_clauses}
 
@@ -49,33 +49,23 @@ cnf_literal l = (if l.positive then [] else codes "-") ++ decimal l.var ++ codes
 
 -- a clause as the format writes it: in OPB each literal once, with the coefficient 1
 abbrev pub clause_literal : Format → Literal → List ℕ
-clause_literal Opb l = term_text (unit_term l)
-clause_literal Cnf l = cnf_literal l
-clause_literal Icnf l = cnf_literal l
+clause_literal format l = if is_clausal format then cnf_literal l else term_text (unit_term l)
 
 abbrev pub clause_end : Format → List ℕ
-clause_end Opb = codes ">= 1 ;\n"
-clause_end Cnf = codes "0\n"
-clause_end Icnf = codes "0\n"
+clause_end format = if is_clausal format then codes "0\n" else codes ">= 1 ;\n"
 
 abbrev pub clause_text : Format → List Literal → List ℕ
 clause_text format lits = flat_map (clause_literal format) lits ++ clause_end format
 
 abbrev pub constraint_text : Format → LinearConstraint → List ℕ
-constraint_text Opb c = constraint_line c
-constraint_text Cnf c = clause_text Cnf (literals_of c)
-constraint_text Icnf c = clause_text Icnf (literals_of c)
+constraint_text format c = if is_clausal format then clause_text format (literals_of c) else constraint_line c
 
 -- `* #variable= N #constraint= M`, or `p cnf N M`
 abbrev pub header_start : Format → List ℕ
-header_start Opb = codes "* #variable= "
-header_start Cnf = codes "p cnf "
-header_start Icnf = codes "p cnf "
+header_start format = if is_clausal format then codes "p cnf " else codes "* #variable= "
 
 abbrev pub header_middle : Format → List ℕ
-header_middle Opb = codes " #constraint= "
-header_middle Cnf = codes " "
-header_middle Icnf = codes " "
+header_middle format = if is_clausal format then codes " " else codes " #constraint= "
 
 abbrev pub header_text : Format → ℕ → ℕ → List ℕ
 header_text format vars constraints = header_start format ++ decimal vars ++ header_middle format ++ decimal constraints ++ codes "\n"

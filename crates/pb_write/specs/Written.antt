@@ -1,18 +1,16 @@
 -- What writing an instance promises.
-use Rattle.std.specs.Prelude.{◌≡◌, ℕ, List, [], map, All, Option, None, ◌≤◌}
+use Rattle.std.specs.Prelude.{◌≡◌, ℕ, List, [], map, All, Option, None, IsTrue, if◌then◌else◌, ◌≤◌}
 use Rattle.std.specs.Io.KnownBytes.{Appends}
 use Rattle.pb_inst.specs.Constraints.{clause_constraint}
 use Rattle.pb_inst.specs.Literal.{Literal}
 use Rattle.pb_inst.specs.Problem.{LinearConstraint, Problem}
 use Rattle.pb_read.specs.declared.format.Format.{Format}
-use Rattle.pb_read.specs.declared.format.Format.TheVariants.{Opb, Cnf, Icnf}
-use Rattle.pb_read.specs.Format.{Spells}
+use Rattle.pb_read.specs.declared.format.Format.TheVariants.{Opb, Cnf}
+use Rattle.pb_read.specs.Format.{Spells, is_clausal}
 
--- The format in which an instance of a format is written. That of iCNF is CNF, whose header keeps the number of variables.
+-- The format in which an instance of a format is written. That of clauses is CNF, whose header keeps the number of variables.
 abbrev pub written_format : Format → Format
-written_format Opb = Opb
-written_format Cnf = Cnf
-written_format Icnf = Cnf
+written_format format = if is_clausal format then Cnf else Opb
 
 -- known bytes have grown by a text that spells the instance and no cubes
 pub record IsWritten (format : Format) (old new : Option (List ℕ)) (p : Problem) : Type 0 where
@@ -35,9 +33,7 @@ pub record AreClauses (p : Problem) : Type 0 where
 
 -- the format has texts of such instances
 abbrev pub HasText : Format → Problem → Type 0
-HasText Opb p = Unit {0}
-HasText Cnf p = AreClauses p
-HasText Icnf p = AreClauses p
+HasText format p = IsTrue (is_clausal format) → AreClauses p
 
 -- known bytes of a writer have grown by these
 pub record Adds {T : Type 0} (contents : T → Option (List ℕ)) (old new : T) (bytes : List ℕ) : Type 0 where

@@ -24,9 +24,10 @@ fn put_literal<W: Write>(out: &mut W, format: Format, lit: Lit) -> io::Result<()
     ensures written { OnOk result (Adds W.contents out.old out.new (clause_literal format lit)) }
     ensures variable { 1 ≤ lit.var }
 {
-    match format {
-        Format::Opb => opb::put_term(out, Term { coef: 1, lit }),
-        Format::Cnf | Format::Icnf => put_cnf_literal(out, lit),
+    if format.is_clausal() {
+        put_cnf_literal(out, lit)
+    } else {
+        opb::put_term(out, Term { coef: 1, lit })
     }
 }
 
@@ -34,9 +35,10 @@ fn put_literal<W: Write>(out: &mut W, format: Format, lit: Lit) -> io::Result<()
 fn put_end<W: Write>(out: &mut W, format: Format) -> io::Result<()>
     ensures { OnOk result (Adds W.contents out.old out.new (clause_end format)) }
 {
-    match format {
-        Format::Opb => put(out, b">= 1 ;\n"),
-        Format::Cnf | Format::Icnf => put(out, b"0\n"),
+    if format.is_clausal() {
+        put(out, b"0\n")
+    } else {
+        put(out, b">= 1 ;\n")
     }
 }
 

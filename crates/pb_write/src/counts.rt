@@ -2,7 +2,7 @@
 ghost use Rattle.std.specs.Prelude.{◌≡◌, ◌↔◌, ◌+◌, ◌≤◌, length, IfSome, IsSome, IsTrue, sum_by};
 ghost use Rattle.pb_inst.specs.Limits.{term_count};
 ghost use Rattle.pb_inst.specs.Problem.{statements};
-ghost use Rattle.pb_inst.specs.declared.TheConstants.{MAX_TERMS};
+ghost use Rattle.pb_inst.specs.declared.limits.TheConstants.{MAX_TERMS};
 ghost use Rattle.pb_write.specs.Pieces.{clauses_of, with_clauses, KeepsCounts};
 
 use pb_cubes::Piece;

@@ -12,9 +12,10 @@ use std::io::{self, Write};
 pub fn written_format(format: Format) -> Format
     ensures { result ≡ format_written format }
 {
-    match format {
-        Format::Opb => Format::Opb,
-        Format::Cnf | Format::Icnf => Format::Cnf,
+    if format.is_clausal() {
+        Format::Cnf
+    } else {
+        Format::Opb
     }
 }
 
@@ -37,17 +38,19 @@ pub(crate) fn put_header<W: Write>(
 fn start_of(format: Format) -> &'static [u8]
     ensures { result.now ≡ header_start format }
 {
-    match format {
-        Format::Opb => b"* #variable= ",
-        Format::Cnf | Format::Icnf => b"p cnf ",
+    if format.is_clausal() {
+        b"p cnf "
+    } else {
+        b"* #variable= "
     }
 }
 
 fn middle_of(format: Format) -> &'static [u8]
     ensures { result.now ≡ header_middle format }
 {
-    match format {
-        Format::Opb => b" #constraint= ",
-        Format::Cnf | Format::Icnf => b" ",
+    if format.is_clausal() {
+        b" "
+    } else {
+        b" #constraint= "
     }
 }

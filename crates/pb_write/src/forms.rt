@@ -10,10 +10,7 @@ use pb_read::Format;
 pub(crate) fn has_text(format: Format, instance: &Instance) -> bool
     ensures { IsTrue result ↔ HasText format instance.now }
 {
-    match format {
-        Format::Opb => true,
-        Format::Cnf | Format::Icnf => are_clauses(instance),
-    }
+    !format.is_clausal() || are_clauses(instance)
 }
 
 fn are_clauses(instance: &Instance) -> bool

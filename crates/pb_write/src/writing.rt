@@ -145,8 +145,9 @@ fn put_constraint<W: Write>(
 ) -> io::Result<()>
     ensures { OnOk result (Adds W.contents out.old out.new (constraint_text format (linear constraint.now))) }
 {
-    match format {
-        Format::Opb => opb::put_constraint(out, constraint),
-        Format::Cnf | Format::Icnf => put_clause(out, format, &constraint.terms),
+    if format.is_clausal() {
+        put_clause(out, format, &constraint.terms)
+    } else {
+        opb::put_constraint(out, constraint)
     }
 }

@@ -1,7 +1,7 @@
 -- Which files the program fetches, and in which order.
 use Rattle.std.specs.Prelude.{◌≡◌, ◌⊎◌, Bool, true, false, List, None, Some}
 use Rattle.clap.specs.Words.{Text, matches_of}
-use Rattle.pb_line.specs.declared.solving.asked.Line.{Line}
+use Rattle.pb_line.specs.declared.solving.args.Line.{Line}
 use Rattle.pb_line.specs.Solving.{IsLineOf, pbcube}
 
 -- the cube file is fetched, where the line names one

@@ -3,13 +3,13 @@
 
 ghost use Rattle.std.specs.Prelude.{◌≡◌};
 
+mod diagnose;
 mod faults;
 mod files;
-mod hinting;
-mod running;
+mod run;
 
 use crate::files::Files;
-use crate::running::{out_of_memory, program};
+use crate::run::{out_of_memory, program};
 use pb_line::{LastFault, Noting, texts_of, words_of};
 use pb_solve::Device;
 use std::fs::{self, File};

@@ -3,7 +3,7 @@ use Rattle.std.specs.Prelude.{◌≡◌, ◌↔◌, ℕ, List, Option, None, Som
 use Rattle.pb_inst.specs.Literal.{Literal}
 use Rattle.pb_inst.specs.Problem.{Problem}
 use Rattle.pb_read.specs.declared.format.Format.{Format}
-use Rattle.pb_solve.specs.Run.{Answers}
+use Rattle.pb_report.specs.Outcome.{Answers}
 use Rattle.pb_join.specs.declared.joining.Joined.{Joined}
 use Rattle.pb_join.specs.declared.reports.PieceReport.{PieceReport}
 use Rattle.pb_join.specs.declared.parts.joining.JoinedParts.{JoinedParts}
@@ -14,7 +14,7 @@ use Rattle.clap.specs.Words.{Text, matches_of}
 use Rattle.pb_parts.specs.declared.parts.PartReport.{PartReport}
 use Rattle.pb_report.specs.Statuses.{exit_status}
 use Rattle.pb_report.specs.declared.statuses.Status.{Status}
-use Rattle.pb_line.specs.declared.joining.asked.Line.{Line}
+use Rattle.pb_line.specs.declared.joining.args.Line.{Line}
 use Rattle.pb_line.specs.Joining.{IsLineOf, pbcube_join}
 use Rattle.pbcube_join.specs.Reading.{ReadsFor, ReadsPartsFor}
 

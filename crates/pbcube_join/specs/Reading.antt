@@ -5,7 +5,7 @@ use Rattle.pb_files.specs.Reading.{CountsPieces, ListsFiles, ReadsInstance, Read
 use Rattle.pb_inst.specs.Problem.{Problem}
 use Rattle.pb_join.specs.declared.reports.PieceReport.{PieceReport}
 use Rattle.pb_parts.specs.declared.parts.PartReport.{PartReport}
-use Rattle.pb_line.specs.declared.joining.asked.Line.{Line}
+use Rattle.pb_line.specs.declared.joining.args.Line.{Line}
 
 -- The instance is read, then the indexes of the folders that the line names, by which the instance is cut into so many pieces, and
 -- then the reports. Each is read from the files that the line names, and no other file is.

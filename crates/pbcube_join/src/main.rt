@@ -4,15 +4,14 @@
 ghost use Rattle.std.specs.Prelude.{◌≡◌};
 
 mod parts;
-mod running;
+mod run;
 
-use crate::running::{out_of_memory, program};
+use crate::run::{out_of_memory, program};
 use pb_files::Files;
-use pb_line::{LastFault, Noting, texts_of, words_of};
-use pb_solve::Device;
-use std::fs;
-use std::io::{self, ErrorKind};
+use pb_line::{LastFault, Noting, Program, main_with};
+use pb_report::Device;
 use std::process::ExitCode;
+use std::{fs, io};
 
 /// The files of the system.
 #[derive(Drop)]
@@ -41,25 +40,33 @@ impl Files for SystemFiles<'_> {
     }
 }
 
-/// Runs the program on the system's words, files and outputs. Words that are no text end with status 2.
+/// The program on the system's files and outputs.
+#[derive(Drop)]
+struct System<'a> {
+    rt: &'a HostRuntime,
+}
+
+impl Program for System<'_> {
+    fn run(&self, words: &[&str]) -> u8 {
+        let rt = self.rt;
+        let faults = LastFault::new();
+        let mut out = Device::new(Noting::new(rt.stdout(), &faults));
+        let mut files = SystemFiles { rt };
+        program(
+            rt.alloc(),
+            words,
+            &mut files,
+            &faults,
+            &mut out,
+            &mut rt.stderr(),
+        )
+    }
+
+    fn end_without_memory(&self) -> u8 {
+        out_of_memory(&mut self.rt.stderr())
+    }
+}
+
 fn main(rt: HostRuntime) -> ExitCode {
-    let faults = LastFault::new();
-    let mut out = Device::new(Noting::new(rt.stdout(), &faults));
-    let mut err = rt.stderr();
-    let texts = match texts_of(&rt) {
-        Ok(texts) => texts,
-        Err(fault) => {
-            return if fault.kind() == ErrorKind::OutOfMemory {
-                ExitCode::from(out_of_memory(&mut err))
-            } else {
-                ExitCode::from(2)
-            };
-        }
-    };
-    let mut files = SystemFiles { rt: &rt };
-    let status = match words_of(rt.alloc(), &texts) {
-        Ok(words) => program(rt.alloc(), &words, &mut files, &faults, &mut out, &mut err),
-        Err(_) => out_of_memory(&mut err),
-    };
-    ExitCode::from(status)
+    main_with(&rt, &System { rt: &rt })
 }

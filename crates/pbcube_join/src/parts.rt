@@ -11,7 +11,7 @@ use pb_join::{JoinedParts, PartsFault, TaskState, join_parts};
 use pb_line::joining::Line;
 use pb_parts::PartReport;
 use pb_read::Format;
-use pb_solve::Device;
+use pb_report::Device;
 use std::alloc::Global;
 use std::io::{self, Write};
 

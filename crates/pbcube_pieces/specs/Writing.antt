@@ -7,7 +7,7 @@ use Rattle.pb_files.specs.Writing.{WritesDivided, told_line}
 use Rattle.pb_inst.specs.Literal.{Literal}
 use Rattle.pb_inst.specs.Problem.{Problem}
 use Rattle.pb_line.specs.Dividing.{IsLineOf, pbcube_pieces}
-use Rattle.pb_line.specs.declared.dividing.asked.Line.{Line}
+use Rattle.pb_line.specs.declared.dividing.args.Line.{Line}
 
 -- the files of a line are read, and what they make, so many pieces, is written to the files of its folder
 pub record Divides {F : Type 0} (reads : F → Text → List ℕ → F → Type 0) (makes : F → Text → F → Type 0) (looks : F → Text → Bool → F → Type 0) (writes : F → Text → List ℕ → F → Type 0) (line : Line) (pieces : ℕ) (old new : F) : Type 0 where

@@ -3,13 +3,13 @@
 
 ghost use Rattle.std.specs.Prelude.{◌≡◌};
 
-mod running;
+mod run;
 
-use crate::running::{out_of_memory, program};
+use crate::run::{out_of_memory, program};
 use pb_files::Folders;
-use pb_line::{texts_of, words_of};
+use pb_line::{Program, main_with};
 use std::fs::{self, File};
-use std::io::{self, ErrorKind, Write};
+use std::io::{self, Write};
 use std::process::ExitCode;
 
 /// The files and folders of the system.
@@ -45,24 +45,30 @@ impl Folders for SystemFolders<'_> {
     }
 }
 
-/// Runs the program on the system's words, files and outputs. Words that are no text end with status 2.
+/// The program on the system's files and outputs.
+#[derive(Drop)]
+struct System<'a> {
+    rt: &'a HostRuntime,
+}
+
+impl Program for System<'_> {
+    fn run(&self, words: &[&str]) -> u8 {
+        let rt = self.rt;
+        let mut folders = SystemFolders { rt };
+        program(
+            rt.alloc(),
+            words,
+            &mut folders,
+            &mut rt.stdout(),
+            &mut rt.stderr(),
+        )
+    }
+
+    fn end_without_memory(&self) -> u8 {
+        out_of_memory(&mut self.rt.stderr())
+    }
+}
+
 fn main(rt: HostRuntime) -> ExitCode {
-    let mut out = rt.stdout();
-    let mut err = rt.stderr();
-    let texts = match texts_of(&rt) {
-        Ok(texts) => texts,
-        Err(fault) => {
-            return if fault.kind() == ErrorKind::OutOfMemory {
-                ExitCode::from(out_of_memory(&mut err))
-            } else {
-                ExitCode::from(2)
-            };
-        }
-    };
-    let mut folders = SystemFolders { rt: &rt };
-    let status = match words_of(rt.alloc(), &texts) {
-        Ok(words) => program(rt.alloc(), &words, &mut folders, &mut out, &mut err),
-        Err(_) => out_of_memory(&mut err),
-    };
-    ExitCode::from(status)
+    main_with(&rt, &System { rt: &rt })
 }

@@ -5,10 +5,10 @@ use Rattle.std.specs.Io.KnownBytes.{Appends}
 use Rattle.pb_cubes.specs.Pieces.{CubeList}
 use Rattle.pb_inst.specs.Incumbent.{Solution}
 use Rattle.pb_inst.specs.Problem.{Problem}
-use Rattle.pb_line.specs.declared.tasks.asked.Line.{Line}
+use Rattle.pb_line.specs.declared.tasks.args.Line.{Line}
 use Rattle.pb_parts.specs.Heading.{part_heading}
 use Rattle.pb_report.specs.declared.statuses.Status.{Status}
-use Rattle.pb_solve.specs.Dealing.{IsAnswerOfTask}
+use Rattle.pb_workers.specs.Dealing.{IsAnswerOfTask}
 use Rattle.pb_solve.specs.Run.{AnswersHeld}
 use Rattle.pbcube_task.specs.Reporting.{ReportsPart}
 

@@ -4,7 +4,7 @@ use Rattle.std.specs.Io.KnownBytes.{Appends}
 use Rattle.clap.specs.Words.{Text, matches_of}
 use Rattle.pb_line.specs.Ends.{EndsOn}
 use Rattle.pb_line.specs.Tasks.{HasNoLine, IsLineOf, pbcube_task}
-use Rattle.pb_line.specs.declared.tasks.asked.Line.{Line}
+use Rattle.pb_line.specs.declared.tasks.args.Line.{Line}
 use Rattle.pb_report.specs.Statuses.{exit_status}
 use Rattle.pb_report.specs.Written.{memory_report}
 use Rattle.pb_report.specs.declared.statuses.Status.{Status}

@@ -6,14 +6,14 @@ use Rattle.pb_inst.specs.Literal.{Literal}
 use Rattle.pb_inst.specs.Problem.{Problem}
 use Rattle.pb_files.specs.Dividing.{ReadsDivided}
 use Rattle.pb_files.specs.Texts.{Text}
-use Rattle.pb_line.specs.declared.tasks.asked.Line.{Line}
+use Rattle.pb_line.specs.declared.tasks.args.Line.{Line}
 use Rattle.pb_parts.specs.Heading.{part_heading}
 use Rattle.pb_report.specs.Written.{memory_report, refusal_report}
 use Rattle.pb_report.specs.declared.ends.Refusal.{Refusal}
 use Rattle.pb_report.specs.declared.statuses.Status.{Status}
 use Rattle.pb_report.specs.declared.statuses.Status.TheVariants.{Unknown, Unsupported}
 use Rattle.pb_solve.specs.Budgeted.{found_of, found_report, found_status}
-use Rattle.pb_solve.specs.Dealing.{IsAnswerOfTask}
+use Rattle.pb_workers.specs.Dealing.{IsAnswerOfTask}
 
 -- What is held, and the pieces that are named as done and as cut, are the answer of the line's task on the instance and the pieces
 -- of these cubes. All that is written is the heading that names these pieces, and then the report of what is held, as what was

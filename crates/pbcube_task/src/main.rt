@@ -6,11 +6,11 @@ ghost use Rattle.std.specs.Prelude.{◌≡◌};
 mod faults;
 mod places;
 mod reporting;
-mod running;
+mod run;
 mod searching;
 
 use crate::places::Places;
-use crate::running::{out_of_memory, program};
+use crate::run::{out_of_memory, program};
 use pb_files::Folders;
 use pb_line::{LastFault, Noting, texts_of, words_of};
 use pb_notes::Folder;

@@ -1,12 +1,13 @@
 //! The report of a task.
 ghost use Rattle.std.specs.Prelude.{◌≡◌, IfErr, IfOk};
-ghost use Rattle.pb_solve.specs.Dealing.{IsAnswerOfTask};
+ghost use Rattle.pb_workers.specs.Dealing.{IsAnswerOfTask};
 ghost use Rattle.pbcube_task.specs.Reporting.{ReportsPart};
 
 use pb_files::Prepared;
 use pb_line::tasks::Line;
 use pb_parts::{Division, report_heading};
-use pb_solve::{Device, RunFault, Status, TaskAnswer, report_found};
+use pb_solve::{Device, RunFault, Status, report_found};
+use pb_workers::TaskAnswer;
 use std::io::Write;
 
 /// Reports the answer of the line's task on what was read: which pieces are done and which were cut, and the best that was found.

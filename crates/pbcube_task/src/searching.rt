@@ -1,14 +1,13 @@
 //! The search of the pieces of a task.
 ghost use Rattle.std.specs.Prelude.{◌≡◌, ◌<◌, IfOk};
-ghost use Rattle.pb_solve.specs.Dealing.{IsAnswerOfTask};
+ghost use Rattle.pb_workers.specs.Dealing.{IsAnswerOfTask};
 
 use crate::places::Places;
 use pb_files::Prepared;
 use pb_inst::Best;
 use pb_line::tasks::Line;
 use pb_notes::{Notes, note_room, write_note};
-use pb_share::{Correspondence, NoNotes};
-use pb_solve::{OpenGate, SolveFault, Task, TaskAnswer, solve_task};
+use pb_workers::{Correspondence, NoNotes, OpenGate, SolveFault, Task, TaskAnswer, solve_task};
 use std::alloc::Global;
 use std::io::{self, Error, ErrorKind, Write};
 use std::thread::Threads;

@@ -1,9 +1,9 @@
 //! The tests by what they are of.
 
-mod account;
 mod blind_multipliers;
 mod clauses;
 mod courses;
+mod effort;
 mod engines;
 mod forms;
 mod player;

@@ -1,6 +1,6 @@
 //! Runs on the caller's own thread: the budget is kept there too.
 
-use pb_solve::{Device, Format, Ran, RunFault, Status, run_alone};
+use pb_solve::{Device, Format, Ran, RunFault, Status, run_without_threads};
 use std::alloc::Global;
 
 /// A budget, and what a run alone answers with it on one constraint that asks for a decision. Without a decision nothing is
@@ -26,7 +26,7 @@ fn alone(alloc: Global, nodes: Option<u64>) -> Result<Ran, RunFault> {
     let text: &[u8] = b"min: 1 x1 1 x2 ;\n1 x1 1 x2 >= 1 ;\n";
     let mut input = Device::new(text);
     let mut out = Device::new(Vec::new(alloc));
-    run_alone(alloc, &mut input, Format::Opb, nodes, &mut out)
+    run_without_threads(alloc, &mut input, Format::Opb, nodes, &mut out)
 }
 
 #[test]

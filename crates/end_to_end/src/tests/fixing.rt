@@ -1,8 +1,8 @@
 //! Which literals an engine fixes. No answer rests on it: what is fixed saves decisions.
 
-use pb_engine::{Count, EngineAt, Fixed};
+use pb_engine::{Coefficient, EngineAt, Fixed};
 use pb_inst::{Memory, Number};
-use pb_normal::{EitherWidth, Form, normalise};
+use pb_normal::{Form, Width, normalise};
 use pb_read::read_opb;
 use std::alloc::Global;
 
@@ -12,7 +12,7 @@ const DEAR_LAST_VARIABLE: &[u8] = b"min: +1 x1 +1 x2 +10 x600 ;\n+1 x1 +1 x2 >= 
 const LIMIT: Number = 5;
 
 /// What the first two calls fix at the first node, as variables and values.
-fn first_fixed<C: Count>(
+fn first_fixed<C: Coefficient>(
     alloc: Global,
     form: &Form<C>,
 ) -> Result<[Option<(u32, bool)>; 2], Memory> {
@@ -33,8 +33,8 @@ fn literals_of_late_variables_are_fixed(rt: HostRuntime) {
     let instance = read_opb(alloc, DEAR_LAST_VARIABLE).expect(&rt, "an instance");
     let normal = normalise(alloc, &instance).expect(&rt, "a normal form");
     let fixed = match normal.form() {
-        EitherWidth::Narrow(form) => first_fixed(alloc, form),
-        EitherWidth::Wide(form) => first_fixed(alloc, form),
+        Width::Narrow(form) => first_fixed(alloc, form),
+        Width::Wide(form) => first_fixed(alloc, form),
     };
     assert!(rt; fixed.expect(&rt, "an engine") == [Some((600, false)), Some((600, false))]);
 }

@@ -1,6 +1,6 @@
 //! A gate that notes what passes, and holds workers at it until others have passed.
 
-use pb_solve::Gate;
+use pb_workers::Gate;
 use std::sync::atomic::{AtomicBool, AtomicU64, Ordering};
 
 /// How often a gate looks again before it gives up.

@@ -4,7 +4,7 @@ ghost use Rattle.std.specs.Prelude.{◌<◌};
 use pb_board::Board;
 use pb_inst::{Assignment, Workers};
 use pb_search::Share;
-use pb_share::BoardShare;
+use pb_workers::BoardShare;
 use std::alloc::Global;
 use std::process::Abort;
 

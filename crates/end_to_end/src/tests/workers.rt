@@ -7,7 +7,7 @@ use pb_cubes::Pieces;
 use pb_inst::{Best, Instance, Number, Workers};
 use pb_normal::normalise;
 use pb_read::{read_cubes, read_opb};
-use pb_solve::{OpenGate, Part, solve, work};
+use pb_workers::{OpenGate, Part, solve, work};
 use std::alloc::Global;
 use std::process::Abort;
 use std::thread::Threads;

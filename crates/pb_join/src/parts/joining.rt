@@ -2,7 +2,7 @@
 ghost use Rattle.std.specs.Prelude.{◌≡◌, ◌≢◌, ◌↔◌, List, IfOk, IfErr, IsErrOf, IsTrue, All, false, true};
 ghost use Rattle.pb_inst.specs.Literal.{Literal};
 ghost use Rattle.pb_parts.specs.Parts.{IsFit};
-ghost use Rattle.pb_solve.specs.Run.{Answers};
+ghost use Rattle.pb_report.specs.Outcome.{Answers};
 ghost use Rattle.pb_join.specs.Joining.{TellsFirstOf};
 ghost use Rattle.pb_join.specs.Parts.{AreAllNamed, AreFitParts, ArePartsOf, AreTaskStates, IsPartsFault, all_found_in_parts, first_division};
 
@@ -13,7 +13,8 @@ use crate::parts::states::TaskState;
 use crate::writing::report_joined;
 use pb_inst::Instance;
 use pb_parts::PartReport;
-use pb_solve::{Device, Format, Status};
+use pb_read::Format;
+use pb_report::{Device, Status};
 use std::alloc::Global;
 use std::io::Write;
 

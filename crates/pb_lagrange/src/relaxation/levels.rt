@@ -1,5 +1,6 @@
 //! What is taken back with an assumption: the changes of multipliers that were made since; and how many assumptions, from the
-//! first on, are not to be taken back.
+//! first on, are not to be taken back. Multipliers that are best below one decision are a poor beginning below another, and
+//! drift if they are kept.
 
 use pb_inst::Memory;
 use std::alloc::Global;

@@ -1,10 +1,11 @@
-//! When all rows are stepped: at the first node, and once the search has gone on for some nodes.
+//! When all rows are stepped: at the first node, and once the search has gone on for some nodes. All of it is done beside the
+//! root's trail, in place of which nothing is left to try, and kept for good: it serves whatever is still to come.
 
 ghost use Rattle.pb_saddle.specs.Shifting.{IsSameButShifted};
 
 use super::steps::Steps;
-use crate::account::Account;
-use pb_count::Count;
+use crate::effort::Effort;
+use pb_count::Coefficient;
 use pb_dual::Multipliers;
 use pb_inst::{Lit, Memory, Number};
 use pb_normal::Form;
@@ -20,7 +21,8 @@ const PATIENCE: u32 = 10;
 /// How often all rows are gone through by then.
 const PASSES: u32 = 4;
 
-/// After how many nodes all rows are shifted at once, to make the first multipliers better still.
+/// After how many nodes all rows are shifted at once, to make the first multipliers better still: no step of one row leaves a
+/// point where only several rows together gain, and there steps end on schedules and assignments.
 const LONG_PATIENCE: u32 = 20;
 
 /// How many steps of the first-order method there are then at most.
@@ -35,7 +37,7 @@ pub struct Passes {
     saddle: Saddle,
     /// The number of terms of all rows.
     terms: u64,
-    /// How many nodes were counted.
+    /// How many nodes of the search were counted.
     nodes: u32,
     /// How often all rows were gone through.
     passes: u32,
@@ -45,7 +47,7 @@ pub struct Passes {
 
 impl Passes {
     /// None yet over the rows of the form.
-    pub fn new<C: Count>(alloc: Global, form: &Form<C>) -> Result<Passes, Memory> {
+    pub fn new<C: Coefficient>(alloc: Global, form: &Form<C>) -> Result<Passes, Memory> {
         Ok(Passes {
             saddle: Saddle::new(alloc, form)?,
             terms: form.terms_len() as u64,
@@ -60,6 +62,12 @@ impl Passes {
         self.terms
     }
 
+    /// A search begins, of another piece say. Where it goes on for long enough all rows are shifted at once again, since other
+    /// literals are assumed and another cost is to be reached.
+    pub fn begin_search(&mut self) {
+        self.nodes = 0;
+    }
+
     /// Counts a node of the search.
     pub fn count_node(&mut self) {
         self.nodes = self.nodes.saturating_add(1);
@@ -67,9 +75,9 @@ impl Passes {
 
     /// Whether all rows are to be stepped, so that first multipliers are found, or better ones once the search has gone on for
     /// some nodes; and that is not too dear.
-    pub fn is_due(&self, account: &Account) -> bool {
+    pub fn is_due(&self, effort: &Effort) -> bool {
         let left = self.end().saturating_sub(self.passes);
-        left > 0 && account.affords((left as u64).saturating_mul(self.terms))
+        left > 0 && effort.affords((left as u64).saturating_mul(self.terms))
     }
 
     /// How often all rows are to have been gone through by now.
@@ -82,18 +90,18 @@ impl Passes {
     }
 
     /// Goes through all rows until that was done as often as it is to be by now. The multipliers are kept for good.
-    pub fn ascend<C: Count>(
+    pub fn ascend<C: Coefficient>(
         &mut self,
         multipliers: &mut Multipliers<C>,
         steps: &mut Steps<C>,
-        account: &mut Account,
+        effort: &mut Effort,
     )
         ensures { IsSameButShifted multipliers.old multipliers.new }
     {
         let (start, end) = (self.passes, self.end());
         for number in start..end {
             pass(multipliers, steps, number % 2 == 1);
-            account.count_multipliers(self.terms);
+            effort.count_multipliers(self.terms);
         }
         self.passes = end;
     }
@@ -109,8 +117,9 @@ impl Passes {
     }
 
     /// Shifts all rows at once, to what the first-order method finds, and steps them twice after that. The multipliers are kept
-    /// for good. That is done seldom, so the account leaves it out.
-    pub fn climb<C: Count>(
+    /// for good. That is done seldom, so the count of effort leaves it out: with it, multipliers would be closed on the very
+    /// instances that it serves.
+    pub fn climb<C: Coefficient>(
         &mut self,
         multipliers: &mut Multipliers<C>,
         steps: &mut Steps<C>,
@@ -126,7 +135,7 @@ impl Passes {
     }
 
     /// Plans in which order the variables without a value may be decided, by so many steps of the first-order method.
-    pub fn plan<C: Count>(&mut self, multipliers: &Multipliers<C>, steps: u32) {
+    pub fn plan<C: Coefficient>(&mut self, multipliers: &Multipliers<C>, steps: u32) {
         self.saddle.approach(multipliers, steps);
     }
 
@@ -136,7 +145,7 @@ impl Passes {
     }
 
     /// Looks for multipliers by which nothing completes the trail, where nothing costs anything, by so many steps at most.
-    pub fn refute<C: Count>(&mut self, multipliers: &mut Multipliers<C>, steps: u32)
+    pub fn refute<C: Coefficient>(&mut self, multipliers: &mut Multipliers<C>, steps: u32)
         ensures { IsSameButShifted multipliers.old multipliers.new }
     {
         self.saddle.refute(multipliers, steps);
@@ -144,7 +153,7 @@ impl Passes {
 }
 
 /// Steps once through all rows, and keeps the multipliers for good.
-fn pass<C: Count>(multipliers: &mut Multipliers<C>, steps: &mut Steps<C>, backwards: bool)
+fn pass<C: Coefficient>(multipliers: &mut Multipliers<C>, steps: &mut Steps<C>, backwards: bool)
     ensures { IsSameButShifted multipliers.old multipliers.new }
 {
     let rows = multipliers.form().len();

@@ -1,11 +1,13 @@
-//! When it is looked for multipliers that refute, where there is no objective and they can tell nothing else.
+//! When it is looked for multipliers that refute, where there is no objective and they can tell nothing else: whatever they
+//! promise over 0 tells that nothing completes the trail. From 0 no step of one row gains, so the first-order method looks for
+//! a direction in which the promise grows without end. Followed from node to node they cost far more than they save.
 
-use crate::account::work_of_node;
+use crate::effort::work_of_node;
 
 /// After how much work of the search for each term of the rows they are looked for first, so that this is a small part of it.
 const WORK_OF_A_TERM: u64 = 512;
 
-/// How many steps of the first-order method there are then at most.
+/// How many steps of the first-order method there are then at most: enough for most, also to see that there are none.
 const FIRST_STEPS: u32 = 25;
 
 /// How many times more steps and work it is from one time to the next.
@@ -14,7 +16,7 @@ const GROWTH: u32 = 4;
 /// The most steps, after which they are looked for no more.
 const MOST_STEPS: u32 = 400;
 
-/// How long the search went on, and when they are looked for. The unit is that of the account.
+/// How long the search went on, and when they are looked for. The unit is that of the effort.
 #[derive(Clone, Copy)]
 pub struct Refuting {
     work: u64,

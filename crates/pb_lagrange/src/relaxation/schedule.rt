@@ -1,9 +1,10 @@
-//! Which rows are stepped next: those that the trail or other steps touched, until enough was looked at for one bound.
+//! Which rows are stepped next: those that the trail or other steps touched, until enough was looked at for one bound. So a
+//! bound costs what a node changes, and not what the instance has; that takes a few more decisions than passes over all rows.
 
 ghost use Rattle.std.specs.Prelude.{◌≡◌, ◌+◌, ◌^◌, ◌<◌, ◌≤◌, IfOk, IfSome, length};
 
 use pb_bits::RowSet;
-use pb_count::{Count, Tally};
+use pb_count::{Coefficient, Counter};
 use pb_dual::{Multipliers, Signed};
 use pb_inst::{Lit, Memory};
 use pb_normal::Form;
@@ -43,7 +44,7 @@ impl Model for Schedule {
 
 impl Schedule {
     /// No row of the form is touched.
-    pub fn new<C: Count>(alloc: Global, form: &Form<C>) -> Result<Schedule, Memory>
+    pub fn new<C: Coefficient>(alloc: Global, form: &Form<C>) -> Result<Schedule, Memory>
         ensures { IfOk result (λ s. s ≡ length form.now.rows) }
     {
         let rows = form.len();
@@ -109,7 +110,7 @@ impl Schedule {
     }
 
     /// Touches the rows of the literal's variable.
-    pub fn touch<C: Count>(&mut self, tables: &Tables<'_, C>, lit: Lit)
+    pub fn touch<C: Coefficient>(&mut self, tables: &Tables<'_, C>, lit: Lit)
         requires { lit.var ≤ tables.now.vars }
         ensures { self.new ≡ self.old }
     {
@@ -118,7 +119,7 @@ impl Schedule {
     }
 
     /// Touches the rows in which the literal occurs.
-    fn touch_rows_of<C: Count>(&mut self, tables: &Tables<'_, C>, lit: Lit)
+    fn touch_rows_of<C: Coefficient>(&mut self, tables: &Tables<'_, C>, lit: Lit)
         requires { lit.var ≤ tables.now.vars }
         ensures { self.new ≡ self.old }
     {
@@ -131,7 +132,7 @@ impl Schedule {
 
     /// Touches the rows of the row's variables without a value whose reduced costs the step by this amount changed by more
     /// than a little.
-    pub fn spread<C: Count>(
+    pub fn spread<C: Coefficient>(
         &mut self,
         multipliers: &Multipliers<C>,
         tables: &Tables<'_, C>,
@@ -143,8 +144,8 @@ impl Schedule {
         requires rows { self.old ≡ length multipliers.now.form.rows }
         ensures { self.new ≡ self.old }
     {
-        let _vars = tables.vars();
-        let little = multipliers.scale() / Tally::of(SMALL_PART);
+        tables.facts();
+        let little = multipliers.scale() / Counter::of(SMALL_PART);
         let terms = multipliers.form().terms(row);
         self.work = self.work.saturating_add(terms.len());
         let size = amount.magnitude();
@@ -162,7 +163,7 @@ impl Schedule {
 }
 
 /// Touches the rows of the occurrences that are among the first `rows`: clauses of cubes come after them.
-fn touch_rows<C: Count, O: Occurs<C>>(touched: &mut RowSet, rows: usize, occurrences: &[O])
+fn touch_rows<C: Coefficient, O: Occurs<C>>(touched: &mut RowSet, rows: usize, occurrences: &[O])
     requires { rows ≤ length touched.old }
     ensures { length touched.new ≡ length touched.old }
 {

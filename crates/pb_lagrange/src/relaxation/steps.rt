@@ -3,7 +3,7 @@
 ghost use Rattle.std.specs.Prelude.{◌<◌, length};
 ghost use Rattle.pb_saddle.specs.Shifting.{IsSameButShifted};
 
-use pb_count::{Count, Tally};
+use pb_count::{Coefficient, Counter};
 use pb_dual::{Multipliers, Signed};
 use pb_inst::Memory;
 use pb_normal::Form;
@@ -11,18 +11,18 @@ use std::alloc::Global;
 
 /// Where the multiplier of a row makes a literal free of cost, and the literal's coefficient.
 #[derive(Clone, Copy)]
-struct Breakpoint<C: Count> {
-    at: Tally<C>,
-    coef: Tally<C>,
+struct Breakpoint<C: Coefficient> {
+    at: Counter<C>,
+    coef: Counter<C>,
 }
 
 /// Room for what a step looks at.
 #[derive(Drop)]
-pub struct Steps<C: Count> {
+pub struct Steps<C: Coefficient> {
     breakpoints: Vec<Breakpoint<C>>,
 }
 
-impl<C: Count> Steps<C> {
+impl<C: Coefficient> Steps<C> {
     /// Room for the longest row of the form.
     pub fn new(alloc: Global, form: &Form<C>) -> Result<Steps<C>, Memory> {
         Ok(Steps {
@@ -39,7 +39,7 @@ impl<C: Count> Steps<C> {
         if !multipliers.has_room() {
             return Signed::zero();
         }
-        let is_clause = !Tally::of(1).is_below(multipliers.degree(row));
+        let is_clause = !Counter::of(1).is_below(multipliers.degree(row));
         let amount = if is_clause {
             clause_amount(multipliers, row)
         } else {
@@ -53,12 +53,12 @@ impl<C: Count> Steps<C> {
 }
 
 /// How far to shift the multiplier of a row that one literal meets: its least reduced cost becomes 0 or less.
-fn clause_amount<C: Count>(multipliers: &Multipliers<C>, row: usize) -> Signed<C>
+fn clause_amount<C: Coefficient>(multipliers: &Multipliers<C>, row: usize) -> Signed<C>
     requires { row < length multipliers.now.form.rows }
 {
     let (mut least, mut next) = (Signed::greatest(), Signed::greatest());
     let form = multipliers.form();
-    let _vars = form.vars();
+    form.facts();
     for term in form.terms(row) {
         match multipliers.value(term.lit()) {
             Some(true) => return Signed::zero().minus(Signed::of(multipliers.multiplier(row))),
@@ -74,7 +74,7 @@ fn clause_amount<C: Count>(multipliers: &Multipliers<C>, row: usize) -> Signed<C
 }
 
 /// The same for any row.
-fn row_amount<C: Count>(
+fn row_amount<C: Coefficient>(
     multipliers: &Multipliers<C>,
     breakpoints: &mut Vec<Breakpoint<C>>,
     row: usize,
@@ -82,7 +82,7 @@ fn row_amount<C: Count>(
     requires { row < length multipliers.now.form.rows }
 {
     let form = multipliers.form();
-    let _vars = form.vars();
+    form.facts();
     let multiplier = multipliers.multiplier(row);
     let most = multipliers.most(row);
     let mut need = Signed::of(multipliers.degree(row));
@@ -110,29 +110,32 @@ fn row_amount<C: Count>(
 }
 
 /// The middle between the two, the first where there is no second, and 0 where there is none.
-fn middle<C: Count>(least: Signed<C>, next: Signed<C>) -> Signed<C> {
+fn middle<C: Coefficient>(least: Signed<C>, next: Signed<C>) -> Signed<C> {
     if least.is_greatest() {
         return Signed::zero();
     }
     if next.is_greatest() {
         return least;
     }
-    least.plus(Signed::of(next.minus(least).magnitude() / Tally::of(2)))
+    least.plus(Signed::of(next.minus(least).magnitude() / Counter::of(2)))
 }
 
 /// Notes a literal that costs so much where its row has no multiplier.
-fn note<C: Count>(breakpoints: &mut Vec<Breakpoint<C>>, alone: Tally<C>, coef: Tally<C>) {
+fn note<C: Coefficient>(breakpoints: &mut Vec<Breakpoint<C>>, alone: Counter<C>, coef: Counter<C>) {
     if breakpoints.len() < breakpoints.capacity() {
-        let at = alone / coef.max(Tally::of(1));
+        let at = alone / coef.max(Counter::of(1));
         breakpoints.push_reserved(Breakpoint { at, coef });
     }
 }
 
 /// The multiplier at which just enough literals are free of cost to give what is needed, and the middle where it is so on
 /// an interval; none where all of them don't give it.
-fn target<C: Count>(breakpoints: &mut [Breakpoint<C>], need: Signed<C>) -> Option<Tally<C>> {
+fn target<C: Coefficient>(
+    breakpoints: &mut [Breakpoint<C>],
+    need: Signed<C>,
+) -> Option<Counter<C>> {
     breakpoints.sort_unstable_by_key(|point| point.at.number());
-    let (mut left, mut last) = (need, Tally::of(0));
+    let (mut left, mut last) = (need, Counter::of(0));
     for point in breakpoints {
         if left.is_negative() {
             return Some(last);
@@ -147,7 +150,7 @@ fn target<C: Count>(breakpoints: &mut [Breakpoint<C>], need: Signed<C>) -> Optio
 }
 
 /// The number of terms of the longest row.
-fn longest_row<C: Count>(form: &Form<C>) -> usize {
+fn longest_row<C: Coefficient>(form: &Form<C>) -> usize {
     let mut longest = 0;
     for row in 0..form.len() {
         longest = longest.max(form.terms(row).len());

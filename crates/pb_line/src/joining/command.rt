@@ -3,7 +3,6 @@ ghost use Rattle.std.specs.Prelude.{◌≡◌, false, IfOk};
 ghost use Rattle.clap.specs.Words.{app_of, rule_of};
 ghost use Rattle.pb_line.specs.Joining.{pbcube_join, pieces, reports, tasks};
 
-use crate::joining::asked::MAX_PIECES;
 use crate::joining::help::{
     ABOUT, EXAMPLES_AND_STATUSES, LONG_ABOUT, PIECES_HELP, REPORT_HELP, TASKS_HELP,
 };
@@ -11,6 +10,7 @@ use crate::options::{file_operand, format_option, named};
 use crate::tasks::MAX_TASKS;
 use clap::builder::ValueParser;
 use clap::{Arg, ArgAction, Command};
+use pb_inst::MAX_PIECES;
 use std::alloc::{AllocError, Global};
 
 /// `pbcube_join [--format FORMAT] [--pieces N | --tasks T] FILE [REPORT]...`

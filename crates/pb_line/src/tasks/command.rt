@@ -6,7 +6,7 @@ ghost use Rattle.pb_line.specs.Tasks.{exchange, pbcube_task, task, tasks};
 use crate::options::{
     cubes_option, file_operand, format_option, named, nodes_option, split_option, workers_option,
 };
-use crate::tasks::asked::MAX_TASKS;
+use crate::tasks::args::MAX_TASKS;
 use crate::tasks::help::{
     ABOUT, CUBES_HELP, EXAMPLES_AND_STATUSES, EXCHANGE_HELP, FILE_HELP, FORMAT_HELP, LONG_ABOUT,
     NODES_HELP, SPLIT_HELP, TASK_HELP, TASKS_HELP, WORKERS_HELP,

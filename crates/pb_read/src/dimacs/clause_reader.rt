@@ -1,6 +1,6 @@
 //! Clauses word by word.
 ghost use Rattle.std.specs.Prelude.{◌≡◌, ◌≤◌, ◌<◌, ◌+◌, ◌^◌, length, IfOk, option_map, ◌∷◌, ◌++◌, ◌⊎◌, [], List, ℕ, Option, None, Some, OnOk, IfErr, fold, map, max};
-ghost use Rattle.pb_inst.specs.declared.TheConstants.{MAX_VARS};
+ghost use Rattle.pb_inst.specs.declared.limits.TheConstants.{MAX_VARS};
 ghost use Rattle.pb_inst.specs.Literal.{Literal};
 ghost use Rattle.pb_read.specs.Text.{Placed, items};
 ghost use Rattle.pb_read.specs.Refusal.{first_kind, first_fault};

@@ -1,6 +1,6 @@
 //! Lines of cubes.
 ghost use Rattle.std.specs.Prelude.{◌≡◌, ◌≤◌, ◌<◌, ◌+◌, ◌^◌, ◌∷◌, ◌++◌, ◌⊎◌, [], List, ℕ, OnOk, IfOk, IfErr, Some, None, length, fold, max, codes, option_map};
-ghost use Rattle.pb_inst.specs.declared.TheConstants.{MAX_VARS};
+ghost use Rattle.pb_inst.specs.declared.limits.TheConstants.{MAX_VARS};
 ghost use Rattle.pb_inst.specs.Literal.{Literal};
 ghost use Rattle.pb_read.specs.Text.{Placed, is_text, items};
 ghost use Rattle.pb_read.specs.Refusal.{first_kind, first_fault};
@@ -13,8 +13,7 @@ use crate::dimacs::content_lines::ContentLines;
 use crate::dimacs::scan::Scan;
 use crate::dimacs::word::next_word;
 use crate::fault::{ReadFault, ReadKind};
-use pb_cubes::MAX_CUBES;
-use pb_inst::{Cube, MAX_TERMS, MAX_VARS};
+use pb_inst::{Cube, MAX_CUBES, MAX_TERMS, MAX_VARS};
 use std::alloc::Global;
 use std::vec::Vec;
 

@@ -1,6 +1,6 @@
 //! The words of a clause or a cube, one by one.
 ghost use Rattle.std.specs.Prelude.{◌≡◌, ◌<◌, ◌≤◌, ◌∷◌, ◌++◌, [], List, OnOk, if◌then◌else◌, nat_le, Some, None, map};
-ghost use Rattle.pb_inst.specs.declared.TheConstants.{MAX_VARS};
+ghost use Rattle.pb_inst.specs.declared.limits.TheConstants.{MAX_VARS};
 ghost use Rattle.pb_read.specs.Refusal.{first_kind};
 ghost use Rattle.pb_read.specs.Clauses as clauses;
 ghost use Rattle.pb_read.specs.Text.{words};

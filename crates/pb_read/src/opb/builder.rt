@@ -5,7 +5,7 @@ ghost use Rattle.pb_read.specs.Opb as opb;
 ghost use Rattle.pb_read.specs.Terms.{greatest_index};
 ghost use Rattle.pb_read.specs.Refusal.{first_kind, first_fault};
 ghost use Rattle.pb_inst.specs.Limits.{total_magnitude, term_count, constraint_terms};
-ghost use Rattle.pb_inst.specs.declared.TheConstants.{SUM_BOUND, MAX_CONSTRAINTS, MAX_TERMS};
+ghost use Rattle.pb_inst.specs.declared.limits.TheConstants.{SUM_BOUND, MAX_CONSTRAINTS, MAX_TERMS};
 ghost use Rattle.pb_read.specs.Failure.{StatementFails};
 ghost use Rattle.pb_read.specs.Drafts.{gathered, blank_draft};
 ghost use Rattle.pb_read.specs.Reading.{Holds, IsMemory};

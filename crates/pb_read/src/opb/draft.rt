@@ -1,6 +1,6 @@
 //! A statement as far as it was read.
 ghost use Rattle.std.specs.Prelude.{◌≡◌, OnOk, nat_lt};
-ghost use Rattle.pb_inst.specs.declared.TheConstants.{SUM_BOUND};
+ghost use Rattle.pb_inst.specs.declared.limits.TheConstants.{SUM_BOUND};
 ghost use Rattle.pb_read.specs.Refusal.{first_kind};
 ghost use Rattle.pb_read.specs.Opb as opb;
 ghost use Rattle.pb_read.specs.Capped.{read_back};

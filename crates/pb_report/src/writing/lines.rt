@@ -99,19 +99,11 @@ fn name_of(kind: ReadKind) -> &'static [u8]
 fn sign_of(format: Format, value: bool) -> &'static [u8]
     ensures { result.now ≡ sign format value }
 {
-    match (format, value) {
-        (Format::Opb, true) => b" x",
-        (Format::Opb, false) => b" -x",
-        (Format::Cnf | Format::Icnf, true) => b" ",
-        (Format::Cnf | Format::Icnf, false) => b" -",
-    }
+    format.literal_prefix(value)
 }
 
 fn ending_of(format: Format) -> &'static [u8]
     ensures { result.now ≡ ending format }
 {
-    match format {
-        Format::Opb => b"",
-        Format::Cnf | Format::Icnf => b" 0",
-    }
+    format.ending()
 }

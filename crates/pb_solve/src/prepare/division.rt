@@ -6,9 +6,9 @@ ghost use Rattle.pb_read.specs.Reading.{IsMemory};
 ghost use Rattle.pb_cubes.specs.Pieces.{AreWithin};
 ghost use Rattle.pb_solve.specs.Outcome.{FileSpells, IsFileRefused, split_count};
 ghost use Rattle.pb_solve.specs.Division.{AreOfSplit, IsDivided};
-ghost use Rattle.pb_solve.specs.Run.{HaltsDivision, CubesTold, stops_at_input, stops_at_cubes};
+ghost use Rattle.pb_solve.specs.Run.{IsDivisionError, CubesTold, stops_at_input, stops_at_cubes};
 
-use crate::prepare::Halt;
+use crate::prepare::PrepareError;
 use crate::prepare::reading::{CubeFile, ReadStop};
 use pb_cubes::{CubeFault, MAX_CUBES, MAX_SPLIT, Pieces};
 use pb_inst::{Cube, Instance, Memory};
@@ -24,19 +24,19 @@ pub(crate) fn divide<C: CubeFile>(
     instance: &Instance,
     input_cubes: Vec<Cube>,
     split: u32,
-) -> Result<Pieces, Halt>
+) -> Result<Pieces, PrepareError>
     requires unfailed { C.has_failed file.old ≡ false }
     requires within { AreWithin instance.now.vars input_cubes.items }
     ensures same_variables { IfOk result (λ pieces. pieces.vars ≡ instance.now.vars) }
     ensures divided { IfOk result (λ pieces. CubesTold (C.text_left file.old) (λ text. IsDivided instance.now input_cubes.items text split pieces.cubes)) }
-    ensures refused { IfErr result (λ halt. CubesTold (C.text_left file.old) (λ text. HaltsDivision instance.now input_cubes.items text split halt)) }
+    ensures refused { IfErr result (λ error. CubesTold (C.text_left file.old) (λ text. IsDivisionError instance.now input_cubes.items text split error)) }
     ensures failed { C.has_failed file.new ≡ stops_at_cubes result }
     ensures input { stops_at_input result ≡ false }
 {
     let text = match file.read_text(alloc) {
         Ok(text) => text,
-        Err(ReadStop::Fault) => return Err(Halt::ReadCubes),
-        Err(ReadStop::Memory) => return Err(Halt::Memory),
+        Err(ReadStop::Fault) => return Err(PrepareError::ReadCubes),
+        Err(ReadStop::Memory) => return Err(PrepareError::Memory),
     };
     divide_by_text(alloc, text.as_deref(), instance, input_cubes, split)
 }
@@ -48,29 +48,29 @@ fn divide_by_text(
     instance: &Instance,
     input_cubes: Vec<Cube>,
     split: u32,
-) -> Result<Pieces, Halt>
+) -> Result<Pieces, PrepareError>
     requires within { AreWithin instance.now.vars input_cubes.items }
     ensures same_variables { IfOk result (λ pieces. pieces.vars ≡ instance.now.vars) }
     ensures divided { IfOk result (λ pieces. IsDivided instance.now input_cubes.items (option_map (λ t. t.now) text.entry) split pieces.cubes) }
-    ensures refused { IfErr result (HaltsDivision instance.now input_cubes.items (option_map (λ t. t.now) text.entry) split) }
+    ensures refused { IfErr result (IsDivisionError instance.now input_cubes.items (option_map (λ t. t.now) text.entry) split) }
     ensures input { stops_at_input result ≡ false }
     ensures cubes { stops_at_cubes result ≡ false }
 {
     let file_cubes = match cubes_of_file(alloc, text, instance.vars()) {
         Ok(file_cubes) => file_cubes,
-        Err(fault) if fault.kind == ReadKind::Memory => return Err(Halt::Memory),
-        Err(fault) => return Err(Halt::Refused(Refusal::Cubes(fault))),
+        Err(fault) if fault.kind == ReadKind::Memory => return Err(PrepareError::Memory),
+        Err(fault) => return Err(PrepareError::Refused(Refusal::Cubes(fault))),
     };
     if split > MAX_SPLIT || split > instance.vars() {
-        return Err(Halt::Refused(Refusal::Split));
+        return Err(PrepareError::Refused(Refusal::Split));
     }
     let most_given = MAX_CUBES - number_of_split(split);
     if file_cubes.len() > most_given || input_cubes.len() > most_given - file_cubes.len() {
-        return Err(Halt::Refused(Refusal::TooManyCubes));
+        return Err(PrepareError::Refused(Refusal::TooManyCubes));
     }
     match join(alloc, instance, input_cubes, file_cubes, split) {
         Ok(pieces) => Ok(pieces),
-        Err(_) => Err(Halt::Memory),
+        Err(_) => Err(PrepareError::Memory),
     }
 }
 

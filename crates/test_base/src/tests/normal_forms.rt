@@ -2,9 +2,9 @@
 
 use super::texts::instance_of;
 use super::written::is_literal;
-use pb_count::Count;
+use pb_count::Coefficient;
 use pb_inst::{Instance, Magnitude, Number};
-use pb_normal::{EitherWidth, Form, FormTerm, Normal, PositiveTerms, normalise};
+use pb_normal::{Form, FormTerm, Normal, PositiveTerms, Width, normalise};
 use std::alloc::Global;
 use std::process::Abort;
 
@@ -13,7 +13,7 @@ type Terms = &'static [(Magnitude, i32)];
 
 /// The width of a form's numbers.
 #[derive(Clone, Copy, PartialEq, Eq)]
-enum Width {
+enum Bits {
     Of64Bits,
     Of128Bits,
 }
@@ -22,7 +22,7 @@ enum Width {
 struct Case {
     name: &'static str,
     text: &'static [u8],
-    width: Width,
+    width: Bits,
     base: Number,
     objective: Terms,
     rows: &'static [(Magnitude, Terms)],
@@ -38,7 +38,7 @@ const CASES: &[Case] = &[
     Case {
         name: "opposite literals are merged",
         text: b"2 x1 3 ~x1 >= 3 ;",
-        width: Width::Of64Bits,
+        width: Bits::Of64Bits,
         base: 0,
         objective: &[],
         rows: &[(1, &[(1, -1)])],
@@ -46,7 +46,7 @@ const CASES: &[Case] = &[
     Case {
         name: "coefficients are clipped to the degree",
         text: b"5 x1 1 x2 >= 2 ;",
-        width: Width::Of64Bits,
+        width: Bits::Of64Bits,
         base: 0,
         objective: &[],
         rows: &[(2, &[(2, 1), (1, 2)])],
@@ -54,7 +54,7 @@ const CASES: &[Case] = &[
     Case {
         name: "at most and a negative objective are negated",
         text: b"min: -2 x1 -2 x2 ; 1 x1 1 x2 <= 1 ;",
-        width: Width::Of64Bits,
+        width: Bits::Of64Bits,
         base: -4,
         objective: &[(2, -1), (2, -2)],
         rows: &[(1, &[(1, -1), (1, -2)])],
@@ -62,7 +62,7 @@ const CASES: &[Case] = &[
     Case {
         name: "an equality is split in order",
         text: b"2 x1 2 x2 = 3 ;",
-        width: Width::Of64Bits,
+        width: Bits::Of64Bits,
         base: 0,
         objective: &[],
         rows: &[(3, &[(2, 1), (2, 2)]), (1, &[(1, -1), (1, -2)])],
@@ -70,7 +70,7 @@ const CASES: &[Case] = &[
     Case {
         name: "negative coefficients are turned",
         text: b"-3 x1 2 ~x1 >= -2 ;",
-        width: Width::Of64Bits,
+        width: Bits::Of64Bits,
         base: 0,
         objective: &[],
         rows: &[(1, &[(1, -1)])],
@@ -78,7 +78,7 @@ const CASES: &[Case] = &[
     Case {
         name: "what always holds is dropped",
         text: b"1 x1 >= 0 ;",
-        width: Width::Of64Bits,
+        width: Bits::Of64Bits,
         base: 0,
         objective: &[],
         rows: &[],
@@ -86,7 +86,7 @@ const CASES: &[Case] = &[
     Case {
         name: "a row without terms is kept",
         text: b"0 x1 >= 1 ;",
-        width: Width::Of64Bits,
+        width: Bits::Of64Bits,
         base: 0,
         objective: &[],
         rows: &[(1, &[])],
@@ -94,7 +94,7 @@ const CASES: &[Case] = &[
     Case {
         name: "opposite literals are merged at the bound on sums",
         text: b"42535295865117307932921825928971026431 x1 42535295865117307932921825928971026431 ~x1 >= 1 ;",
-        width: Width::Of64Bits,
+        width: Bits::Of64Bits,
         base: 0,
         objective: &[],
         rows: &[],
@@ -105,7 +105,7 @@ const WIDTHS: &[Case] = &[
     Case {
         name: "a sum of coefficients is wide",
         text: b"4611686018427387904 x1 4611686018427387904 x2 >= 9223372036854775807 ;",
-        width: Width::Of128Bits,
+        width: Bits::Of128Bits,
         base: 0,
         objective: &[],
         rows: &[(2 * QUARTER - 1, &[(QUARTER, 1), (QUARTER, 2)])],
@@ -113,7 +113,7 @@ const WIDTHS: &[Case] = &[
     Case {
         name: "a sum just below is not",
         text: b"4611686018427387904 x1 4611686018427387903 x2 >= 9223372036854775807 ;",
-        width: Width::Of64Bits,
+        width: Bits::Of64Bits,
         base: 0,
         objective: &[],
         rows: &[(2 * QUARTER - 1, &[(QUARTER, 1), (QUARTER - 1, 2)])],
@@ -121,7 +121,7 @@ const WIDTHS: &[Case] = &[
     Case {
         name: "a degree is wide",
         text: b"1 x1 >= 9223372036854775808 ;",
-        width: Width::Of128Bits,
+        width: Bits::Of128Bits,
         base: 0,
         objective: &[],
         rows: &[(2 * QUARTER, &[(1, 1)])],
@@ -129,7 +129,7 @@ const WIDTHS: &[Case] = &[
     Case {
         name: "the greatest degree is wide",
         text: b"1 x1 >= 85070591730234615865843651857942052862 ;",
-        width: Width::Of128Bits,
+        width: Bits::Of128Bits,
         base: 0,
         objective: &[],
         rows: &[(2 * HALF, &[(1, 1)])],
@@ -137,7 +137,7 @@ const WIDTHS: &[Case] = &[
     Case {
         name: "the degree cuts coefficients down",
         text: b"42535295865117307932921825928971026431 x1 42535295865117307932921825928971026431 x2 >= 1 ;",
-        width: Width::Of64Bits,
+        width: Bits::Of64Bits,
         base: 0,
         objective: &[],
         rows: &[(1, &[(1, 1), (1, 2)])],
@@ -145,7 +145,7 @@ const WIDTHS: &[Case] = &[
     Case {
         name: "the greatest objective is wide",
         text: b"min: 85070591730234615865843651857942052863 x1 ;",
-        width: Width::Of128Bits,
+        width: Bits::Of128Bits,
         base: 0,
         objective: &[(2 * HALF + 1, 1)],
         rows: &[],
@@ -153,7 +153,7 @@ const WIDTHS: &[Case] = &[
     Case {
         name: "an objective is wide",
         text: b"min: 9223372036854775808 x1 ;",
-        width: Width::Of128Bits,
+        width: Bits::Of128Bits,
         base: 0,
         objective: &[(2 * QUARTER, 1)],
         rows: &[],
@@ -161,7 +161,7 @@ const WIDTHS: &[Case] = &[
     Case {
         name: "an objective just below is not",
         text: b"min: 9223372036854775807 x1 ;",
-        width: Width::Of64Bits,
+        width: Bits::Of64Bits,
         base: 0,
         objective: &[(2 * QUARTER - 1, 1)],
         rows: &[],
@@ -169,7 +169,7 @@ const WIDTHS: &[Case] = &[
     Case {
         name: "the base alone is great",
         text: b"min: 42535295865117307932921825928971026431 x1 42535295865117307932921825928971026431 ~x1 ;",
-        width: Width::Of64Bits,
+        width: Bits::Of64Bits,
         base: HALF as Number,
         objective: &[],
         rows: &[],
@@ -177,7 +177,7 @@ const WIDTHS: &[Case] = &[
 ];
 
 /// Whether these are the terms.
-fn are<C: Count>(terms: &[FormTerm<C>], expected: &[(Magnitude, i32)]) -> bool {
+fn are<C: Coefficient>(terms: &[FormTerm<C>], expected: &[(Magnitude, i32)]) -> bool {
     for (term, (coef, literal)) in terms.iter().zip(expected) {
         if term.coef().number() != *coef || !is_literal(term.lit(), *literal) {
             return false;
@@ -186,7 +186,7 @@ fn are<C: Count>(terms: &[FormTerm<C>], expected: &[(Magnitude, i32)]) -> bool {
     terms.len() == expected.len()
 }
 
-fn has_rows<C: Count>(form: &Form<C>, rows: &[(Magnitude, Terms)]) -> bool {
+fn has_rows<C: Coefficient>(form: &Form<C>, rows: &[(Magnitude, Terms)]) -> bool {
     if form.len() != rows.len() {
         return false;
     }
@@ -199,15 +199,15 @@ fn has_rows<C: Count>(form: &Form<C>, rows: &[(Magnitude, Terms)]) -> bool {
     true
 }
 
-fn is_case<C: Count>(form: &Form<C>, case: &Case) -> bool {
+fn is_case<C: Coefficient>(form: &Form<C>, case: &Case) -> bool {
     form.base() == case.base && are(form.objective(), case.objective) && has_rows(form, case.rows)
 }
 
 /// Whether the form at its width has the width, the cost and the rows of the case.
 fn is_case_at_width(normal: &Normal, case: &Case) -> bool {
     match normal.form() {
-        EitherWidth::Narrow(form) => case.width == Width::Of64Bits && is_case(form, case),
-        EitherWidth::Wide(form) => case.width == Width::Of128Bits && is_case(form, case),
+        Width::Narrow(form) => case.width == Bits::Of64Bits && is_case(form, case),
+        Width::Wide(form) => case.width == Bits::Of128Bits && is_case(form, case),
     }
 }
 

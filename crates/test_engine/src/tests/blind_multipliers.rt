@@ -1,6 +1,6 @@
 //! Bounds by multipliers that are drawn blindly, against a listing of all assignments.
 
-use pb_count::Count;
+use pb_count::Coefficient;
 use pb_dual::{Multipliers, Signed};
 use pb_inst::{Instance, InstanceBuilder, Lit, Magnitude, Number, Relation, Term};
 use pb_normal::{Form, FormTerm, form_of};
@@ -104,7 +104,7 @@ fn makes_true(bits: u64, lit: Lit) -> bool {
 }
 
 /// The sum of the terms under the bits.
-fn value_of<C: Count>(terms: &[FormTerm<C>], bits: u64) -> Magnitude {
+fn value_of<C: Coefficient>(terms: &[FormTerm<C>], bits: u64) -> Magnitude {
     let mut sum: Magnitude = 0;
     for term in terms {
         if makes_true(bits, term.lit()) {
@@ -115,7 +115,7 @@ fn value_of<C: Count>(terms: &[FormTerm<C>], bits: u64) -> Magnitude {
 }
 
 /// Whether the bits meet all rows.
-fn meets<C: Count>(form: &Form<C>, bits: u64) -> bool {
+fn meets<C: Coefficient>(form: &Form<C>, bits: u64) -> bool {
     for row in 0..form.len() {
         if value_of(form.terms(row), bits) < form.degree(row).number() {
             return false;
@@ -136,7 +136,7 @@ fn extends(bits: u64, lits: &[Lit]) -> bool {
 
 /// The least cost above the base of those that meet all rows and make the literals true; the greatest number where there is
 /// none.
-fn least_above<C: Count>(form: &Form<C>, lits: &[Lit], vars: u32) -> Magnitude {
+fn least_above<C: Coefficient>(form: &Form<C>, lits: &[Lit], vars: u32) -> Magnitude {
     let mut least = Magnitude::MAX;
     for bits in 0..1_u64.wrapping_shl(vars) {
         if extends(bits, lits) && meets(form, bits) {
@@ -147,12 +147,12 @@ fn least_above<C: Count>(form: &Form<C>, lits: &[Lit], vars: u32) -> Magnitude {
 }
 
 /// By how much the bound is above the base.
-fn above<C: Count>(form: &Form<C>, bound: Number) -> Magnitude {
+fn above<C: Coefficient>(form: &Form<C>, bound: Number) -> Magnitude {
     bound.saturating_sub(form.base()).max(0).unsigned_abs()
 }
 
 /// Whether the bounds are at most the costs that the listing finds, with the literal and without it.
-fn holds<C: Count>(
+fn holds<C: Coefficient>(
     form: &Form<C>,
     multipliers: &Multipliers<C>,
     lits: &mut Vec<Lit>,
@@ -174,7 +174,7 @@ fn holds<C: Count>(
 
 /// Makes a drawn change: a shift, a literal that joins or leaves the trail, changes that are taken back, or rows that are
 /// saturated by the trail as it is.
-fn change<C: Count>(
+fn change<C: Coefficient>(
     draws: &mut Draws,
     multipliers: &mut Multipliers<C>,
     lits: &mut Vec<Lit>,
@@ -207,7 +207,7 @@ fn change<C: Count>(
 }
 
 /// Draws an instance and changes of multipliers; answers whether every bound on the way is one.
-fn bounds_hold<C: Count>(rt: &impl Abort, alloc: Global, seed: u64, size: Size) -> bool {
+fn bounds_hold<C: Coefficient>(rt: &impl Abort, alloc: Global, seed: u64, size: Size) -> bool {
     let mut draws = Draws { state: seed };
     let vars = 5;
     let instance = drawn_instance(rt, alloc, &mut draws, vars, size);
@@ -216,7 +216,7 @@ fn bounds_hold<C: Count>(rt: &impl Abort, alloc: Global, seed: u64, size: Size) 
 }
 
 /// Draws changes of multipliers; answers whether every bound on the way is one.
-fn changes_hold<C: Count>(
+fn changes_hold<C: Coefficient>(
     rt: &impl Abort,
     alloc: Global,
     form: &Form<C>,

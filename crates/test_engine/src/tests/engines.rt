@@ -3,7 +3,7 @@
 use super::forms::{Terms, are_within, cubes, lit, normal};
 use pb_engine::{Engine, Step};
 use pb_inst::{Cube, Number};
-use pb_normal::{EitherWidth, Normal};
+use pb_normal::{Normal, Width};
 use std::alloc::Global;
 use std::process::Abort;
 
@@ -27,8 +27,8 @@ const WIDE_ROWS: &[(Terms<'static>, Number)] = &[(
 
 fn is_wide(normal: &Normal) -> bool {
     match normal.form() {
-        EitherWidth::Narrow(_) => false,
-        EitherWidth::Wide(_) => true,
+        Width::Narrow(_) => false,
+        Width::Wide(_) => true,
     }
 }
 

@@ -2,7 +2,7 @@
 
 ghost use Rattle.std.specs.Prelude.{◌≡◌, ◌≤◌, true, All};
 
-use pb_count::Count;
+use pb_count::Coefficient;
 use pb_inst::{Cube, Instance, InstanceBuilder, Lit, Number, Relation, Term};
 use pb_normal::{Form, Normal, form_of, normalise};
 use std::alloc::Global;
@@ -54,7 +54,7 @@ fn instance(
 }
 
 /// The normal form of such an instance, at this width.
-pub fn form<C: Count>(
+pub fn form<C: Coefficient>(
     rt: &impl Abort,
     alloc: Global,
     vars: u32,

@@ -1,7 +1,7 @@
 //! An engine and a propagator that are called alike.
 
 use super::forms::{are_within, is_lit, lit};
-use pb_count::Count;
+use pb_count::Coefficient;
 use pb_engine::{EngineAt, MAX_CLAUSES, RowTerms, Step};
 use pb_inst::{Cube, Lit, Magnitude, Number};
 use pb_normal::Form;
@@ -12,13 +12,13 @@ use std::process::Abort;
 
 /// An engine and, beside it, a propagator over the same rows. What is done is done with both, and both must say the same. The
 /// propagator lends what an engine keeps to itself: its rows, and the counters of their slacks.
-pub struct Player<C: Count = u64> {
+pub struct Player<C: Coefficient = u64> {
     engine: EngineAt<C>,
     propagator: Propagator<C>,
 }
 
 // By hand, so that a test that lets go of a player sees one call.
-impl<C: Count> Drop for Player<C> {
+impl<C: Coefficient> Drop for Player<C> {
     fn drop(self) {
         let Player {
             engine: _,
@@ -27,7 +27,7 @@ impl<C: Count> Drop for Player<C> {
     }
 }
 
-impl<C: Count> Player<C> {
+impl<C: Coefficient> Player<C> {
     /// The empty trail over the form, with cubes that are to be false.
     pub fn new(rt: &impl Abort, alloc: Global, form: &Form<C>, cubes: &[Cube]) -> Player<C> {
         assert!(rt; are_within(cubes, form.vars()));
@@ -160,7 +160,7 @@ impl<C: Count> Player<C> {
 }
 
 /// Whether the terms have just these literals, in this order.
-fn has_lits<C: Count>(terms: RowTerms<'_, C>, expected: &[i32]) -> bool {
+fn has_lits<C: Coefficient>(terms: RowTerms<'_, C>, expected: &[i32]) -> bool {
     match terms {
         RowTerms::Weighted(terms) => {
             terms.len() == expected.len()

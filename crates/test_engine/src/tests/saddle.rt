@@ -1,7 +1,7 @@
 //! Multipliers and a point of a first-order method, beside worked rows.
 
 use super::forms::{Terms, form, is_lit, lit};
-use pb_count::Count;
+use pb_count::Coefficient;
 use pb_dual::Multipliers;
 use pb_inst::{Magnitude, Number};
 use pb_normal::Form;
@@ -10,7 +10,7 @@ use std::alloc::Global;
 use std::process::Abort;
 
 /// Each two of three variables need one; each costs 2 units. The least costs of the relaxation are 3 units, at a half of each.
-fn triangle<C: Count>(rt: &impl Abort, alloc: Global, unit: Number) -> Form<C> {
+fn triangle<C: Coefficient>(rt: &impl Abort, alloc: Global, unit: Number) -> Form<C> {
     let cost = unit.saturating_mul(2);
     let objective: Terms<'_> = &[(cost, 1), (cost, 2), (cost, 3)];
     let rows: &[(Terms<'_>, Number)] = &[
@@ -22,14 +22,14 @@ fn triangle<C: Count>(rt: &impl Abort, alloc: Global, unit: Number) -> Form<C> {
 }
 
 /// The multipliers of the form.
-fn multipliers<C: Count>(rt: &impl Abort, alloc: Global, form: &Form<C>) -> Multipliers<C> {
+fn multipliers<C: Coefficient>(rt: &impl Abort, alloc: Global, form: &Form<C>) -> Multipliers<C> {
     Multipliers::new(alloc, form, 8)
         .expect(rt, "memory")
         .expect(rt, "a scale")
 }
 
 /// Looks whether the bound comes to 3 units within a part of one.
-fn climbs<C: Count>(rt: &impl Abort, alloc: Global, unit: Number) {
+fn climbs<C: Coefficient>(rt: &impl Abort, alloc: Global, unit: Number) {
     let form: Form<C> = triangle(rt, alloc, unit);
     let mut multipliers = multipliers(rt, alloc, &form);
     let mut saddle = Saddle::new(alloc, &form).expect(rt, "memory");

@@ -2,7 +2,7 @@
 
 use super::forms::{Terms, form};
 use super::player::Player;
-use pb_count::Count;
+use pb_count::Coefficient;
 use pb_engine::Step;
 use pb_inst::{Magnitude, Number};
 use std::alloc::Global;
@@ -11,7 +11,7 @@ use std::process::Abort;
 /// What an engine says between two steps: its bound, the value of each variable, and the slack of each row.
 type Look = (Number, Vec<Option<bool>>, Vec<Option<Magnitude>>);
 
-fn look<C: Count>(rt: &impl Abort, alloc: Global, player: &mut Player<C>) -> Look {
+fn look<C: Coefficient>(rt: &impl Abort, alloc: Global, player: &mut Player<C>) -> Look {
     let mut values = Vec::new(alloc);
     for var in 1..=player.vars() {
         values.push(player.value(rt, var)).expect(rt, "memory");
@@ -24,7 +24,7 @@ fn look<C: Count>(rt: &impl Abort, alloc: Global, player: &mut Player<C>) -> Loo
 }
 
 /// Assumes the literal where it can be assumed, and propagates.
-fn step<C: Count>(rt: &impl Abort, player: &mut Player<C>, number: i32) {
+fn step<C: Coefficient>(rt: &impl Abort, player: &mut Player<C>, number: i32) {
     if player.conflict(rt) || player.value(rt, number.unsigned_abs()).is_some() {
         return;
     }
@@ -34,7 +34,7 @@ fn step<C: Count>(rt: &impl Abort, player: &mut Player<C>, number: i32) {
 }
 
 /// What an engine says as it assumes all variables one after another with one sign, and takes them all back.
-fn course<C: Count>(
+fn course<C: Coefficient>(
     rt: &impl Abort,
     alloc: Global,
     player: &mut Player<C>,
@@ -52,7 +52,7 @@ fn course<C: Count>(
 }
 
 /// The looks of a course over an engine of this width, false values first.
-fn looks<C: Count>(
+fn looks<C: Coefficient>(
     rt: &impl Abort,
     alloc: Global,
     vars: u32,

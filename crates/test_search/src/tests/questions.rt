@@ -2,12 +2,13 @@
 
 ghost use Rattle.std.specs.Prelude.{◌≡◌, length};
 ghost use Rattle.pb_questions.specs.Form.{IsFormOf};
+ghost use Rattle.pb_questions.specs.Known.{AreAnswersOf};
 
 use super::instances::{lit, tied};
 use super::listing::Random;
 use pb_inst::{Assignment, Instance, Lit, Number};
 use pb_normal::normalise;
-use pb_questions::{Among, Explanation, Fixed, Questions, VariableStatus};
+use pb_questions::{Among, Explanation, Fixed, KnownAnswers, Questions, VariableStatus};
 use pb_search::WholeSearch;
 use std::alloc::Global;
 use std::process::Abort;
@@ -177,10 +178,18 @@ fn expect_all(
     expect_fixed(rt, alloc, questions, assumed, Among::Least, &listed);
 }
 
+/// Room for answers on the instance.
+fn known_on(rt: &impl Abort, alloc: Global, instance: &Instance) -> KnownAnswers
+    ensures { AreAnswersOf instance.now result }
+{
+    KnownAnswers::new(alloc, instance.vars()).expect(rt, "memory")
+}
+
 /// Asks without a suggestion, and then with one.
 fn expect_questions(rt: &impl Abort, alloc: Global, instance: &Instance, random: &mut Random) {
     let search = search_of(rt, alloc, instance);
-    let mut questions = Questions::new(alloc, instance, search, None);
+    let known = known_on(rt, alloc, instance);
+    let mut questions = Questions::new(alloc, instance, search, known, None);
     expect_some(rt, alloc, instance, &mut questions, random);
     let values = random_values(rt, alloc, instance.vars(), random);
     expect_suggested(rt, alloc, instance, &values, random);
@@ -198,7 +207,8 @@ fn expect_suggested<'a>(
 {
     let mut search = search_of(rt, alloc, instance);
     search.suggest(values);
-    let mut questions = Questions::new(alloc, instance, search, Some(values));
+    let known = known_on(rt, alloc, instance);
+    let mut questions = Questions::new(alloc, instance, search, known, Some(values));
     questions.lend_room(random_values(rt, alloc, instance.vars(), random));
     expect_some(rt, alloc, instance, &mut questions, random);
 }
@@ -240,11 +250,26 @@ fn a_cut_question_spoils_none(rt: HostRuntime) {
     let alloc = rt.alloc();
     let tied = tied(&rt, alloc);
     let search = search_of(&rt, alloc, &tied);
-    let mut questions = Questions::new(alloc, &tied, search, None);
+    let known = known_on(&rt, alloc, &tied);
+    let mut questions = Questions::new(alloc, &tied, search, known, None);
     let cut = questions.solve_under(&[], Some(0)).expect(&rt, "memory");
     assert!(rt; cut.cut);
     for numbers in [&[][..], &[-2], &[-1, -2], &[1, -1], &[9, -9]] {
         let assumed = lits(&rt, alloc, numbers);
         expect_all(&rt, alloc, &tied, &mut questions, &assumed);
+    }
+}
+
+/// A question that needs a decision needs none once it was answered.
+#[test]
+fn what_is_known_takes_no_decision(rt: HostRuntime) {
+    let alloc = rt.alloc();
+    let tied = tied(&rt, alloc);
+    let search = search_of(&rt, alloc, &tied);
+    let known = known_on(&rt, alloc, &tied);
+    let mut questions = Questions::new(alloc, &tied, search, known, None);
+    for (nodes, is_cut) in [(Some(0), true), (None, false), (Some(0), false)] {
+        let answer = questions.solve_under(&[], nodes).expect(&rt, "memory");
+        assert!(rt; answer.cut == is_cut);
     }
 }

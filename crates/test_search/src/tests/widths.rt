@@ -4,7 +4,7 @@ use super::instances::{nothing, run_pieces, solution};
 use super::listing::Random;
 use pb_cubes::Pieces;
 use pb_inst::{Cube, Instance, InstanceBuilder, Number, Term, Terms};
-use pb_normal::{EitherWidth, normalise};
+use pb_normal::{Width, normalise};
 use pb_search::{Alone, Search, SearchTables};
 use std::alloc::Global;
 use std::process::Abort;
@@ -59,7 +59,7 @@ fn found(
     let tables = SearchTables::new(alloc, instance, &normal, pieces).expect(rt, "memory");
     let mut search = Search::over(alloc, &tables).expect(rt, "memory");
     run_pieces(&mut search, 0, pieces.len(), &mut best, &mut Alone);
-    let is_wide = matches!(normal.form(), EitherWidth::Wide(_));
+    let is_wide = matches!(normal.form(), Width::Wide(_));
     let (Some(cost), Some(held)) = (best.cost(), best.assignment()) else {
         return (format!(in alloc; "none").expect(rt, "memory"), is_wide);
     };

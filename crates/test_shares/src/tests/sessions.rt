@@ -98,10 +98,12 @@ fn run(session: &mut Session, format: Format, text: &[u8]) -> Result<Status, Ses
 fn the_cheaper_job_is_done(rt: HostRuntime) {
     let mut session = Session::new(rt.alloc());
     assert!(rt; tell_jobs(&mut session).is_ok());
+    assert!(rt; solve(&mut session, Some(0)) == Ok((Status::Unknown, true)));
     assert!(rt; solve(&mut session, None) == Ok((Status::Optimum, false)));
     assert!(rt; session.cost() == Some(2));
     assert!(rt; values(&session) == [None, Some(false), Some(true), None]);
-    assert!(rt; solve(&mut session, Some(0)) == Ok((Status::Unknown, true)));
+    // It is known, so it takes no decision.
+    assert!(rt; solve(&mut session, Some(0)) == Ok((Status::Optimum, false)));
 }
 
 #[test]

@@ -5,7 +5,7 @@ ghost use Rattle.std.specs.Prelude.{◌≡◌, ◌<◌};
 use pb_board::Board;
 use pb_inst::{Assignment, Memory, Number, Workers};
 use pb_search::Share;
-use pb_share::BoardShare;
+use pb_workers::BoardShare;
 use std::alloc::Global;
 use std::test::Fail;
 

@@ -1,5 +1,5 @@
 use Rattle.std.proofs.Common.{◌≤◌, sym, subst, ℕ, arith}
-use Rattle.pb_inst.specs.declared.TheConstants.{MAX_VARS}
+use Rattle.pb_inst.specs.declared.limits.TheConstants.{MAX_VARS}
 use Rattle.pb_dive.proofs.BudgetLemmas.{none_counted, counted_onward}
 use Rattle.pb_dive.proofs.DiveLemmas.{leads_itself}
 use Rattle.pb_dive.proofs.dive.descend.Goals as goal

@@ -16,6 +16,6 @@ fits origin total scaled greatest m s small within is most =
 
 pub returns-clause-fits : goal.returns-clause-fits
 returns-clause-fits g c =
-    let part : c.div-scaled.result ≤ g.C.Count.origin = omega (arith, c.div-scaled.ensures, c.origin.ensures, div-le_self c.origin.result c.of.result) in
+    let part : c.div-scaled.result ≤ g.C.Coefficient.origin = omega (arith, c.div-scaled.ensures, c.origin.ensures, div-le_self c.origin.result c.of.result) in
     let quotient : c.div.result ≡ c.div-scaled.result / max c.args.total 1 = c.div.ensures ∙ (ap (λ (n : ℕ). c.div-scaled.result / n) c.max.ensures ∙ ap (λ (n : ℕ). c.div-scaled.result / max c.args.total n) c.of-one.ensures) in
-    fits g.C.Count.origin c.args.total c.div-scaled.result c.div-greatest.result c.div.result c.max-2.result c.requires part quotient (omega (arith, c.max-2.ensures, c.min.ensures, c.of-one.ensures))
+    fits g.C.Coefficient.origin c.args.total c.div-scaled.result c.div-greatest.result c.div.result c.max-2.result c.requires part quotient (omega (arith, c.max-2.ensures, c.min.ensures, c.of-one.ensures))

@@ -26,7 +26,7 @@ reprice_literal-requires-clause-enough g c =
     let long : c.loop-term.term-index < length (capped c.args.most c.args.terms.now) = omega (arith, c.loop-term-test.true, length-map c.args.terms.now (capped_term c.args.most)) in
     let read : u ≡ get_or (capped c.args.most c.args.terms.now) c.loop-term.term-index u = ap (capped_term c.args.most) c.term-item.is ∙ sym (get_or-map (capped_term c.args.most) c.args.terms.now c.loop-term.term-index t u c.loop-term-test.true) in
     let within = subst (λ (u : PositiveTerm). (1 ≤ u.lit.var) × (u.lit.var ≤ length c.args.values.now)) (sym c.term-item.is) (c.requires.variables c.loop-term.term-index t c.loop-term-test.true) in
-    let can = can-reprice (get_or c.loop-term.costs (literal_place t.lit) 0) (get_or c.args.costs.now (literal_place t.lit) 0) (capped c.args.most c.args.terms.now) c.loop-term.term-index u c.args.from c.args.to (3 * g.C.Count.origin) long read (c.loop-term.invariant.each t.lit within.0 within.1) (c.requires.enough t.lit within.0 within.1) (c.requires.fits t.lit within.0 within.1) in
+    let can = can-reprice (get_or c.loop-term.costs (literal_place t.lit) 0) (get_or c.args.costs.now (literal_place t.lit) 0) (capped c.args.most c.args.terms.now) c.loop-term.term-index u c.args.from c.args.to (3 * g.C.Coefficient.origin) long read (c.loop-term.invariant.each t.lit within.0 within.1) (c.requires.enough t.lit within.0 within.1) (c.requires.fits t.lit within.0 within.1) in
     rw (here, counts) can.0
 
 pub reprice_literal-requires-clause-fits : goal.reprice_literal-requires-clause-fits
@@ -38,11 +38,11 @@ reprice_literal-requires-clause-fits g c =
     let long : c.loop-term.term-index < length (capped c.args.most c.args.terms.now) = omega (arith, c.loop-term-test.true, length-map c.args.terms.now (capped_term c.args.most)) in
     let read : u ≡ get_or (capped c.args.most c.args.terms.now) c.loop-term.term-index u = ap (capped_term c.args.most) c.term-item.is ∙ sym (get_or-map (capped_term c.args.most) c.args.terms.now c.loop-term.term-index t u c.loop-term-test.true) in
     let within = subst (λ (u : PositiveTerm). (1 ≤ u.lit.var) × (u.lit.var ≤ length c.args.values.now)) (sym c.term-item.is) (c.requires.variables c.loop-term.term-index t c.loop-term-test.true) in
-    let can = can-reprice (get_or c.loop-term.costs (literal_place t.lit) 0) (get_or c.args.costs.now (literal_place t.lit) 0) (capped c.args.most c.args.terms.now) c.loop-term.term-index u c.args.from c.args.to (3 * g.C.Count.origin) long read (c.loop-term.invariant.each t.lit within.0 within.1) (c.requires.enough t.lit within.0 within.1) (c.requires.fits t.lit within.0 within.1) in
+    let can = can-reprice (get_or c.loop-term.costs (literal_place t.lit) 0) (get_or c.args.costs.now (literal_place t.lit) 0) (capped c.args.most c.args.terms.now) c.loop-term.term-index u c.args.from c.args.to (3 * g.C.Coefficient.origin) long read (c.loop-term.invariant.each t.lit within.0 within.1) (c.requires.enough t.lit within.0 within.1) (c.requires.fits t.lit within.0 within.1) in
     rw (here, counts) can.1
 
 pub reprice_literal-requires-clause-small : goal.reprice_literal-requires-clause-small
-reprice_literal-requires-clause-small g c = λ l low high. now-most (get_or c.loop-term.costs (literal_place l) 0) (get_or c.args.costs.now (literal_place l) 0) (capped c.args.most c.args.terms.now) c.loop-term.term-index l c.args.from c.args.to (3 * g.C.Count.origin) (c.loop-term.invariant.each l low high) (c.requires.fits l low high)
+reprice_literal-requires-clause-small g c = λ l low high. now-most (get_or c.loop-term.costs (literal_place l) 0) (get_or c.args.costs.now (literal_place l) 0) (capped c.args.most c.args.terms.now) c.loop-term.term-index l c.args.from c.args.to (3 * g.C.Coefficient.origin) (c.loop-term.invariant.each l low high) (c.requires.fits l low high)
 
 pub loop-term-preserved : goal.loop-term-preserved
 loop-term-preserved g c =
@@ -53,7 +53,7 @@ loop-term-preserved g c =
     let long : c.loop-term.term-index < length (capped c.args.most c.args.terms.now) = omega (arith, c.loop-term-test.true, length-map c.args.terms.now (capped_term c.args.most)) in
     let read : u ≡ get_or (capped c.args.most c.args.terms.now) c.loop-term.term-index u = ap (capped_term c.args.most) c.term-item.is ∙ sym (get_or-map (capped_term c.args.most) c.args.terms.now c.loop-term.term-index t u c.loop-term-test.true) in
     let within = subst (λ (u : PositiveTerm). (1 ≤ u.lit.var) × (u.lit.var ≤ length c.args.values.now)) (sym c.term-item.is) (c.requires.variables c.loop-term.term-index t c.loop-term-test.true) in
-    let can = can-reprice (get_or c.loop-term.costs (literal_place t.lit) 0) (get_or c.args.costs.now (literal_place t.lit) 0) (capped c.args.most c.args.terms.now) c.loop-term.term-index u c.args.from c.args.to (3 * g.C.Count.origin) long read (c.loop-term.invariant.each t.lit within.0 within.1) (c.requires.enough t.lit within.0 within.1) (c.requires.fits t.lit within.0 within.1) in
+    let can = can-reprice (get_or c.loop-term.costs (literal_place t.lit) 0) (get_or c.args.costs.now (literal_place t.lit) 0) (capped c.args.most c.args.terms.now) c.loop-term.term-index u c.args.from c.args.to (3 * g.C.Coefficient.origin) long read (c.loop-term.invariant.each t.lit within.0 within.1) (c.requires.enough t.lit within.0 within.1) (c.requires.fits t.lit within.0 within.1) in
     let n = get_or c.loop-term.costs (literal_place t.lit) 0 + c.args.from * u.coef - c.args.to * u.coef in
     let new : c.reprice_literal.new.costs ≡ set c.loop-term.costs (literal_place t.lit) n = c.reprice_literal.ensures.costs ∙ (ap (λ (l : Literal). set c.loop-term.costs (literal_place l) (get_or c.loop-term.costs (literal_place l) 0 + c.args.from * c.min.result - c.args.to * c.min.result)) here ∙ ap (λ (k : ℕ). set c.loop-term.costs (literal_place t.lit) (get_or c.loop-term.costs (literal_place t.lit) 0 + c.args.from * k - c.args.to * k)) counts) in
     let short : literal_place t.lit < length c.loop-term.costs = omega (arith, c.loop-term.invariant.count, c.requires.count, place_below t.lit (length c.args.values.now) within.0 within.1) in

@@ -13,11 +13,11 @@ overflow_add-sum g c =
     let l = c.args.lit in
     let old = c.args.costs.now in
     let values = c.args.values.now in
-    let most = 3 * g.C.Count.origin in
+    let most = 3 * g.C.Coefficient.origin in
     let one = repriced-one old values l c.negate.result c.var.result c.place_of-here.result c.place_of.result c.index-costs-here.result c.index-costs-place_of.result c.sub-after.result c.place_of-here.ensures.within.0 (omega (arith, c.requires.variable)) c.requires.count c.negate.ensures.same_variable c.negate.ensures.other_sign c.var.ensures.value c.place_of-here.ensures.place c.place_of.ensures.place c.index-costs-here.is c.index-costs-place_of.is in
     let new : c.sub-after.result ≤ most = omega (arith, one.read, c.mul.ensures, c.add.ensures, c.sub-after.ensures, c.requires.fits) in
     let after = repriced-most old (length values) l c.sub-after.result most c.place_of-here.ensures.within.0 (omega (arith, c.requires.variable)) c.requires.count new c.requires.small (get_or values (l.var - 1) None) in
-    let fits = sum-fits (length values) g.C.Count.origin (parts old values) c.least_of-2.result c.requires.few g.C.Count.origin_small (parts-most old values most c.requires.small) (omega (arith, after, one.new, c.least_of-2.ensures)) in
+    let fits = sum-fits (length values) g.C.Coefficient.origin (parts old values) c.least_of-2.result c.requires.few g.C.Coefficient.origin_small (parts-most old values most c.requires.small) (omega (arith, after, one.new, c.least_of-2.ensures)) in
     omega (arith, fits.1, c.number-2.ensures, c.requires.sum)
 
 pub returns-clause-sum : goal.returns-clause-sum

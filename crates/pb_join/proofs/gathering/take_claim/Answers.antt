@@ -1,7 +1,7 @@
 use Rattle.std.proofs.Common.{◌++◌, ◌∷◌, [], Option, subst}
 use Rattle.std.specs.Option.{option_map}
 use Rattle.pb_inst.specs.Incumbent.{solution_of}
-use Rattle.pb_solve.specs.Parts.{IsFirst}
+use Rattle.pb_cubes.specs.First.{IsFirst}
 use Rattle.pb_report.specs.declared.claims.Witness.{Witness}
 use Rattle.pb_join.proofs.Steps.{first_still}
 use Rattle.pb_join.proofs.gathering.take_claim.Goals as goal

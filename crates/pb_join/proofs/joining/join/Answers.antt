@@ -2,8 +2,8 @@ use Rattle.std.proofs.Common.{◌≡◌, List, subst}
 use Rattle.std.specs.Prelude.{All}
 use Rattle.pb_join.specs.declared.states.PieceState.{PieceState}
 use Rattle.pb_join.specs.declared.states.PieceState.TheVariants.{Done}
-use Rattle.pb_join.proofs.LeastCosts.{held_is, least_cost, none_cheaper}
-use Rattle.pb_join.proofs.Wholes.{headline, whole_least}
+use Rattle.pb_join.proofs.LeastCosts.{least_cost, none_cheaper}
+use Rattle.pb_join.proofs.Wholes.{headline, held_is, whole_least}
 use Rattle.pb_join.proofs.joining.join.Goals as goal
 
 pub returns-clause-headline : goal.returns-clause-headline

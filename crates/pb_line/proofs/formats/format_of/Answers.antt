@@ -3,7 +3,7 @@ use Rattle.std.specs.Prelude.{◌≢◌}
 use Rattle.clap.specs.Words.{Text}
 use Rattle.pb_read.specs.declared.format.Format.{Format}
 use Rattle.pb_read.specs.declared.format.Format.TheVariants.{Opb, Cnf, Icnf}
-use Rattle.pb_line.specs.Options.{format_name}
+use Rattle.pb_read.specs.Format.{format_name}
 use Rattle.pb_line.proofs.formats.format_of.Goals as goal
 
 -- a text that is none of the three names is no format's

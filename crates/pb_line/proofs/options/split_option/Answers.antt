@@ -1,5 +1,5 @@
 use Rattle.std.proofs.Common.{rules, ◌≡◌, ◌∙◌, ap, Some}
-use Rattle.pb_cubes.specs.declared.TheConstants.{MAX_SPLIT}
+use Rattle.pb_inst.specs.declared.limits.TheConstants.{MAX_SPLIT}
 use Rattle.clap.specs.declared.builder.ValueParser.TheVariants as parser
 use Rattle.pb_line.proofs.options.split_option.Goals as goal
 

@@ -4,7 +4,7 @@ use Rattle.pb_inst.proofs.NumberWidth.{number_width}
 use Rattle.pb_inst.specs.Constraints.{linear}
 use Rattle.pb_inst.specs.Limits.{constraint_magnitude, AllVariablesWithin}
 use Rattle.pb_inst.specs.Problem.{LinearConstraint}
-use Rattle.pb_inst.specs.declared.TheConstants.{SUM_BOUND}
+use Rattle.pb_inst.specs.declared.limits.TheConstants.{SUM_BOUND}
 use Rattle.pb_normal.specs.Exact.{IsNormalFormOf}
 use Rattle.pb_normal.specs.NormalForm.{NormalForm, KeepsFeasible, KeepsCost}
 use Rattle.pb_normal.proofs.FormLemmas.{form_is, form_is_normal, form_keeps_cost}
@@ -34,7 +34,7 @@ shared-requires g c =
     let rows = all_rows vars c.args.instance.now.constraints c.loop-i.i c.loop-i.rows (omega arith) c.loop-i.invariant in
     let fits : FitsSigned number_width c.merge_objective.new.sum.base = search rules in
     let told = c.in_ok-merge_objective.ensures in
-    record { normal = form_is_normal c.args.instance.now c.vars.result c.loop-i.rows c.merge_objective.new.sum.base _ c.merge_objective.new.sum.terms.items _ c.deref.result.now c.vars.ensures.value c.vars.ensures.proper.limits.constraint_count rows told.sum told.value told.bounded (to_z-of_z number_width _ fits) c.deref.ensures.value c.in_ok-objective.ensures.terms; fits = record { rows = c.len-fits.ensures.fits; objective = c.in_ok-objective.ensures.fits } }
+    record { normal = form_is_normal c.args.instance.now c.vars.result c.loop-i.rows c.merge_objective.new.sum.base _ c.merge_objective.new.sum.terms.items _ c.deref.result.now c.vars.ensures.value c.vars.ensures.proper.limits.constraint_count rows told.sum told.value told.bounded (to_z-of_z number_width _ fits) c.deref.ensures.value c.in_ok-objective.ensures.terms; fits = record { rows = c.facts.ensures; objective = c.in_ok-objective.ensures.fits } }
 
 pub returns-clause-exact : goal.returns-clause-exact
 returns-clause-exact g c =

@@ -1,7 +1,7 @@
 use Rattle.std.proofs.Common.{◌≡◌, ◌<◌, arith, sym, subst, false, ltb, max, inr}
 use Rattle.std.proofs.lemmas.Bool.{le-ltb, lt-ltb, false≢true}
 use Rattle.std.proofs.lemmas.Result.{err_from_is_err_and}
-use Rattle.pb_inst.specs.declared.TheConstants.{MAX_VARS}
+use Rattle.pb_inst.specs.declared.limits.TheConstants.{MAX_VARS}
 use Rattle.pb_read.specs.Opb.{header, OpbText}
 use Rattle.pb_read.specs.Terms.{greatest_index}
 use Rattle.pb_read.specs.Building.{terms_of}

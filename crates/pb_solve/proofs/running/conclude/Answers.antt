@@ -15,9 +15,9 @@ returns-in-Ok-clause-budgeted g c = λ input cubes prepared.
 
 pub returns-in-Err-clause-reports : goal.returns-in-Err-clause-reports
 returns-in-Err-clause-reports g c = λ input cubes prepared.
-    c.report_halt.ensures.reports _ input cubes _ (subst (IsPrepared c.args.options.format input cubes c.args.options.split) c.in-Err.is prepared)
+    c.report_prepare_error.ensures.reports _ input cubes _ (subst (IsPrepared c.args.options.format input cubes c.args.options.split) c.in-Err.is prepared)
 
 pub returns-in-Err-clause-refused_input : goal.returns-in-Err-clause-refused_input
 returns-in-Err-clause-refused_input g c = λ fault stops.
-    both_told _ (λ (ran : Ran). ran.cut ≡ false) (λ (ran : Ran). ran.status ≢ Unknown → ReportsRefusal fault (g.W.Write.contents c.args.out.now.held) (g.W.Write.contents c.report_halt.new.out.held) ran.status)
-    c.report_halt.ensures.uncut (c.report_halt.ensures.refused_input fault (subst (StopsAtFault fault) c.in-Err.is stops))
+    both_told _ (λ (ran : Ran). ran.cut ≡ false) (λ (ran : Ran). ran.status ≢ Unknown → ReportsRefusal fault (g.W.Write.contents c.args.out.now.held) (g.W.Write.contents c.report_prepare_error.new.out.held) ran.status)
+    c.report_prepare_error.ensures.uncut (c.report_prepare_error.ensures.refused_input fault (subst (StopsAtFault fault) c.in-Err.is stops))

@@ -1,6 +1,6 @@
 use Rattle.std.proofs.Common.{◌≡◌, ◌+◌, take, length}
 use Rattle.std.specs.Option.{option_map_or}
-use Rattle.pb_inst.specs.declared.TheConstants.{MAX_TERMS}
+use Rattle.pb_inst.specs.declared.limits.TheConstants.{MAX_TERMS}
 use Rattle.pb_inst.specs.Limits.{constraint_terms}
 use Rattle.pb_write.proofs.counts.spare_terms.Given as goal
 

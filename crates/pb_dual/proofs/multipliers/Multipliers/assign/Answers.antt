@@ -12,7 +12,7 @@ use Rattle.pb_dual.proofs.multipliers.Multipliers.assign.Goals as goal
 pub revalue-requires-clause-room : goal.revalue-requires-clause-room
 revalue-requires-clause-room g c = λ low b.
     let inside = c.self.inside in
-    let room : parts inside.costs.items inside.values.items + cost_at inside.costs.items c.args.lit.var b < 2 ^ 128 = revalue-room c.self.invariant.0 g.C.Count.origin_small c.args.lit.var low (omega (arith, c.requires.variable, ap (λ (s : MultipliersState). s.form.vars) c.self.view_is)) b in
+    let room : parts inside.costs.items inside.values.items + cost_at inside.costs.items c.args.lit.var b < 2 ^ 128 = revalue-room c.self.invariant.0 g.C.Coefficient.origin_small c.args.lit.var low (omega (arith, c.requires.variable, ap (λ (s : MultipliersState). s.form.vars) c.self.view_is)) b in
     let costs = c.deref.ensures.value in
     let values = c.deref_mut.ensures.value in
     rw (costs, values) room

@@ -15,7 +15,7 @@ invariant_of-self g c =
     let s = c.self-2.inside in
     let now = c.args.self.now in
     let row = c.args.row in
-    let viewed : MultipliersState = record { form = s.form; counted = counted_form s.saturations.items s.form; origin = g.C.Count.origin; scale = s.scale; share = s.share; multipliers = s.multipliers.items; trail = s.lits.items; root = s.root; changes = s.changes.items; room = vec_capacity s.changes } in
+    let viewed : MultipliersState = record { form = s.form; counted = counted_form s.saturations.items s.form; origin = g.C.Coefficient.origin; scale = s.scale; share = s.share; multipliers = s.multipliers.items; trail = s.lits.items; root = s.root; changes = s.changes.items; room = vec_capacity s.changes } in
     let is : viewed ≡ record now { multipliers = set now.multipliers row c.of.result } = c.self-2.view_is ∙ c.set.ensures in
     let short : row < length now.multipliers = omega (arith, c.requires.row, c.self.invariant.0.one_each, ap (λ (m : MultipliersState). length m.multipliers) c.self.view_is, ap (λ (m : MultipliersState). length m.form.rows) c.self.view_is) in
     let none : get_or s.multipliers.items row 0 ≡ 0 = ap (λ (m : MultipliersState). get_or m.multipliers row 0) is ∙ (get_or-set_same now.multipliers row c.of.result 0 short ∙ c.of.ensures) in
@@ -30,7 +30,7 @@ set-requires-2-clause-within g c =
     let s = c.self-2.inside in
     let now = c.args.self.now in
     let row = c.args.row in
-    let viewed : MultipliersState = record { form = s.form; counted = counted_form s.saturations.items s.form; origin = g.C.Count.origin; scale = s.scale; share = s.share; multipliers = s.multipliers.items; trail = s.lits.items; root = s.root; changes = s.changes.items; room = vec_capacity s.changes } in
+    let viewed : MultipliersState = record { form = s.form; counted = counted_form s.saturations.items s.form; origin = g.C.Coefficient.origin; scale = s.scale; share = s.share; multipliers = s.multipliers.items; trail = s.lits.items; root = s.root; changes = s.changes.items; room = vec_capacity s.changes } in
     let is : viewed ≡ record now { multipliers = set now.multipliers row c.of.result } = c.self-2.view_is ∙ c.set.ensures in
     let ys = c.self.inside.multipliers.items in
     let short : row < length ys = omega (arith, c.requires.row, c.self.invariant.0.one_each, ap (λ (m : MultipliersState). length m.form.rows) c.self.view_is) in
@@ -46,7 +46,7 @@ returns g c =
     let row = c.args.row in
     let k = c.args.saturation in
     let n = c.index-multiplier.result.now in
-    let viewed : MultipliersState = record { form = s.form; counted = counted_form s.saturations.items s.form; origin = g.C.Count.origin; scale = s.scale; share = s.share; multipliers = s.multipliers.items; trail = s.lits.items; root = s.root; changes = s.changes.items; room = vec_capacity s.changes } in
+    let viewed : MultipliersState = record { form = s.form; counted = counted_form s.saturations.items s.form; origin = g.C.Coefficient.origin; scale = s.scale; share = s.share; multipliers = s.multipliers.items; trail = s.lits.items; root = s.root; changes = s.changes.items; room = vec_capacity s.changes } in
     let is : viewed ≡ record now { multipliers = set now.multipliers row c.of.result } = c.self-2.view_is ∙ c.set.ensures in
     let exists : row < length s.form.rows = subst (λ (m : MultipliersState). row < length m.form.rows) (sym is) c.requires.row in
     let ys = c.self.inside.multipliers.items in

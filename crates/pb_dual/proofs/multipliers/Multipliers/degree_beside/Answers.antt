@@ -24,7 +24,7 @@ is_true-requires g c =
     let d : PositiveRow = record { terms = []; degree = 0 } in
     let terms : (row_at s.form.rows c.args.row).terms ≡ items = subst (λ found. IsSomeAnd found (λ (r : PositiveRow). r.terms ≡ items)) (slice_get-get_or s.form.rows c.args.row d exists) c.terms-term-items.ensures in
     let P : PositiveTerm → Type 0 = λ t. (1 ≤ t.lit.var) × (t.lit.var ≤ s.form.vars) in
-    let all : All P items = subst (λ (ts : List PositiveTerm). All P ts) terms (c.vars-vars.ensures.normal.shape.rows c.args.row d exists).terms.variables in
+    let all : All P items = subst (λ (ts : List PositiveTerm). All P ts) terms (c.facts.ensures.normal.shape.rows c.args.row d exists).terms.variables in
     let within : P c.term-item.result = subst P (sym c.term-item.is) (all c.loop-term.term-index c.term-item.result c.loop-term-test.true) in
     let var = ap (λ (l : Literal). l.var) c.lit.ensures in
     (omega (arith, within.0, var), omega (arith, within.1, var, ap (λ (m : MultipliersState). m.form.vars) c.self.view_is))
@@ -44,7 +44,7 @@ add-degree-requires g c =
     let next : reached trail (capped most (take (c.loop-term.term-index + 1) items)) ≡ reached trail (capped most (take c.loop-term.term-index items)) + min t.coef most = reached-next trail most items c.loop-term.term-index t c.loop-term-test.true c.term-item.is ∙ ap (λ (b : Bool). reached trail (capped most (take c.loop-term.term-index items)) + cond b (min t.coef most) 0) told in
     let upto = reached-most trail most items (c.loop-term.term-index + 1) in
     let whole = ap (reached trail) terms in
-    let small = (c.vars-vars.ensures.fits.rows c.args.row d exists) in
+    let small = (c.facts.ensures.fits.rows c.args.row d exists) in
     omega (arith, c.min.ensures, c.coef.ensures, c.loop-term.invariant, small.0)
 
 pub loop-term-preserved : goal.loop-term-preserved

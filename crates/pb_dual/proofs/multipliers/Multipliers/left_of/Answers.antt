@@ -24,7 +24,7 @@ is_true-requires g c =
     let d : PositiveRow = record { terms = []; degree = 0 } in
     let terms : (row_at s.form.rows c.args.row).terms ≡ items = subst (λ found. IsSomeAnd found (λ (r : PositiveRow). r.terms ≡ items)) (slice_get-get_or s.form.rows c.args.row d exists) c.terms-term-items.ensures in
     let P : PositiveTerm → Type 0 = λ t. (1 ≤ t.lit.var) × (t.lit.var ≤ s.form.vars) in
-    let all : All P items = subst (λ (ts : List PositiveTerm). All P ts) terms (c.vars-vars.ensures.normal.shape.rows c.args.row d exists).terms.variables in
+    let all : All P items = subst (λ (ts : List PositiveTerm). All P ts) terms (c.facts.ensures.normal.shape.rows c.args.row d exists).terms.variables in
     let within : P c.term-item.result = subst P (sym c.term-item.is) (all c.loop-term.term-index c.term-item.result c.loop-term-test.true) in
     let var = ap (λ (l : Literal). l.var) c.lit.ensures in
     (omega (arith, within.0, var), omega (arith, within.1, var, ap (λ (m : MultipliersState). m.form.vars) c.self.view_is))

@@ -22,7 +22,7 @@ reprice-requires-clause-enough g c = λ l low high.
     let kept = c.self.invariant.0 in
     let ys = s.multipliers.items in
     let form = counted_form s.saturations.items s.form in
-    let origin = g.C.Count.origin in
+    let origin = g.C.Coefficient.origin in
     let exists : c.args.row < length s.form.rows = subst (λ (m : MultipliersState). c.args.row < length m.form.rows) (sym c.self.view_is) c.requires.row in
     let row : c.args.row < length form.rows = omega (arith, length-counted s.saturations.items s.form.rows c.self.invariant.1.count) in
     let whole : IsWithinShare s.form s.share c.args.row c.args.to = subst (λ (m : MultipliersState). IsWithinShare m.form m.share c.args.row c.args.to) (sym c.self.view_is) c.requires.within in
@@ -30,7 +30,7 @@ reprice-requires-clause-enough g c = λ l low high.
     let from : c.index-from.result.now ≡ get_or ys c.args.row 0 = get_or_read ys c.args.row c.index-from.result.now (omega (arith, row, kept.count)) c.index-from.ensures 0 in
     let given_terms : (row_at s.form.rows c.args.row).terms ≡ c.terms.result.now = subst (λ found. IsSomeAnd found (λ (r : PositiveRow). r.terms ≡ c.terms.result.now)) (slice_get-get_or s.form.rows c.args.row (record { terms = []; degree = 0 }) exists) c.terms.ensures in
     let terms : (row_at form.rows c.args.row).terms ≡ capped c.most-most.result c.terms.result.now = subst (λ (m : MultipliersState). (row_at m.counted.rows c.args.row).terms ≡ capped c.most-most.result (row_at m.form.rows c.args.row).terms) (sym c.self.view_is) c.most-most.ensures ∙ ap (capped c.most-most.result) given_terms in
-    let can = can-set origin s.scale form ys s.share c.args.row c.args.to l (get_or s.costs.items (literal_place l) 0) (counted-normal s.form s.saturations.items s.root s.lits.items c.vars-vars.ensures.normal c.self.invariant.1) kept.count kept.shared (within_counted kept) (omega (arith, kept.scaled, ap (λ (n : ℕ). s.scale * n) kept.total_is)) row within (kept.costs_are.each l low (omega (arith, high, ap (λ (vs : List (Option Bool)). length vs) c.deref.ensures.value, kept.vars))) in
+    let can = can-set origin s.scale form ys s.share c.args.row c.args.to l (get_or s.costs.items (literal_place l) 0) (counted-normal s.form s.saturations.items s.root s.lits.items c.facts.ensures.normal c.self.invariant.1) kept.count kept.shared (within_counted kept) (omega (arith, kept.scaled, ap (λ (n : ℕ). s.scale * n) kept.total_is)) row within (kept.costs_are.each l low (omega (arith, high, ap (λ (vs : List (Option Bool)). length vs) c.deref.ensures.value, kept.vars))) in
     let cost = ap (λ (xs : List ℕ). get_or xs (literal_place l) 0) c.deref_mut.ensures.value in
     let weight = ap (λ (ts : List PositiveTerm). weight_of l ts) terms in
     let given : c.index-from.result.now * weight_of l (capped c.most-most.result c.terms.result.now) ≡ get_or ys c.args.row 0 * weight_of l (row_at form.rows c.args.row).terms = ap (λ (n : ℕ). n * weight_of l (capped c.most-most.result c.terms.result.now)) from ∙ ap (λ (n : ℕ). get_or ys c.args.row 0 * n) (sym weight) in
@@ -43,7 +43,7 @@ reprice-requires-clause-fits g c = λ l low high.
     let kept = c.self.invariant.0 in
     let ys = s.multipliers.items in
     let form = counted_form s.saturations.items s.form in
-    let origin = g.C.Count.origin in
+    let origin = g.C.Coefficient.origin in
     let exists : c.args.row < length s.form.rows = subst (λ (m : MultipliersState). c.args.row < length m.form.rows) (sym c.self.view_is) c.requires.row in
     let row : c.args.row < length form.rows = omega (arith, length-counted s.saturations.items s.form.rows c.self.invariant.1.count) in
     let whole : IsWithinShare s.form s.share c.args.row c.args.to = subst (λ (m : MultipliersState). IsWithinShare m.form m.share c.args.row c.args.to) (sym c.self.view_is) c.requires.within in
@@ -51,7 +51,7 @@ reprice-requires-clause-fits g c = λ l low high.
     let from : c.index-from.result.now ≡ get_or ys c.args.row 0 = get_or_read ys c.args.row c.index-from.result.now (omega (arith, row, kept.count)) c.index-from.ensures 0 in
     let given_terms : (row_at s.form.rows c.args.row).terms ≡ c.terms.result.now = subst (λ found. IsSomeAnd found (λ (r : PositiveRow). r.terms ≡ c.terms.result.now)) (slice_get-get_or s.form.rows c.args.row (record { terms = []; degree = 0 }) exists) c.terms.ensures in
     let terms : (row_at form.rows c.args.row).terms ≡ capped c.most-most.result c.terms.result.now = subst (λ (m : MultipliersState). (row_at m.counted.rows c.args.row).terms ≡ capped c.most-most.result (row_at m.form.rows c.args.row).terms) (sym c.self.view_is) c.most-most.ensures ∙ ap (capped c.most-most.result) given_terms in
-    let can = can-set origin s.scale form ys s.share c.args.row c.args.to l (get_or s.costs.items (literal_place l) 0) (counted-normal s.form s.saturations.items s.root s.lits.items c.vars-vars.ensures.normal c.self.invariant.1) kept.count kept.shared (within_counted kept) (omega (arith, kept.scaled, ap (λ (n : ℕ). s.scale * n) kept.total_is)) row within (kept.costs_are.each l low (omega (arith, high, ap (λ (vs : List (Option Bool)). length vs) c.deref.ensures.value, kept.vars))) in
+    let can = can-set origin s.scale form ys s.share c.args.row c.args.to l (get_or s.costs.items (literal_place l) 0) (counted-normal s.form s.saturations.items s.root s.lits.items c.facts.ensures.normal c.self.invariant.1) kept.count kept.shared (within_counted kept) (omega (arith, kept.scaled, ap (λ (n : ℕ). s.scale * n) kept.total_is)) row within (kept.costs_are.each l low (omega (arith, high, ap (λ (vs : List (Option Bool)). length vs) c.deref.ensures.value, kept.vars))) in
     let cost = ap (λ (xs : List ℕ). get_or xs (literal_place l) 0) c.deref_mut.ensures.value in
     let weight = ap (λ (ts : List PositiveTerm). weight_of l ts) terms in
     let given : c.index-from.result.now * weight_of l (capped c.most-most.result c.terms.result.now) ≡ get_or ys c.args.row 0 * weight_of l (row_at form.rows c.args.row).terms = ap (λ (n : ℕ). n * weight_of l (capped c.most-most.result c.terms.result.now)) from ∙ ap (λ (n : ℕ). get_or ys c.args.row 0 * n) (sym weight) in
@@ -64,7 +64,7 @@ mul-requires g c =
     let kept = c.self.invariant.0 in
     let ys = s.multipliers.items in
     let form = counted_form s.saturations.items s.form in
-    let origin = g.C.Count.origin in
+    let origin = g.C.Coefficient.origin in
     let exists : c.args.row < length s.form.rows = subst (λ (m : MultipliersState). c.args.row < length m.form.rows) (sym c.self.view_is) c.requires.row in
     let row : c.args.row < length form.rows = omega (arith, length-counted s.saturations.items s.form.rows c.self.invariant.1.count) in
     let whole : IsWithinShare s.form s.share c.args.row c.args.to = subst (λ (m : MultipliersState). IsWithinShare m.form m.share c.args.row c.args.to) (sym c.self.view_is) c.requires.within in
@@ -76,7 +76,7 @@ mul-requires g c =
     let degrees = degrees-set form ys c.args.row c.args.to kept.count row in
     let now = promised-small form ys origin s.share kept.count kept.shared (within_counted kept) in
     let then = promised-small form (set ys c.args.row c.args.to) origin s.share (length-set ys c.args.row c.args.to ∙ kept.count) kept.shared (within-set form ys s.share c.args.row c.args.to kept.count (within_counted kept) within) in
-    omega (arith, degrees.0, now, kept.degrees_are, g.C.Count.origin_at_most, g.C.Count.limit_at_least)
+    omega (arith, degrees.0, now, kept.degrees_are, g.C.Coefficient.origin_at_most, g.C.Coefficient.limit_at_least)
 
 pub sub-requires : goal.sub-requires
 sub-requires g c =
@@ -84,7 +84,7 @@ sub-requires g c =
     let kept = c.self.invariant.0 in
     let ys = s.multipliers.items in
     let form = counted_form s.saturations.items s.form in
-    let origin = g.C.Count.origin in
+    let origin = g.C.Coefficient.origin in
     let exists : c.args.row < length s.form.rows = subst (λ (m : MultipliersState). c.args.row < length m.form.rows) (sym c.self.view_is) c.requires.row in
     let row : c.args.row < length form.rows = omega (arith, length-counted s.saturations.items s.form.rows c.self.invariant.1.count) in
     let whole : IsWithinShare s.form s.share c.args.row c.args.to = subst (λ (m : MultipliersState). IsWithinShare m.form m.share c.args.row c.args.to) (sym c.self.view_is) c.requires.within in
@@ -104,7 +104,7 @@ mul-requires-2 g c =
     let kept = c.self.invariant.0 in
     let ys = s.multipliers.items in
     let form = counted_form s.saturations.items s.form in
-    let origin = g.C.Count.origin in
+    let origin = g.C.Coefficient.origin in
     let exists : c.args.row < length s.form.rows = subst (λ (m : MultipliersState). c.args.row < length m.form.rows) (sym c.self.view_is) c.requires.row in
     let row : c.args.row < length form.rows = omega (arith, length-counted s.saturations.items s.form.rows c.self.invariant.1.count) in
     let whole : IsWithinShare s.form s.share c.args.row c.args.to = subst (λ (m : MultipliersState). IsWithinShare m.form m.share c.args.row c.args.to) (sym c.self.view_is) c.requires.within in
@@ -116,7 +116,7 @@ mul-requires-2 g c =
     let degrees = degrees-set form ys c.args.row c.args.to kept.count row in
     let now = promised-small form ys origin s.share kept.count kept.shared (within_counted kept) in
     let then = promised-small form (set ys c.args.row c.args.to) origin s.share (length-set ys c.args.row c.args.to ∙ kept.count) kept.shared (within-set form ys s.share c.args.row c.args.to kept.count (within_counted kept) within) in
-    omega (arith, degrees.0, degrees.1, then, g.C.Count.origin_at_most, g.C.Count.limit_at_least)
+    omega (arith, degrees.0, degrees.1, then, g.C.Coefficient.origin_at_most, g.C.Coefficient.limit_at_least)
 
 pub add-self-inside-requires : goal.add-self-inside-requires
 add-self-inside-requires g c =
@@ -124,7 +124,7 @@ add-self-inside-requires g c =
     let kept = c.self.invariant.0 in
     let ys = s.multipliers.items in
     let form = counted_form s.saturations.items s.form in
-    let origin = g.C.Count.origin in
+    let origin = g.C.Coefficient.origin in
     let exists : c.args.row < length s.form.rows = subst (λ (m : MultipliersState). c.args.row < length m.form.rows) (sym c.self.view_is) c.requires.row in
     let row : c.args.row < length form.rows = omega (arith, length-counted s.saturations.items s.form.rows c.self.invariant.1.count) in
     let whole : IsWithinShare s.form s.share c.args.row c.args.to = subst (λ (m : MultipliersState). IsWithinShare m.form m.share c.args.row c.args.to) (sym c.self.view_is) c.requires.within in
@@ -136,7 +136,7 @@ add-self-inside-requires g c =
     let degrees = degrees-set form ys c.args.row c.args.to kept.count row in
     let now = promised-small form ys origin s.share kept.count kept.shared (within_counted kept) in
     let then = promised-small form (set ys c.args.row c.args.to) origin s.share (length-set ys c.args.row c.args.to ∙ kept.count) kept.shared (within-set form ys s.share c.args.row c.args.to kept.count (within_counted kept) within) in
-    omega (arith, degrees.0, degrees.1, then, kept.degrees_are, c.mul.ensures, c.mul-2.ensures, c.sub.ensures, g.C.Count.origin_at_most, g.C.Count.limit_at_least)
+    omega (arith, degrees.0, degrees.1, then, kept.degrees_are, c.mul.ensures, c.mul-2.ensures, c.sub.ensures, g.C.Coefficient.origin_at_most, g.C.Coefficient.limit_at_least)
 
 pub invariant_of-self : goal.invariant_of-self
 invariant_of-self g c =
@@ -144,7 +144,7 @@ invariant_of-self g c =
     let kept = c.self.invariant.0 in
     let ys = s.multipliers.items in
     let form = counted_form s.saturations.items s.form in
-    let origin = g.C.Count.origin in
+    let origin = g.C.Coefficient.origin in
     let exists : c.args.row < length s.form.rows = subst (λ (m : MultipliersState). c.args.row < length m.form.rows) (sym c.self.view_is) c.requires.row in
     let row : c.args.row < length form.rows = omega (arith, length-counted s.saturations.items s.form.rows c.self.invariant.1.count) in
     let whole : IsWithinShare s.form s.share c.args.row c.args.to = subst (λ (m : MultipliersState). IsWithinShare m.form m.share c.args.row c.args.to) (sym c.self.view_is) c.requires.within in

@@ -11,7 +11,7 @@ use Rattle.pb_dual.proofs.multipliers.Multipliers.unassign_last.Goals as goal
 pub revalue-requires-clause-room : goal.revalue-requires-clause-room
 revalue-requires-clause-room g c = λ low b.
     let inside = c.self.inside in
-    let room : parts inside.costs.items inside.values.items + cost_at inside.costs.items c.in-Some.lit.var b < 2 ^ 128 = revalue-room c.self.invariant.0 g.C.Count.origin_small c.in-Some.lit.var low (omega (arith, c.self.invariant.0.vars, (AreValues-last c.self.inside.values.items c.self.inside.lits.items c.pop.new.self.items (vec_capacity c.self.inside.lits) c.in-Some.lit c.self.invariant.0.values_are c.in-Some.ensures.items).1)) b in
+    let room : parts inside.costs.items inside.values.items + cost_at inside.costs.items c.in-Some.lit.var b < 2 ^ 128 = revalue-room c.self.invariant.0 g.C.Coefficient.origin_small c.in-Some.lit.var low (omega (arith, c.self.invariant.0.vars, (AreValues-last c.self.inside.values.items c.self.inside.lits.items c.pop.new.self.items (vec_capacity c.self.inside.lits) c.in-Some.lit c.self.invariant.0.values_are c.in-Some.ensures.items).1)) b in
     let costs = c.deref.ensures.value in
     let values = c.deref_mut.ensures.value in
     rw (costs, values) room

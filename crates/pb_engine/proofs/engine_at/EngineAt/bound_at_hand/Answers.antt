@@ -9,7 +9,7 @@ pub returns-clause-bound : goal.returns-clause-bound
 returns-clause-bound g c =
     let e = c.args.self.now in
     let s = c.slacks-slacks.result in
-    let first : take (length s.form.rows) s.rows ≡ s.form.rows = subst (λ (k : Tracked). take (length k.form.rows) k.rows ≡ k.form.rows) c.tables.ensures c.vars-vars.ensures.first in
+    let first : take (length s.form.rows) s.rows ≡ s.form.rows = subst (λ (k : Tracked). take (length k.form.rows) k.rows ≡ k.form.rows) c.tables.ensures c.facts.ensures.first in
     let form : s.form ≡ e.form = c.slacks-slacks.ensures.form ∙ ap (λ (k : EngineState). k.form) c.self.view_is in
     let rows : s.rows ≡ e.rows = c.slacks-slacks.ensures.rows ∙ ap (λ (k : EngineState). k.rows) c.self.view_is in
     let trail : s.trail ≡ e.trail = c.slacks-slacks.ensures.trail ∙ ap (λ (k : EngineState). k.trail) c.self.view_is in

@@ -19,7 +19,7 @@ returns-clause-bound g c =
     let back : to_z number_width (of_z number_width z) ≡ z = to_z-of_z number_width z (record { sfits = c.raise.type_inv }) in
     let given : to_z number_width (of_z number_width c.args.bound) ≡ c.args.bound = to_z-of_z number_width c.args.bound (record { sfits = c.ranges.bound.sfits }) in
     let lower : IsLowerBound e.form e.rows e.trail c.args.bound = c.requires in
-    let first : take (length s.form.rows) s.rows ≡ s.form.rows = subst (λ (k : Tracked). take (length k.form.rows) k.rows ≡ k.form.rows) c.tables.ensures c.vars-vars.ensures.first in
+    let first : take (length s.form.rows) s.rows ≡ s.form.rows = subst (λ (k : Tracked). take (length k.form.rows) k.rows ≡ k.form.rows) c.tables.ensures c.facts.ensures.first in
     let form : s.form ≡ e.form = c.slacks-slacks.ensures.form ∙ ap (λ (k : EngineState). k.form) c.self.view_is in
     let rows : s.rows ≡ e.rows = c.slacks-slacks.ensures.rows ∙ ap (λ (k : EngineState). k.rows) c.self.view_is in
     let trail : s.trail ≡ e.trail = c.slacks-slacks.ensures.trail ∙ ap (λ (k : EngineState). k.trail) c.self.view_is in

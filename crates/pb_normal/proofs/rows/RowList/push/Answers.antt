@@ -29,7 +29,7 @@ invariant_of-self-2 g c =
     let len = ap (λ (ts : List PositiveTerm). length ts) c.in_ok-extend_with_clipped.ensures.added in
     let sum = length-append inside.terms.items more in
     let span : Span _ = record { start = c.len-start.result; end = c.len-end.result; degree = c.fitting-degree.result } in
-    AreSpansWithin-push g.C.Count.limit inside.terms.items more _ inside.spans.items _ span c.self.invariant c.in_ok-extend_with_clipped.ensures.added (c.push_reserved.ensures.items ∙ ap (λ (ss : List (Span _)). ss ++ span ∷ []) c.in_ok-reserve.ensures.items) (omega arith) (omega arith) (omega (arith, c.requires.fits.0, c.fitting-degree.ensures), c.requires.fits.1)
+    AreSpansWithin-push g.C.Coefficient.limit inside.terms.items more _ inside.spans.items _ span c.self.invariant c.in_ok-extend_with_clipped.ensures.added (c.push_reserved.ensures.items ∙ ap (λ (ss : List (Span _)). ss ++ span ∷ []) c.in_ok-reserve.ensures.items) (omega arith) (omega arith) (omega (arith, c.requires.fits.0, c.fitting-degree.ensures), c.requires.fits.1)
 
 pub returns-clause-added : goal.returns-clause-added
 returns-clause-added g c =

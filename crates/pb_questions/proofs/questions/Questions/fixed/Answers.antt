@@ -12,8 +12,8 @@ use Rattle.pb_questions.proofs.UnderLemmas.{named_variables}
 use Rattle.pb_questions.proofs.questions.Questions.fixed.Goals as goal
 use Rattle.pb_questions.proofs.questions.Questions.fixed.Goals.{in-Feasible, in-Least-2}
 
-pub search_under-requires : goal.search_under-requires
-search_under-requires c =
+pub search_for-requires : goal.search_for-requires
+search_for-requires c =
     subst (λ (x : List Literal). All (λ l. l.var ≤ c.args.self.now.vars) x) (sym (c.deref.ensures.value ∙ c.in_ok-named.ensures)) (named_variables c.args.self.now.vars c.args.assumptions.now)
 
 pub returns-in_default-clause-answer : goal.returns-in_default-clause-answer
@@ -23,18 +23,18 @@ returns-in_default-clause-answer c =
     without_first_answer p assumed c.args.among held c.in_ok-answer.answer.cut c.without_first.result
     (λ uncut. subst (λ (l : List Literal). HoldsLeastUnder p l held) same (c.in_ok-answer.ensures.least uncut))
     (no_assignment held (sym c.in_default.ensures.value))
-    (λ cut. subst (λ (q : Problem). IfOk c.without_first.result (AreUnknown q.vars)) c.search_under.ensures.unchanged (c.without_first.ensures.cut cut))
+    (λ cut. subst (λ (q : Problem). IfOk c.without_first.result (AreUnknown q.vars)) c.search_for.ensures.unchanged (c.without_first.ensures.cut cut))
     c.without_first.ensures.whole
 
 pub statuses-requires-clause-variables : goal.statuses-requires-clause-variables
 statuses-requires-clause-variables c =
-    subst (λ (q : Problem). All (λ l. l.var ≤ q.vars) c.in_ok-named.named.items) (sym c.search_under.ensures.unchanged)
+    subst (λ (q : Problem). All (λ l. l.var ≤ q.vars) c.in_ok-named.named.items) (sym c.search_for.ensures.unchanged)
     (subst (λ (x : List Literal). All (λ l. l.var ≤ c.args.self.now.vars) x) (sym c.in_ok-named.ensures) (named_variables c.args.self.now.vars c.args.assumptions.now))
 
 pub statuses-requires-clause-first : goal.statuses-requires-clause-first
 statuses-requires-clause-first c =
     let p = c.args.self.now in let cube = c.deref.result.now in let held = c.in_ok-answer.answer.best.held in let first = c.in-Some.first.now in
-    subst (λ (q : Problem). IsWithin q c.in_ok-named.named.items c.match-among.bound first) (sym c.search_under.ensures.unchanged)
+    subst (λ (q : Problem). IsWithin q c.in_ok-named.named.items c.match-among.bound first) (sym c.search_for.ensures.unchanged)
     (subst (λ (l : List Literal). IsWithin p l c.match-among.bound first) c.deref.ensures.value
     (elim c.match-among.branch [
       | in-Feasible w ↦ subst (λ (b : Option ℤ). IsWithin p cube b first) (sym w.bound-is) (first_feasible p cube held first c.in_ok-answer.ensures.under c.in-Some.ensures.value)
@@ -48,8 +48,8 @@ returns-clause-answer c =
     let same : c.deref.result.now ≡ named_literals p.vars assumed = c.deref.ensures.value ∙ c.in_ok-named.ensures in
     let found : AreStatusesOf (IsWithin p (named_literals p.vars assumed) c.match-among.bound) items =
     subst (λ (l : List Literal). AreStatusesOf (IsWithin p l c.match-among.bound) items) c.in_ok-named.ensures
-    (subst (λ (q : Problem). AreStatusesOf (IsWithin q c.in_ok-named.named.items c.match-among.bound) items) c.search_under.ensures.unchanged c.in_ok-statuses.ensures.statuses) in (
-      c.in_ok-statuses.ensures.count ∙ ap (λ (q : Problem). q.vars) c.search_under.ensures.unchanged,
+    (subst (λ (q : Problem). AreStatusesOf (IsWithin q c.in_ok-named.named.items c.match-among.bound) items) c.search_for.ensures.unchanged c.in_ok-statuses.ensures.statuses) in (
+      c.in_ok-statuses.ensures.count ∙ ap (λ (q : Problem). q.vars) c.search_for.ensures.unchanged,
       elim c.match-among.branch [
         | in-Feasible w ↦ subst (λ (x : Among). AreStatusesOf (IsAskedAbout p assumed x) items) (sym w.in-Feasible.is)
             (statuses_of_feasible p assumed items (subst (λ (b : Option ℤ). AreStatusesOf (IsWithin p (named_literals p.vars assumed) b) items) w.bound-is found))

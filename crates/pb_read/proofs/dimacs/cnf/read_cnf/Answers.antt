@@ -1,7 +1,7 @@
 use Rattle.std.proofs.Common.{◌≡◌, ◌∙◌, ◌+◌, ◌≤◌, [], Some, sym, ap, arith, inr, max, subst, length, ℕ}
 use Rattle.std.proofs.lemmas.Result.{err_from_is_err_and}
 use Rattle.std.proofs.lemmas.Bool.{false≢true}
-use Rattle.pb_inst.specs.declared.TheConstants.{MAX_VARS, MAX_CONSTRAINTS}
+use Rattle.pb_inst.specs.declared.limits.TheConstants.{MAX_VARS, MAX_CONSTRAINTS}
 use Rattle.pb_inst.specs.Limits.{HasVariablesWithin}
 use Rattle.pb_inst.specs.Problem.{Statements}
 use Rattle.pb_read.specs.declared.fault.ReadKind.TheVariants.{TooFewClauses}

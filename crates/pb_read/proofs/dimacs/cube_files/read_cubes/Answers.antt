@@ -1,7 +1,7 @@
 use Rattle.std.proofs.Common.{◌≡◌, ◌∙◌, ◌+◌, [], List, ℕ, Some, subst, min}
 use Rattle.std.specs.Prelude.{◌⊎◌}
 use Rattle.std.proofs.lemmas.Result.{err_from_is_err_and}
-use Rattle.pb_inst.specs.declared.TheConstants.{MAX_VARS}
+use Rattle.pb_inst.specs.declared.limits.TheConstants.{MAX_VARS}
 use Rattle.pb_read.specs.declared.fault.ReadKind.TheVariants.{Syntax}
 use Rattle.pb_read.specs.Text.{Placed, items}
 use Rattle.pb_read.specs.Refusal.{first_fault}

@@ -11,4 +11,4 @@ returns-clause-variables g c =
     let now = c.args.self.now in
     let form = ap (λ (k : Constraints). length k.form.rows) c.self.view_is in
     let here : row_at now.rows c.args.row ≡ clause_row c.lits.result.now = clause_at rows clauses now c.args.row c.len-form_len.result c.self.view_is c.len-form_len.ensures.value (omega (arith, c.len-form_len.ensures.value)) ∙ c.lits.ensures in
-    clause_variables now.vars now.rows c.args.row c.lits.result.now c.vars-vars.ensures.rows c.requires.exists here
+    clause_variables now.vars now.rows c.args.row c.lits.result.now c.facts.ensures.rows c.requires.exists here

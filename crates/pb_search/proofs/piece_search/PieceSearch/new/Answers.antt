@@ -1,7 +1,7 @@
 use Rattle.std.proofs.Common.{List, subst, sym, arith}
 use Rattle.pb_inst.specs.Literal.{Literal}
 use Rattle.pb_cubes.specs.Pieces.{AreWithin}
-use Rattle.pb_search.specs.Layout.{IsMade}
+use Rattle.pb_subtree.specs.Made.{IsMade}
 use Rattle.pb_search.proofs.LayoutLemmas.{laid_out}
 use Rattle.pb_search.proofs.piece_search.PieceSearch.new.Goals as goal
 

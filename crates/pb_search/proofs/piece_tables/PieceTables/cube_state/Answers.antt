@@ -1,6 +1,7 @@
 use Rattle.std.proofs.Common.{[], subst}
-use Rattle.pb_search.specs.Done.{Division}
-use Rattle.pb_search.specs.Layout.{IsCubeState, IsMade}
+use Rattle.pb_cubes.specs.Done.{Division}
+use Rattle.pb_search.specs.Layout.{IsCubeState}
+use Rattle.pb_subtree.specs.Made.{IsMade}
 use Rattle.pb_search.proofs.LayoutLemmas.{made_cube_state}
 use Rattle.pb_search.proofs.piece_tables.PieceTables.cube_state.Goals as goal
 

@@ -2,8 +2,9 @@ use Rattle.std.proofs.Common.{◌≡◌, List, [], subst, sym, refl}
 use Rattle.std.specs.Prelude.{IfNone, IfSome}
 use Rattle.pb_inst.specs.Literal.{Literal}
 use Rattle.pb_inst.specs.Problem.{Problem}
-use Rattle.pb_search.specs.Done.{Division}
-use Rattle.pb_search.specs.Layout.{IsCubeState, IsLaidOut, IsMade, pieces_of}
+use Rattle.pb_cubes.specs.Done.{Division}
+use Rattle.pb_search.specs.Layout.{IsCubeState, IsLaidOut, pieces_of}
+use Rattle.pb_subtree.specs.Made.{IsMade}
 use Rattle.pb_search.proofs.LayoutLemmas.{laid_out}
 use Rattle.pb_search.proofs.piece_tables.PieceTables.states.Goals as goal
 

@@ -2,7 +2,7 @@ use Rattle.std.proofs.Common.{◌≡◌, ◌⊎◌, sym, subst}
 use Rattle.std.specs.Prelude.{IsSomeAnd}
 use Rattle.pb_inst.specs.Incumbent.{Incumbent}
 use Rattle.pb_cubes.specs.Pieces.{LiesIn}
-use Rattle.pb_search.specs.Done.{Division}
+use Rattle.pb_cubes.specs.Done.{Division}
 use Rattle.pb_search.proofs.search.Search.search_piece.Goals as goal
 use Rattle.pb_search.proofs.search.Search.search_piece.Goals.{in-Narrow, in-Wide}
 

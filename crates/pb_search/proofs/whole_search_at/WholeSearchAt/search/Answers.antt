@@ -1,31 +1,34 @@
 use Rattle.std.proofs.Common.{◌≡◌, ◌≤◌, ◌∙◌, ◌∷◌, [], ℕ, List, All, ap, refl, sym, subst}
 use Rattle.pb_inst.specs.Literal.{Literal}
+use Rattle.pb_subtree.specs.declared.search_state.SearchState.{SearchState}
 use Rattle.pb_normal.specs.NormalForm.{NormalForm}
-use Rattle.pb_search.specs.Done.{Division}
-use Rattle.pb_search.specs.Layout.{IsCubeState, IsMade}
+use Rattle.pb_cubes.specs.Done.{Division}
+use Rattle.pb_search.specs.Layout.{IsCubeState}
+use Rattle.pb_subtree.specs.Made.{IsMade}
 use Rattle.pb_search.proofs.LayoutLemmas.{still_made, whole_state}
-use Rattle.pb_search.proofs.RootLemmas.{cube_done, own_makes_true}
+use Rattle.pb_search.proofs.DoneLemmas.{cube_done, own_makes_true}
 use Rattle.pb_search.proofs.whole_search_at.WholeSearchAt.search.Goals as goal
 
-pub search_under-requires-clause-state : goal.search_under-requires-clause-state
-search_under-requires-clause-state g c =
+pub search_under-outcome-requires-clause-state : goal.search_under-outcome-requires-clause-state
+search_under-outcome-requires-clause-state g c =
     (whole_state c.args.best.now.problem c.args.self.now c.self.inside.state c.clause_laws.ensures.met c.self.view_is c.requires.vars c.requires.feasible c.requires.costs c.requires.few c.self.invariant).state
 
-pub search_under-requires-clause-variables : goal.search_under-requires-clause-variables
-search_under-requires-clause-variables g c =
+pub search_under-outcome-requires-clause-variables : goal.search_under-outcome-requires-clause-variables
+search_under-outcome-requires-clause-variables g c =
     subst (λ (n : ℕ). All (λ (l : Literal). l.var ≤ n) c.args.cube.now) (sym (c.self.invariant.vars ∙ ap (λ (f : NormalForm). f.vars) c.self.view_is)) c.requires.variables
 
 pub invariant_of-self : goal.invariant_of-self
 invariant_of-self g c =
-    let old = c.self.inside.state in let new = c.search_under.new.state in let same = c.search_under.ensures.constraints in
-    subst (λ (f : NormalForm). IsMade f [] new) (sym same.form)
-    (still_made c.args.best.now.problem old.engine.form old new (ap (λ (f : NormalForm). f.vars) c.self.view_is ∙ c.requires.vars) c.self.invariant c.search_under.ensures.made_for same)
+    let old = c.self.inside.state in let new = c.search_under-outcome.new.state in let same = c.search_under-outcome.ensures.constraints in
+    subst (λ (t : SearchState _). IsMade t.engine.form [] t) (sym c.begin_question.ensures)
+    (subst (λ (f : NormalForm). IsMade f [] new) (sym same.form)
+    (still_made c.args.best.now.problem old.engine.form old new (ap (λ (f : NormalForm). f.vars) c.self.view_is ∙ c.requires.vars) c.self.invariant c.search_under-outcome.ensures.made_for same))
 
 pub returns-clause-done : goal.returns-clause-done
 returns-clause-done g c whole =
     let p = c.args.best.now.problem in let d : Division = record { problem = p; cubes = c.args.cube.now ∷ [] } in
     let state : IsCubeState p c.self.inside.state = whole_state p c.args.self.now c.self.inside.state c.clause_laws.ensures.met c.self.view_is c.requires.vars c.requires.feasible c.requires.costs c.requires.few c.self.invariant in
-    cube_done p d 0 c.self.inside.state.engine c.args.cube.now c.search_under.new.best refl c.search_under.ensures.moves_on.same_instance state.state.engine.vars state.rows refl c.search_under.ensures.held_sound (c.search_under.ensures.searched whole)
+    cube_done p d 0 c.self.inside.state.engine c.args.cube.now c.search_under-outcome.new.best refl c.search_under-outcome.ensures.moves_on.same_instance state.state.engine.vars state.rows refl c.search_under-outcome.ensures.held_sound (c.search_under-outcome.ensures.searched whole)
 
 pub returns-clause-own : goal.returns-clause-own
-returns-clause-own g c none = own_makes_true c.self.inside.state.engine c.args.cube.now c.args.best.now c.search_under.new.best (c.search_under.ensures.own none)
+returns-clause-own g c none = own_makes_true c.self.inside.state.engine c.args.cube.now c.args.best.now c.search_under-outcome.new.best (c.search_under-outcome.ensures.own none)

@@ -25,11 +25,11 @@ invariant_of-self g c =
     let free : value_on inside.trail.lits c.args.lit.var ≡ None = subst (λ (e : EngineState). value_on e.trail c.args.lit.var ≡ None) (sym c.self.view_is) c.requires.no_value in
     let calm : inside.conflict ≡ false = ap (λ (e : EngineState). e.conflict) c.self.view_is ∙ c.requires.no_conflict in
     let room : start < inside.source.vars = omega (arith, c.push.ensures.within, c.self.invariant.up_to_date.vars) in
-    let stays = IsEngine-assume inside.source.vars inside.source.rows inside.trail.lits inside.levels.items inside.settled_until inside.conflict c.is_at-settled.result (vec_capacity inside.levels) c.args.lit c.self.invariant.engine calm room free (λ yes'. c.is_at-settled.ensures yes' ∙ ap (λ (n : ℕ). Some n) begins) c.push.ensures.from_one (omega (arith, c.requires.variable, ap (λ (e : EngineState). e.vars) c.self.view_is)) in
+    let stays = IsEngine-assume inside.source.vars inside.source.rows inside.trail.lits inside.levels.items inside.propagated inside.conflict c.is_at-settled.result (vec_capacity inside.levels) c.args.lit c.self.invariant.engine calm room free (λ yes'. c.is_at-settled.ensures yes' ∙ ap (λ (n : ℕ). Some n) begins) c.push.ensures.from_one (omega (arith, c.requires.variable, ap (λ (e : EngineState). e.vars) c.self.view_is)) in
     let levels : c.push_reserved.new.self.items ≡ inside.levels.items ++ record { start = start; settled = c.is_at-settled.result } ∷ [] = c.push_reserved.ensures.items ∙ ap (λ (n : ℕ). inside.levels.items ++ record { start = n; settled = c.is_at-settled.result } ∷ []) begins in
-    let P : List Literal → Type 0 = λ t. IsEngine inside.source.vars inside.source.rows t c.push_reserved.new.self.items inside.settled_until inside.conflict (vec_capacity c.push_reserved.new.self) in
-    let Q : List Level → Type 0 = λ ls. IsEngine inside.source.vars inside.source.rows (inside.trail.lits ++ c.args.lit ∷ []) ls inside.settled_until inside.conflict (vec_capacity inside.levels) in
-    let R : ℕ → Type 0 = λ n. IsEngine inside.source.vars inside.source.rows (inside.trail.lits ++ c.args.lit ∷ []) c.push_reserved.new.self.items inside.settled_until inside.conflict n in
+    let P : List Literal → Type 0 = λ t. IsEngine inside.source.vars inside.source.rows t c.push_reserved.new.self.items inside.propagated inside.conflict (vec_capacity c.push_reserved.new.self) in
+    let Q : List Level → Type 0 = λ ls. IsEngine inside.source.vars inside.source.rows (inside.trail.lits ++ c.args.lit ∷ []) ls inside.propagated inside.conflict (vec_capacity inside.levels) in
+    let R : ℕ → Type 0 = λ n. IsEngine inside.source.vars inside.source.rows (inside.trail.lits ++ c.args.lit ∷ []) c.push_reserved.new.self.items inside.propagated inside.conflict n in
     record { up_to_date = subst (λ (t : Constraints). IsUpToDate t c.push.new.self) c.tables.ensures c.push.ensures.up_to_date; engine = subst P (sym c.push.ensures.pushed) (subst R (sym c.push_reserved.ensures.capacity) (subst Q (sym levels) stays)) }
 
 pub returns-clause-assumed : goal.returns-clause-assumed
@@ -51,9 +51,9 @@ returns-clause-sound g c =
     let free : value_on inside.trail.lits c.args.lit.var ≡ None = subst (λ (e : EngineState). value_on e.trail c.args.lit.var ≡ None) (sym c.self.view_is) c.requires.no_value in
     let calm : inside.conflict ≡ false = ap (λ (e : EngineState). e.conflict) c.self.view_is ∙ c.requires.no_conflict in
     let room : start < inside.source.vars = omega (arith, c.push.ensures.within, c.self.invariant.up_to_date.vars) in
-    let stays = IsEngine-assume inside.source.vars inside.source.rows inside.trail.lits inside.levels.items inside.settled_until inside.conflict c.is_at-settled.result (vec_capacity inside.levels) c.args.lit c.self.invariant.engine calm room free (λ yes'. c.is_at-settled.ensures yes' ∙ ap (λ (n : ℕ). Some n) begins) c.push.ensures.from_one (omega (arith, c.requires.variable, ap (λ (e : EngineState). e.vars) c.self.view_is)) in
+    let stays = IsEngine-assume inside.source.vars inside.source.rows inside.trail.lits inside.levels.items inside.propagated inside.conflict c.is_at-settled.result (vec_capacity inside.levels) c.args.lit c.self.invariant.engine calm room free (λ yes'. c.is_at-settled.ensures yes' ∙ ap (λ (n : ℕ). Some n) begins) c.push.ensures.from_one (omega (arith, c.requires.variable, ap (λ (e : EngineState). e.vars) c.self.view_is)) in
     let levels : c.push_reserved.new.self.items ≡ inside.levels.items ++ record { start = start; settled = c.is_at-settled.result } ∷ [] = c.push_reserved.ensures.items ∙ ap (λ (n : ℕ). inside.levels.items ++ record { start = n; settled = c.is_at-settled.result } ∷ []) begins in
-    let sound = sound-IsEngine inside.source.form inside.source.vars inside.source.rows (inside.trail.lits ++ c.args.lit ∷ []) (inside.levels.items ++ record { start = start; settled = c.is_at-settled.result } ∷ []) inside.settled_until inside.conflict inside.conflict (vec_capacity inside.levels) stays in
+    let sound = sound-IsEngine inside.source.form inside.source.vars inside.source.rows (inside.trail.lits ++ c.args.lit ∷ []) (inside.levels.items ++ record { start = start; settled = c.is_at-settled.result } ∷ []) inside.propagated inside.conflict inside.conflict (vec_capacity inside.levels) stays in
     let P : List Literal → Type 0 = λ t. IsSoundTrail (record { form = inside.source.form; vars = inside.source.vars; rows = inside.source.rows; trail = t; levels = starts_of c.push_reserved.new.self.items; conflict = inside.conflict }) in
     let Q : List Level → Type 0 = λ ls. IsSoundTrail (record { form = inside.source.form; vars = inside.source.vars; rows = inside.source.rows; trail = inside.trail.lits ++ c.args.lit ∷ []; levels = starts_of ls; conflict = inside.conflict }) in
     subst P (sym c.push.ensures.pushed) (subst Q (sym levels) sound)

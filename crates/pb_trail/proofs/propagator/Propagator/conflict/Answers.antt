@@ -9,7 +9,7 @@ use Rattle.pb_trail.proofs.propagator.Propagator.conflict.Goals as goal
 pub returns-clause-sound : goal.returns-clause-sound
 returns-clause-sound g c =
     let inside = c.self.inside in
-    subst IsSoundTrail c.self.view_is (sound-IsEngine inside.source.form inside.source.vars inside.source.rows inside.trail.lits inside.levels.items inside.settled_until inside.conflict inside.conflict (vec_capacity inside.levels) c.self.invariant.engine)
+    subst IsSoundTrail c.self.view_is (sound-IsEngine inside.source.form inside.source.vars inside.source.rows inside.trail.lits inside.levels.items inside.propagated inside.conflict inside.conflict (vec_capacity inside.levels) c.self.invariant.engine)
 
 pub returns-clause-no_completion : goal.returns-clause-no_completion
 returns-clause-no_completion g c = λ found.

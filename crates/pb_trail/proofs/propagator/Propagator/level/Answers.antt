@@ -14,4 +14,4 @@ returns-clause-count g c =
 pub returns-clause-sound : goal.returns-clause-sound
 returns-clause-sound g c =
     let inside = c.self.inside in
-    subst IsSoundTrail c.self.view_is (sound-IsEngine inside.source.form inside.source.vars inside.source.rows inside.trail.lits inside.levels.items inside.settled_until inside.conflict inside.conflict (vec_capacity inside.levels) c.self.invariant.engine)
+    subst IsSoundTrail c.self.view_is (sound-IsEngine inside.source.form inside.source.vars inside.source.rows inside.trail.lits inside.levels.items inside.propagated inside.conflict inside.conflict (vec_capacity inside.levels) c.self.invariant.engine)

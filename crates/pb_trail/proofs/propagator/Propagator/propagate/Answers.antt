@@ -21,7 +21,7 @@ invariant_of-self g c =
     let forced : AddsForced inside.source.rows inside.trail.lits new.lits = subst (λ (t : Constraints). AddsForced t.rows inside.trail.lits new.lits) c.tables-tables.ensures c.propagate_all-step.ensures.forced in
     let calm : inside.conflict ≡ false = ap (λ (e : EngineState). e.conflict) c.self.view_is ∙ c.requires in
     let proper : IsProperTrail inside.source.vars new.lits = subst (λ (n : ℕ). IsProperTrail n new.lits) fresh.vars c.len-length.ensures.proper in
-    let stays = IsEngine-propagated inside.source.vars inside.source.rows inside.trail.lits new.lits inside.levels.items inside.settled_until inside.conflict (vec_capacity inside.levels) c.len-length.result c.self.invariant.engine calm forced proper (subst (λ (t : Constraints). AllSettled t.rows new.lits) c.tables-tables.ensures (c.propagate_all-step.ensures.settled c.in-Fixed.is)) c.len-length.ensures.length in
+    let stays = IsEngine-propagated inside.source.vars inside.source.rows inside.trail.lits new.lits inside.levels.items inside.propagated inside.conflict (vec_capacity inside.levels) c.len-length.result c.self.invariant.engine calm forced proper (subst (λ (t : Constraints). AllSettled t.rows new.lits) c.tables-tables.ensures (c.propagate_all-step.ensures.settled c.in-Fixed.is)) c.len-length.ensures.length in
     record { up_to_date = fresh; engine = stays }
 
 pub invariant_of-self-in-Conflict : goal.invariant_of-self-in-Conflict
@@ -31,7 +31,7 @@ invariant_of-self-in-Conflict g c =
     let fresh : IsUpToDate inside.source new = subst (λ (t : Constraints). IsUpToDate t new) c.tables-tables.ensures c.propagate_all-step.ensures.up_to_date in
     let forced : AddsForced inside.source.rows inside.trail.lits new.lits = subst (λ (t : Constraints). AddsForced t.rows inside.trail.lits new.lits) c.tables-tables.ensures c.propagate_all-step.ensures.forced in
     let proper : IsProperTrail inside.source.vars new.lits = subst (λ (n : ℕ). IsProperTrail n new.lits) fresh.vars c.len-length.ensures.proper in
-    let stays = IsEngine-conflict inside.source.vars inside.source.rows inside.trail.lits new.lits inside.levels.items inside.settled_until inside.conflict (vec_capacity inside.levels) c.self.invariant.engine forced proper (none_since_broken inside.source.rows new.lits (subst (λ (t : Constraints). IsBroken t.rows new.lits) c.tables-tables.ensures (c.propagate_all-step.ensures.broken c.in-Conflict.is))) in
+    let stays = IsEngine-conflict inside.source.vars inside.source.rows inside.trail.lits new.lits inside.levels.items inside.propagated inside.conflict (vec_capacity inside.levels) c.self.invariant.engine forced proper (none_since_broken inside.source.rows new.lits (subst (λ (t : Constraints). IsBroken t.rows new.lits) c.tables-tables.ensures (c.propagate_all-step.ensures.broken c.in-Conflict.is))) in
     record { up_to_date = fresh; engine = stays }
 
 pub returns-in-Fixed-clause-fixed : goal.returns-in-Fixed-clause-fixed
@@ -54,7 +54,7 @@ returns-in-Fixed-clause-sound g c =
     let forced : AddsForced inside.source.rows inside.trail.lits new.lits = subst (λ (t : Constraints). AddsForced t.rows inside.trail.lits new.lits) c.tables-tables.ensures c.propagate_all-step.ensures.forced in
     let calm : inside.conflict ≡ false = ap (λ (e : EngineState). e.conflict) c.self.view_is ∙ c.requires in
     let proper : IsProperTrail inside.source.vars new.lits = subst (λ (n : ℕ). IsProperTrail n new.lits) fresh.vars c.len-length.ensures.proper in
-    let stays = IsEngine-propagated inside.source.vars inside.source.rows inside.trail.lits new.lits inside.levels.items inside.settled_until inside.conflict (vec_capacity inside.levels) c.len-length.result c.self.invariant.engine calm forced proper (subst (λ (t : Constraints). AllSettled t.rows new.lits) c.tables-tables.ensures (c.propagate_all-step.ensures.settled c.in-Fixed.is)) c.len-length.ensures.length in
+    let stays = IsEngine-propagated inside.source.vars inside.source.rows inside.trail.lits new.lits inside.levels.items inside.propagated inside.conflict (vec_capacity inside.levels) c.len-length.result c.self.invariant.engine calm forced proper (subst (λ (t : Constraints). AllSettled t.rows new.lits) c.tables-tables.ensures (c.propagate_all-step.ensures.settled c.in-Fixed.is)) c.len-length.ensures.length in
     sound-IsEngine inside.source.form inside.source.vars inside.source.rows new.lits inside.levels.items (Some c.len-length.result) inside.conflict inside.conflict (vec_capacity inside.levels) stays
 
 pub returns-in-Conflict-clause-sound : goal.returns-in-Conflict-clause-sound
@@ -64,8 +64,8 @@ returns-in-Conflict-clause-sound g c =
     let fresh : IsUpToDate inside.source new = subst (λ (t : Constraints). IsUpToDate t new) c.tables-tables.ensures c.propagate_all-step.ensures.up_to_date in
     let forced : AddsForced inside.source.rows inside.trail.lits new.lits = subst (λ (t : Constraints). AddsForced t.rows inside.trail.lits new.lits) c.tables-tables.ensures c.propagate_all-step.ensures.forced in
     let proper : IsProperTrail inside.source.vars new.lits = subst (λ (n : ℕ). IsProperTrail n new.lits) fresh.vars c.len-length.ensures.proper in
-    let stays = IsEngine-conflict inside.source.vars inside.source.rows inside.trail.lits new.lits inside.levels.items inside.settled_until inside.conflict (vec_capacity inside.levels) c.self.invariant.engine forced proper (none_since_broken inside.source.rows new.lits (subst (λ (t : Constraints). IsBroken t.rows new.lits) c.tables-tables.ensures (c.propagate_all-step.ensures.broken c.in-Conflict.is))) in
-    sound-IsEngine inside.source.form inside.source.vars inside.source.rows new.lits inside.levels.items inside.settled_until true true (vec_capacity inside.levels) stays
+    let stays = IsEngine-conflict inside.source.vars inside.source.rows inside.trail.lits new.lits inside.levels.items inside.propagated inside.conflict (vec_capacity inside.levels) c.self.invariant.engine forced proper (none_since_broken inside.source.rows new.lits (subst (λ (t : Constraints). IsBroken t.rows new.lits) c.tables-tables.ensures (c.propagate_all-step.ensures.broken c.in-Conflict.is))) in
+    sound-IsEngine inside.source.form inside.source.vars inside.source.rows new.lits inside.levels.items inside.propagated true true (vec_capacity inside.levels) stays
 
 pub returns-in-Fixed-clause-solved : goal.returns-in-Fixed-clause-solved
 returns-in-Fixed-clause-solved g c = λ fixed full.

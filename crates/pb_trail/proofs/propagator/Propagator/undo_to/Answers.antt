@@ -46,7 +46,7 @@ invariant_of-self-2 g c =
     let count = length-starts_of inside.levels.items in
     let view = ap (λ (e : EngineState). length e.levels) c.self.view_is in
     let below : c.args.level < length inside.levels.items = omega (arith, inside.levels.ok.0, c.requires) in
-    let stays = IsEngine-undo inside.source.vars inside.source.rows inside.trail.lits inside.levels.items inside.settled_until inside.conflict (vec_capacity inside.levels) c.args.level c.index.result.now c.self.invariant.engine below c.index.ensures c.known_if-self-inside-2.result
+    let stays = IsEngine-undo inside.source.vars inside.source.rows inside.trail.lits inside.levels.items inside.propagated inside.conflict (vec_capacity inside.levels) c.args.level c.index.result.now c.self.invariant.engine below c.index.ensures c.known_if-self-inside-2.result
     (λ from is. (let h = c.known_if-self-inside-2.ensures from is in (some_is c.index.result.now.start from h.1, h.0))) in
     let P : List Literal → Type 0 = λ t. IsEngine inside.source.vars inside.source.rows t c.truncate.new.self.items c.known_if-self-inside-2.result false (vec_capacity c.truncate.new.self) in
     let Q : List Level → Type 0 = λ ls. IsEngine inside.source.vars inside.source.rows (take c.index.result.now.start inside.trail.lits) ls c.known_if-self-inside-2.result false (vec_capacity inside.levels) in
@@ -71,7 +71,7 @@ returns-clause-undone g c =
 pub returns-then-level-len-clause-sound : goal.returns-then-level-len-clause-sound
 returns-then-level-len-clause-sound g c =
     let inside = c.self.inside in
-    sound-IsEngine inside.source.form inside.source.vars inside.source.rows inside.trail.lits inside.levels.items inside.settled_until inside.conflict false (vec_capacity inside.levels) c.self.invariant.engine
+    sound-IsEngine inside.source.form inside.source.vars inside.source.rows inside.trail.lits inside.levels.items inside.propagated inside.conflict false (vec_capacity inside.levels) c.self.invariant.engine
 
 pub returns-clause-sound : goal.returns-clause-sound
 returns-clause-sound g c =
@@ -79,7 +79,7 @@ returns-clause-sound g c =
     let count = length-starts_of inside.levels.items in
     let view = ap (λ (e : EngineState). length e.levels) c.self.view_is in
     let below : c.args.level < length inside.levels.items = omega (arith, inside.levels.ok.0, c.requires) in
-    let stays = IsEngine-undo inside.source.vars inside.source.rows inside.trail.lits inside.levels.items inside.settled_until inside.conflict (vec_capacity inside.levels) c.args.level c.index.result.now c.self.invariant.engine below c.index.ensures c.known_if-self-inside-2.result
+    let stays = IsEngine-undo inside.source.vars inside.source.rows inside.trail.lits inside.levels.items inside.propagated inside.conflict (vec_capacity inside.levels) c.args.level c.index.result.now c.self.invariant.engine below c.index.ensures c.known_if-self-inside-2.result
     (λ from is. (let h = c.known_if-self-inside-2.ensures from is in (some_is c.index.result.now.start from h.1, h.0))) in
     let P : List Literal → Type 0 = λ t. IsSoundTrail (record { form = inside.source.form; vars = inside.source.vars; rows = inside.source.rows; trail = t; levels = starts_of c.truncate.new.self.items; conflict = false }) in
     let Q : List Level → Type 0 = λ ls. IsSoundTrail (record { form = inside.source.form; vars = inside.source.vars; rows = inside.source.rows; trail = take c.index.result.now.start inside.trail.lits; levels = starts_of ls; conflict = false }) in

@@ -20,9 +20,9 @@ returns-then-var-eq0-clause-value g c =
 pub returns-then-var-eq0-clause-sound : goal.returns-then-var-eq0-clause-sound
 returns-then-var-eq0-clause-sound g c =
     let inside = c.self.inside in
-    subst IsSoundTrail c.self.view_is (sound-IsEngine inside.source.form inside.source.vars inside.source.rows inside.trail.lits inside.levels.items inside.settled_until inside.conflict inside.conflict (vec_capacity inside.levels) c.self.invariant.engine)
+    subst IsSoundTrail c.self.view_is (sound-IsEngine inside.source.form inside.source.vars inside.source.rows inside.trail.lits inside.levels.items inside.propagated inside.conflict inside.conflict (vec_capacity inside.levels) c.self.invariant.engine)
 
 pub returns-clause-sound : goal.returns-clause-sound
 returns-clause-sound g c =
     let inside = c.self.inside in
-    subst IsSoundTrail c.self.view_is (sound-IsEngine inside.source.form inside.source.vars inside.source.rows inside.trail.lits inside.levels.items inside.settled_until inside.conflict inside.conflict (vec_capacity inside.levels) c.self.invariant.engine)
+    subst IsSoundTrail c.self.view_is (sound-IsEngine inside.source.form inside.source.vars inside.source.rows inside.trail.lits inside.levels.items inside.propagated inside.conflict inside.conflict (vec_capacity inside.levels) c.self.invariant.engine)

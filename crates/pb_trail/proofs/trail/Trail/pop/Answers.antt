@@ -29,7 +29,7 @@ raise_rows-requires-clause-fits g c = λ r h.
     let weight = ap (λ (l : Literal). weight_of l (row_at rows r).terms) negated in
     let same : get_or c.deref_mut.result.now r 0 ≡ get_or inside.sums.items r 0 = ap (λ (xs : List ℕ). get_or xs r 0) c.deref_mut.ensures.value in
     let sum : get_or c.args.self.now.sums r 0 ≡ reachable (front ++ lit ∷ []) (row_at rows r).terms = c.requires.up_to_date.sums r exists ∙ ap (λ (t : List Literal). reachable t (row_at rows r).terms) (sym lits_are ∙ whole) in
-    omega (arith, reachable-push front lit (row_at rows r).terms free, reachable-le-total front (row_at rows r).terms, (c.vars-vars.ensures.limits r (record { terms = []; degree = 0 }) exists).1)
+    omega (arith, reachable-push front lit (row_at rows r).terms free, reachable-le-total front (row_at rows r).terms, (c.facts.ensures.limits r (record { terms = []; degree = 0 }) exists).1)
 
 pub invariant_of-self : goal.invariant_of-self
 invariant_of-self g c =

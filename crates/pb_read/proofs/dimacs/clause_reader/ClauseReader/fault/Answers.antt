@@ -1,5 +1,5 @@
 use Rattle.std.proofs.Common.{◌∙◌, ◌||◌, sym, ap, subst, ℕ, arith, ltb}
-use Rattle.pb_inst.specs.declared.TheConstants.{MAX_CONSTRAINTS, MAX_TERMS}
+use Rattle.pb_inst.specs.declared.limits.TheConstants.{MAX_CONSTRAINTS, MAX_TERMS}
 use Rattle.pb_read.specs.Text.{items}
 use Rattle.pb_read.specs.Refusal.{first_kind}
 use Rattle.pb_read.specs.Clauses.{word_faults}

@@ -1,6 +1,0 @@
-use Rattle.std.proofs.Common.{◌≡◌, take, map}
-use Rattle.pb_engine.specs.DisjointRows.{marked_by}
-use Rattle.pb_engine.proofs.extras.mark_items.Given as goal
-
-abbrev pub invariant-loop-item : goal.invariant-loop-item
-invariant-loop-item g l = l.marks ≡ marked_by l.slacks.trail l.initial.marks (take l.item-index (map g.T.Weighs.term l.items))

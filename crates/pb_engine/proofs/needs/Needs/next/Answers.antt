@@ -1,4 +1,0 @@
-use Rattle.pb_engine.proofs.needs.Needs.next.Goals as goal
-
-pub returns-clause-some : goal.returns-clause-some
-returns-clause-some g c = λ row is. (let h = c.next.ensures.some row is in (h.0, h.1, h.3))

@@ -1,6 +1,0 @@
-use Rattle.std.proofs.Common.{◌≡◌, [], take, map}
-use Rattle.pb_engine.specs.DisjointRows.{spare}
-use Rattle.pb_engine.proofs.needs.costless.Given as goal
-
-abbrev pub invariant-loop-item : goal.invariant-loop-item
-invariant-loop-item g l = l.sum ≡ spare l.tables.form.objective [] (take l.item-index (map g.T.Weighs.term l.items))

@@ -1,0 +1,9 @@
+pub mod BoundLemmas
+pub mod OfferLemmas
+pub mod ContributionLemmas
+pub mod BesideLemmas
+pub mod DeficitLemmas
+pub mod CounterLemmas
+pub mod DisjointLemmas
+pub mod DisjointBound
+pub mod SpareLemmas

@@ -1,0 +1,9 @@
+use Rattle.std.proofs.Common.{◌-◌, length}
+use Rattle.pb_row_bound.specs.Deficits.{AreDeficits}
+use Rattle.pb_row_bound.proofs.deficits.Deficits.count.Given as goal
+
+abbrev pub invariant-loop-self : goal.invariant-loop-self
+invariant-loop-self g l = AreDeficits g.C.Coefficient.limit l.slacks.form l.slacks.rows l.slacks.trail l.self
+
+abbrev pub decreases-loop-self : goal.decreases-loop-self
+decreases-loop-self g l = length l.slacks.trail - l.self.counted

@@ -1,0 +1,3 @@
+pub mod DisjointRows
+pub mod Deficits
+pub mod Offers

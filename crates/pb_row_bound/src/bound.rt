@@ -1,0 +1,50 @@
+//! The bound of disjoint rows: the base, what the trail pays, and the contributions of rows that share no variable without a value.
+
+ghost use Rattle.std.specs.Prelude.{◌≡◌, ◌+◌, ◌≤◌, false, length, replicate, ◌≤ℤ◌, pos, neg_ℤ};
+ghost use Rattle.pb_inst.specs.declared.limits.TheConstants.{SUM_BOUND};
+ghost use Rattle.pb_normal.specs.NormalForm.{total_coefficient};
+ghost use Rattle.pb_trail.specs.Completion.{IsLowerBound};
+ghost use Rattle.pb_trail.specs.Trail.{reached};
+ghost use Rattle.pb_row_bound.specs.DisjointRows.{row_contributions, disjoint_bound};
+ghost use Rattle.pb_row_bound.specs.Deficits.{AreDeficits};
+
+use crate::deficits::Deficits;
+use crate::row_contributions::row_contributions;
+use pb_bits::Marks;
+use pb_count::Coefficient;
+use pb_inst::{Magnitude, Number};
+use pb_trail::TrailView;
+
+/// What the trail pays and the contributions of the picked rows.
+pub fn payment<C: Coefficient>(
+    slacks: &TrailView<'_, C>,
+    deficits: &mut Deficits<C>,
+    marks: &mut Marks,
+) -> Magnitude
+    requires deficits { AreDeficits C.limit slacks.now.form slacks.now.rows slacks.now.trail deficits.old }
+    requires marks { length marks.old ≡ slacks.now.vars }
+    ensures payment { result ≡ reached slacks.now.trail slacks.now.form.objective + row_contributions slacks.now.form.objective slacks.now.trail (replicate slacks.now.form.vars false) slacks.now.rows }
+    ensures small { result ≤ total_coefficient slacks.now.form.objective }
+    ensures deficits { AreDeficits C.limit slacks.now.form slacks.now.rows slacks.now.trail deficits.new }
+    ensures marks { length marks.new ≡ length marks.old }
+{
+    slacks.tables().facts();
+    if slacks.form().objective().is_empty() {
+        return 0;
+    }
+    deficits.count(slacks);
+    let contributions = row_contributions(deficits, marks, slacks);
+    (deficits.paid() + contributions).number()
+}
+
+/// The base with what the trail pays and the contributions: at most the cost of every completion of the trail.
+pub fn bound_with<C: Coefficient>(slacks: &TrailView<'_, C>, payment: Magnitude) -> Number
+    requires payment { payment ≡ reached slacks.now.trail slacks.now.form.objective + row_contributions slacks.now.form.objective slacks.now.trail (replicate slacks.now.form.vars false) slacks.now.rows }
+    requires small { payment ≤ total_coefficient slacks.now.form.objective }
+    ensures value { result ≡ disjoint_bound slacks.now.form slacks.now.rows slacks.now.trail }
+    ensures bound { IsLowerBound slacks.now.form slacks.now.rows slacks.now.trail result }
+    ensures range { (neg_ℤ (pos SUM_BOUND) ≤ℤ result) × (result ≤ℤ pos SUM_BOUND) }
+{
+    slacks.tables().facts();
+    slacks.form().base() + payment as Number
+}

@@ -1,0 +1,11 @@
+pub mod HeldLemmas
+pub mod PathLemmas
+pub mod Engines
+pub mod LeafLemmas
+pub mod AgreedPrefixLemmas
+pub mod Moves
+pub mod SearchLemmas
+pub mod RootLemmas
+pub mod BudgetLemmas
+pub mod DivingLemmas
+pub mod ProbingLemmas

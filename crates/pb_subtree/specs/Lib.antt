@@ -1,0 +1,9 @@
+pub mod Held
+pub mod Solutions
+pub mod Left
+pub mod Paths
+pub mod SearchState
+pub mod Made
+pub mod Nodes
+pub mod AgreedPrefix
+pub mod Goal

@@ -1,0 +1,80 @@
+//! Back to the last decision on the trail whose other value is still to be tried.
+
+ghost use Rattle.std.specs.Prelude.{◌≡◌, ◌++◌, ◌∷◌, [], List, IfSome, IfNone, vec_capacity};
+ghost use Rattle.pb_inst.specs.Literal.{Literal};
+ghost use Rattle.pb_engine.specs.EngineState.{EngineState};
+ghost use Rattle.pb_subtree.specs.Paths.{IsOtherValue};
+ghost use Rattle.pb_subtree.specs.Solutions.{SameConstraints};
+ghost use Rattle.pb_subtree.specs.AgreedPrefix.{KnowsHeldPrefix};
+ghost use Rattle.pb_engine.specs.Free.{IsFree};
+ghost use Rattle.pb_subtree.specs.SearchState.{IsStateOf, IsAtPath, IsAtSomePath, IsLeaving, IsNext, IsSearched, LeavesFewer};
+
+use crate::agreed_prefix::AgreedPrefix;
+use crate::branch::Branch;
+use crate::pruning::is_spent;
+use crate::search_state::SearchState;
+use pb_engine::{Coefficient, EngineAt};
+use pb_inst::Best;
+
+/// Takes back the last decision, and gives it; none where there is none.
+pub fn undo_decision<C: Coefficient>(
+    engine: &mut EngineAt<C>,
+    path: &mut Vec<Branch>,
+    best: &Best<'_>,
+    agreed: &mut AgreedPrefix,
+) -> Option<Branch>
+    requires at_path { IsAtSomePath engine.old path.old.items }
+    requires known { KnowsHeldPrefix engine.old.trail best.now.held agreed.old }
+    ensures popped { IfSome result (λ b. path.old.items ≡ path.new.items ++ b ∷ []) }
+    ensures free { IfSome result (λ b. IsFree engine.new b.lit) }
+    ensures at_path { (root : List Literal) → IsAtPath root engine.old path.old.items → IsAtPath root engine.new path.new.items }
+    ensures constraints { SameConstraints engine.old engine.new }
+    ensures same_room { vec_capacity path.new ≡ vec_capacity path.old }
+    ensures no_decisions { IfNone result (path.old.items ≡ []) }
+    ensures known { KnowsHeldPrefix engine.new.trail best.now.held agreed.new }
+{
+    let branch = path.pop()?;
+    let level = engine.level() - 1;
+    agreed.forget_from(engine, branch.lit, best);
+    engine.undo_to(level);
+    agreed.cut(engine);
+    Some(branch)
+}
+
+/// Takes back the decisions up to the last one whose other value is still to be tried, and gives the decision for that
+/// value; none where there is none.
+pub fn backtrack<C: Coefficient>(
+    state: &mut SearchState<C>,
+    best: &Best<'_>,
+    agreed: &mut AgreedPrefix,
+) -> Option<Branch>
+    requires state { IsStateOf best.now.problem state.old }
+    requires at_path { IsAtSomePath state.old.engine state.old.branches.items }
+    requires known { KnowsHeldPrefix state.old.engine.trail best.now.held agreed.old }
+    ensures next { IfSome result (λ b. (start : EngineState) → IsLeaving best.now.problem start state.old best.now.held → IsNext best.now.problem start state.new b best.now.held) }
+    ensures fewer { IfSome result (λ b. LeavesFewer best.now.problem state.old state.new b) }
+    ensures finished { IfNone result ((start : EngineState) → IsLeaving best.now.problem start state.old best.now.held → IsSearched best.now.problem start best.now.held) }
+    ensures made_for { IsStateOf best.now.problem state.new }
+    ensures constraints { SameConstraints state.old.engine state.new.engine }
+    ensures returns { state.new.root_work.returns ≡ state.old.root_work.returns }
+    ensures known { KnowsHeldPrefix state.new.engine.trail best.now.held agreed.new }
+{
+    while let Some(branch) = undo_decision(&mut state.engine, &mut state.branches, best, agreed) {
+        if !is_spent(&mut state.engine, &branch, best, agreed) {
+            return Some(other_value(&branch));
+        }
+    }
+    None
+}
+
+/// The decision for the other value.
+fn other_value(branch: &Branch) -> Branch
+    ensures { IsOtherValue branch.now result }
+{
+    Branch {
+        lit: branch.lit.negate(),
+        flipped: true,
+        bound: branch.bound,
+        hints: branch.hints,
+    }
+}

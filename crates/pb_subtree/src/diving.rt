@@ -1,0 +1,132 @@
+//! What is done anew at the root as long as its trail grows or the best cost falls: multipliers are improved, and the search dives
+//! from there. What a dive reaches is handed to the incumbent, and all of it is taken back.
+
+ghost use Rattle.std.specs.Prelude.{◌≡◌, ◌⊎◌, List, false, true, length};
+ghost use Rattle.pb_inst.specs.Literal.{Literal};
+ghost use Rattle.pb_engine.specs.Soundness.{IsFull, IsSolved, IsSoundTrail};
+ghost use Rattle.pb_subtree.specs.Held.{MovesOn};
+ghost use Rattle.pb_subtree.specs.AgreedPrefix.{KnowsHeldPrefix};
+ghost use Rattle.pb_subtree.specs.Left.{IsLeftOf, IsPaidFrom};
+ghost use Rattle.pb_subtree.specs.SearchState.{IsStateOf, IsEngineOf, SameBranches};
+ghost use Rattle.pb_subtree.specs.Nodes.{IsFoundAt, IsBackFromDive};
+
+use crate::Share;
+use crate::agreed_prefix::AgreedPrefix;
+use crate::incumbent::take_leaf;
+use crate::search_state::SearchState;
+use pb_dive::descend;
+use pb_engine::{Coefficient, EngineAt};
+use pb_inst::{Assignment, Best};
+
+/// Dives from where the search stands, if that is its root and a dive is due. Answers whether it led to a better assignment;
+/// then more may be fixed at the root. The decisions of a dive count like those of the search.
+pub fn dive_from_root<C: Coefficient, S: Share>(
+    state: &mut SearchState<C>,
+    best: &mut Best<'_>,
+    share: &mut S,
+    agreed: &mut AgreedPrefix,
+    left: &mut Option<u64>,
+) -> bool
+    requires state { IsStateOf best.old.problem state.old }
+    requires sound { IsSoundTrail state.old.engine }
+    requires no_conflict { state.old.engine.conflict ≡ false }
+    requires known { KnowsHeldPrefix state.old.engine.trail best.old.held agreed.old }
+    ensures back { IsBackFromDive state.old state.new best.old best.new }
+    ensures kept { S.keeps share.old share.new }
+    ensures same_lending { S.lends share.new ≡ S.lends share.old }
+    ensures known { KnowsHeldPrefix state.new.engine.trail best.new.held agreed.new }
+    ensures budget { IsLeftOf left.old left.new }
+    ensures paid { result ≡ true → IsFull state.old.engine ⊎ IsPaidFrom left.old left.new }
+{
+    let length = state.engine.trail_len();
+    let work = &mut state.root_work;
+    let Some(most) = work.take_dive(&state.branches, length, best.cost(), *left) else {
+        return false;
+    };
+    let is_better = dive(state, best, share, agreed, left, most);
+    if is_better {
+        state.root_work.reopen(state.candidate.len());
+        state.engine.renew();
+    }
+    is_better
+}
+
+/// Has the multipliers improved anew where the root's trail has grown.
+pub fn renew_at_root<C: Coefficient>(state: &mut SearchState<C>, best: &Best<'_>)
+    ensures same_branches { SameBranches state.old state.new }
+    ensures unchanged { state.new.engine ≡ state.old.engine }
+{
+    let (length, vars) = (state.engine.trail_len(), state.candidate.len());
+    let cost = best.cost();
+    if state
+        .root_work
+        .take_renewal(&state.branches, length, vars, cost)
+    {
+        state.engine.renew();
+    }
+}
+
+/// Dives once, by so many decisions at most, each of which is taken off what is left.
+fn dive<C: Coefficient, S: Share>(
+    state: &mut SearchState<C>,
+    best: &mut Best<'_>,
+    share: &mut S,
+    agreed: &mut AgreedPrefix,
+    left: &mut Option<u64>,
+    most: u64,
+) -> bool
+    requires state { IsStateOf best.old.problem state.old }
+    requires sound { IsSoundTrail state.old.engine }
+    requires no_conflict { state.old.engine.conflict ≡ false }
+    requires known { KnowsHeldPrefix state.old.engine.trail best.old.held agreed.old }
+    ensures back { IsBackFromDive state.old state.new best.old best.new }
+    ensures kept { S.keeps share.old share.new }
+    ensures same_lending { S.lends share.new ≡ S.lends share.old }
+    ensures known { KnowsHeldPrefix state.new.engine.trail best.new.held agreed.new }
+    ensures budget { IsLeftOf left.old left.new }
+    ensures paid { result ≡ true → IsFull state.old.engine ⊎ IsPaidFrom left.old left.new }
+{
+    let level = state.engine.level();
+    let path = &mut state.root_work.dive;
+    let descent = descend(&mut state.engine, path, most, left);
+    let is_better = take_where_full(
+        &state.engine,
+        &mut state.candidate,
+        best,
+        share,
+        agreed,
+        descent.is_full,
+    );
+    state.engine.undo_to(level);
+    is_better
+}
+
+/// Hands the trail to the incumbent where it is full. Answers whether that was an improvement.
+fn take_where_full<C: Coefficient, S: Share>(
+    engine: &EngineAt<C>,
+    candidate: &mut Assignment,
+    best: &mut Best<'_>,
+    share: &mut S,
+    agreed: &mut AgreedPrefix,
+    is_full: bool,
+) -> bool
+    requires engine { IsEngineOf best.old.problem engine.now }
+    requires room { length candidate.old ≡ best.old.problem.vars }
+    requires full { is_full ≡ true → IsFull engine.now }
+    requires solved { is_full ≡ true → IsSolved engine.now }
+    requires sound { IsSoundTrail engine.now }
+    ensures only_full { result ≡ true → is_full ≡ true }
+    ensures same_length { length candidate.new ≡ length candidate.old }
+    ensures moves_on { MovesOn best.old best.new }
+    ensures own { IsFoundAt engine.now best.old best.new }
+    ensures kept { S.keeps share.old share.new }
+    ensures same_lending { S.lends share.new ≡ S.lends share.old }
+    ensures known { (trail : List Literal) → KnowsHeldPrefix trail best.old.held agreed.old → KnowsHeldPrefix trail best.new.held agreed.new }
+{
+    if !is_full {
+        return false;
+    }
+    let is_better = take_leaf(engine, candidate, best, share);
+    agreed.begin_again(best);
+    is_better
+}

@@ -1,0 +1,63 @@
+//! What the order of decisions learns at a node: what led to a conflict, how far the last decision brought the bound, and the
+//! values of a new best assignment. No answer depends on it, so nothing is promised.
+
+use crate::pruning::Pruning;
+use crate::search_state::SearchState;
+use pb_engine::{Coefficient, EngineAt};
+use pb_inst::{Best, Lit};
+use pb_order::{Gain, Order};
+
+/// Learns from the conflict that the engine found.
+pub fn learn_conflict<C: Coefficient>(order: &mut Order, engine: &EngineAt<C>) {
+    order.bump_conflict(engine.propagator());
+}
+
+/// Learns from the values of the best assignment, where it is a new one.
+pub fn learn_values(order: &mut Order, best: &Best<'_>, has_improved: bool) {
+    if has_improved && let Some(held) = best.assignment() {
+        order.prefer(held);
+    }
+}
+
+/// A decision, and by how much the bound may rise above it before it is over the best cost.
+#[derive(Clone, Copy)]
+pub struct Decided {
+    lit: Lit,
+    /// In the unit of the multipliers' gap. A decision that ends in a conflict gains all of it.
+    gap: Gain,
+}
+
+/// The last decision, and by how much the bound of the multipliers above it may rise; none where they were not used there.
+pub fn last_decided<C: Coefficient>(state: &SearchState<C>, best: &Best<'_>) -> Option<Decided> {
+    // Below a literal that was fixed the multipliers are not asked for a bound, so the one above it is not known.
+    if state.engine.is_fixing() {
+        return None;
+    }
+    let branch = state.branches.last()?;
+    let gap = state.engine.gap(best.cost()?)?;
+    Some(Decided {
+        lit: branch.lit,
+        gap,
+    })
+}
+
+/// By how much the bound of the multipliers may still rise at a node that was judged.
+pub fn gap_left<C: Coefficient>(
+    engine: &EngineAt<C>,
+    best: &Best<'_>,
+    pruning: Pruning,
+) -> Option<Gain> {
+    if pruning == Pruning::Closed {
+        return Some(0);
+    }
+    engine.gap(best.cost()?)
+}
+
+/// Learns from what a decision left of the gap.
+pub fn learn(order: &mut Order, decided: Option<Decided>, left: Option<Gain>) {
+    if let Some(decided) = decided
+        && let Some(left) = left
+    {
+        order.learn(decided.lit, decided.gap.saturating_sub(left));
+    }
+}

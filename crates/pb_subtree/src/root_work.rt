@@ -1,0 +1,329 @@
+//! What is done at the root of a search: where no decision on the trail has another value to try. A search that goes down far,
+//! as by rows of thousands of terms, may never come back there by itself. So it steps back early, while little was closed.
+
+ghost use Rattle.std.specs.Prelude.{◌≡◌, ◌+◌, ◌≤◌, false, length, IfNone, IfSome};
+ghost use Rattle.pb_engine.specs.Soundness.{IsSoundTrail};
+ghost use Rattle.pb_subtree.specs.Left.{IsLeftOf};
+ghost use Rattle.pb_subtree.specs.SearchState.{IsEngineOf, IsOpenOnOneSide};
+
+use crate::branch::Branch;
+use crate::goal::Goal;
+use crate::probing::{Probing, find_failed};
+use crate::pruning::Pruning;
+use crate::search_state::SearchState;
+use crate::ties::Ties;
+use pb_dive::DivePath;
+use pb_engine::{Coefficient, EngineAt};
+use pb_inst::{Best, Lit, Memory, Number};
+use pb_normal::Form;
+use std::alloc::Global;
+
+/// How many variables there are at least where work at the root may pay and nothing is minimised.
+const LEAST_VARIABLES: u32 = 512;
+
+/// How many decisions there are at least where a search that minimises steps back to its root: by so many nodes all
+/// rows are shifted at once in any case, so a search that is over sooner pays for nothing.
+const LEAST_DECISIONS: usize = 20;
+
+/// One in so many of the decisions of a budget may be a trial at the root.
+const TRIALS_OF_A_BUDGET: u64 = 4;
+
+/// How often a search that minimises may be about to turn to another value before it is too late to step back for work at the
+/// root: what was closed by then is closed again soon.
+const MOST_LEAVES: u32 = 64;
+
+/// What the search of a piece may pay for dives from its root: for two that lead to nothing, and one that leads to a better
+/// assignment costs a third of one that does not.
+const CREDIT_OF_DIVES: u32 = 6;
+
+/// What a dive costs.
+const COST_OF_A_DIVE: u32 = 3;
+
+/// What it gives back where it leads to a better assignment.
+const GAIN_OF_A_DIVE: u32 = 2;
+
+/// How often multipliers are improved anew at the root at most.
+const MOST_RENEWALS: u32 = 8;
+
+/// Of how many variables without a value one is to have one at the root where multipliers are improved anew.
+const RENEWED_PART: usize = 8;
+
+/// How many are to have one in any case.
+const LEAST_RENEWED: usize = 8;
+
+/// One in so many of the decisions of a budget may be one of a dive.
+const DIVE_OF_A_BUDGET: u64 = 8;
+
+/// What the work at the root goes on from.
+#[derive(Drop)]
+pub struct RootWork {
+    /// How often the search of the piece may still step back to its root.
+    pub returns: u32,
+    /// How many decisions, from the first on, are known to have no other value to try.
+    prefix: usize,
+    /// Whether there are so many variables that work may pay though nothing is minimised.
+    is_large: bool,
+    /// Whether nothing is minimised.
+    is_decision: bool,
+    /// How often the search of the piece may still be about to turn to another value before it is too late to step back for work
+    /// at the root: what has none is searched without any work.
+    leaves: u32,
+    /// Whether the root is worked on since.
+    is_open: bool,
+    pub ties: Ties,
+    /// The trail's length and the best cost where no literal failed in the last round.
+    done: Option<(usize, Option<Number>)>,
+    pub probing: Probing,
+    /// What may still be paid for dives.
+    dives: u32,
+    /// The trail's length and the best cost where the last dive began.
+    dived: Option<(usize, Option<Number>)>,
+    pub dive: DivePath,
+    /// How often multipliers may still be improved anew at the root.
+    renewals: u32,
+    /// The length of the root's trail when that was done last.
+    renewed: usize,
+}
+
+impl RootWork {
+    /// Nothing was done.
+    pub fn new<C: Coefficient>(alloc: Global, form: &Form<C>) -> Result<RootWork, Memory> {
+        let vars = form.vars();
+        let is_large = vars >= LEAST_VARIABLES;
+        let is_decision = form.objective().is_empty();
+        Ok(RootWork {
+            returns: 0,
+            prefix: 0,
+            is_large,
+            is_decision,
+            leaves: 0,
+            is_open: false,
+            ties: Ties::new(),
+            done: None,
+            probing: Probing::new(is_decision),
+            dives: 0,
+            dived: None,
+            renewals: 0,
+            renewed: 0,
+            dive: DivePath::new(alloc, if is_decision { 0 } else { vars })?,
+        })
+    }
+
+    /// The search of a piece begins, for this goal and with so many decisions left of its budget.
+    pub fn begin(&mut self, goal: Goal, left: Option<u64>) {
+        // More than any search comes to. Each step back that is left counts in the measure of the search's loop, so the loop ends
+        // whatever number stands here.
+        self.returns = u32::MAX;
+        self.prefix = 0;
+        self.leaves = match goal {
+            _ if self.is_decision => 1,
+            // Where any assignment will do, one is found before work at the root would have paid.
+            Goal::Any => 0,
+            Goal::Least | Goal::AtMost(_) => MOST_LEAVES,
+        };
+        self.is_open = false;
+        self.ties = Ties::new();
+        self.done = None;
+        let trials = match left {
+            Some(count) => count / TRIALS_OF_A_BUDGET,
+            None => u64::MAX,
+        };
+        self.probing.begin(trials);
+        self.dives = if self.is_decision { 0 } else { CREDIT_OF_DIVES };
+        self.dived = None;
+        self.renewals = if self.is_decision { 0 } else { MOST_RENEWALS };
+        self.renewed = 0;
+    }
+
+    /// Nothing is left below the path, after a conflict or not, where the best cost is this one. Answers how many decisions are
+    /// to be left, where the search is to step back and go on from there.
+    pub fn take_return(
+        &mut self,
+        path: &[Branch],
+        is_conflict: bool,
+        cost: Option<Number>,
+    ) -> Option<usize>
+        ensures used { IfSome result (λ _. self.old.returns ≡ self.new.returns + 1) }
+        ensures kept { IfNone result (self.new.returns ≤ self.old.returns) }
+    {
+        let count = self.return_to(path, is_conflict, cost)?;
+        if self.returns == 0 || count >= path.len() {
+            return None;
+        }
+        self.returns -= 1;
+        Some(count)
+    }
+
+    /// How many decisions are to be left, if there is a reason to take any back: work at the root, one of the first times that the
+    /// search is about to turn to another value, or else a tie.
+    fn return_to(
+        &mut self,
+        path: &[Branch],
+        is_conflict: bool,
+        cost: Option<Number>,
+    ) -> Option<usize>
+        ensures { self.new.returns ≡ self.old.returns }
+    {
+        let prefix = self.prefix_of(path);
+        let count = self.ties.leave(path, prefix, cost);
+        if self.leaves == 0 {
+            return count;
+        }
+        self.leaves -= 1;
+        self.is_open = self.is_large || !self.is_decision;
+        if self.pays(path, is_conflict) {
+            self.leaves = 0;
+            return Some(prefix);
+        }
+        count
+    }
+
+    /// Whether the search pays for a step back to its root, by what it did so far. Where nothing is minimised the root is
+    /// worked on for its literals that fail alone, and never so soon again: what was searched counts more.
+    fn pays(&mut self, path: &[Branch], is_conflict: bool) -> bool
+        ensures { self.new.returns ≡ self.old.returns }
+    {
+        if self.is_decision {
+            self.probing.raise();
+            return self.is_large && is_conflict && self.probing.pays();
+        }
+        path.len() >= LEAST_DECISIONS && self.probing.pays()
+    }
+
+    /// Whether the search stands at its root, and works there for a better assignment than that of the best cost. Once the root's
+    /// bound is that cost, ties alone are left, and nothing is left to work for.
+    fn is_worked_on(&mut self, path: &[Branch], cost: Option<Number>) -> bool
+        ensures { self.new.returns ≡ self.old.returns }
+    {
+        if !self.is_open || (cost.is_some() && self.ties.root_bound >= cost) {
+            return false;
+        }
+        self.prefix_of(path) == path.len()
+    }
+
+    /// By how many decisions the search may dive at most, where it stands at its root and a dive is due: the root is worked on,
+    /// and its trail, which has so many literals, or the best cost is another one than at the last dive.
+    pub fn take_dive(
+        &mut self,
+        path: &[Branch],
+        length: usize,
+        cost: Option<Number>,
+        left: Option<u64>,
+    ) -> Option<u64>
+        ensures { self.new.returns ≡ self.old.returns }
+    {
+        let most = match left {
+            Some(count) => count / DIVE_OF_A_BUDGET,
+            None => u64::MAX,
+        };
+        let begin = Some((length, cost));
+        if self.dives < COST_OF_A_DIVE
+            || most == 0
+            || self.dived == begin
+            || !self.is_worked_on(path, cost)
+        {
+            return None;
+        }
+        self.dives = self.dives.saturating_sub(COST_OF_A_DIVE);
+        self.dived = begin;
+        Some(most)
+    }
+
+    /// Whether multipliers are to be improved anew: the search stands at its root, which is worked on, and the trail of so many
+    /// literals has grown by a good part of those variables that had no value when that was done last.
+    pub fn take_renewal(
+        &mut self,
+        path: &[Branch],
+        length: usize,
+        vars: u32,
+        cost: Option<Number>,
+    ) -> bool
+        ensures { self.new.returns ≡ self.old.returns }
+    {
+        if self.renewals == 0 || !self.is_worked_on(path, cost) {
+            return false;
+        }
+        let free = (vars as usize).saturating_sub(self.renewed);
+        let least = free / RENEWED_PART + LEAST_RENEWED;
+        if length.saturating_sub(self.renewed) < least {
+            return false;
+        }
+        self.renewals = self.renewals.saturating_sub(1);
+        self.renewed = length;
+        true
+    }
+
+    /// A better assignment over so many variables was found by a dive: more literals may fail now.
+    pub fn reopen(&mut self, vars: u32)
+        ensures { self.new.returns ≡ self.old.returns }
+    {
+        self.done = None;
+        self.dives = self.dives.saturating_add(GAIN_OF_A_DIVE);
+        self.probing.grant(vars);
+    }
+
+    /// How many decisions of the path, from the first on, have no other value to try.
+    fn prefix_of(&mut self, path: &[Branch]) -> usize
+        ensures within { result ≤ length path.now }
+        ensures returns { self.new.returns ≡ self.old.returns }
+    {
+        self.prefix = self.prefix.min(path.len());
+        for place in self.prefix..path.len() {
+            if !path[place].flipped {
+                return place;
+            }
+            self.prefix = place + 1;
+        }
+        path.len()
+    }
+}
+
+/// Works at the root, where the search stands there. Gives a literal whose negation has nothing to give, or none where none
+/// was found. Its trials are decisions. Once ties alone are left there is nothing to work for.
+pub fn work_at_root<C: Coefficient>(
+    state: &mut SearchState<C>,
+    best: &Best<'_>,
+    pruning: Pruning,
+    bound: Option<Number>,
+    left: &mut Option<u64>,
+) -> Option<Lit>
+    requires engine { IsEngineOf best.now.problem state.old.engine }
+    requires sound { IsSoundTrail state.old.engine }
+    requires no_conflict { state.old.engine.conflict ≡ false }
+    ensures found { IfSome result (IsOpenOnOneSide best.now.problem state.old.engine best.now.held) }
+    ensures engine { state.new.engine ≡ state.old.engine }
+    ensures branches { state.new.branches ≡ state.old.branches }
+    ensures candidate { state.new.candidate ≡ state.old.candidate }
+    ensures returns { state.new.root_work.returns ≡ state.old.root_work.returns }
+    ensures budget { IsLeftOf left.old left.new }
+{
+    let work = &mut state.root_work;
+    if work.prefix_of(&state.branches) < state.branches.len() {
+        return None;
+    }
+    note_root_bound(&mut work.ties, &mut state.engine, bound);
+    if !work.is_open || pruning != Pruning::Open {
+        return None;
+    }
+    // A round is due again where the trail or the best cost is another one.
+    let round = Some((state.engine.trail_len(), best.cost()));
+    if work.done == round {
+        return None;
+    }
+    let found = find_failed(&mut state.engine, &mut work.probing, best, left);
+    if found.is_none() {
+        work.done = round;
+        work.probing.passed = 0;
+    }
+    found
+}
+
+/// Notes the bound that was taken at the root; where none was, that of disjoint rows once.
+fn note_root_bound<C: Coefficient>(ties: &mut Ties, engine: &mut EngineAt<C>, bound: Option<Number>)
+    ensures { engine.new ≡ engine.old }
+{
+    if bound.is_none() && ties.root_bound.is_none() {
+        ties.root_bound = Some(engine.bound());
+    }
+    ties.root_bound = ties.root_bound.max(bound);
+}

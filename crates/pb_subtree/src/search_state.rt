@@ -1,0 +1,124 @@
+//! The state of a search.
+
+ghost use Rattle.std.specs.Prelude.{◌≡◌, ◌++◌, ◌≤◌, All, IfOk, length, vec_capacity};
+ghost use Rattle.std.specs.Arc.{arc_value};
+ghost use Rattle.pb_inst.specs.declared.limits.TheConstants.{MAX_CUBES};
+ghost use Rattle.pb_engine.specs.Tables.{AreBeside};
+ghost use Rattle.pb_subtree.specs.Made.{IsMade};
+
+use crate::branch::{Branch, Hints};
+use crate::root_work::RootWork;
+use pb_engine::{Clauses, Coefficient, EngineAt, Rows, TablesSource};
+use pb_inst::{Assignment, Cube, Memory};
+use pb_normal::Form;
+use pb_order::Order;
+use std::alloc::Global;
+use std::sync::Arc;
+
+/// An engine, the decisions on its trail, room for one assignment, and the order in which variables are decided.
+pub struct SearchState<C: Coefficient> {
+    pub engine: EngineAt<C>,
+    pub branches: Vec<Branch>,
+    pub candidate: Assignment,
+    pub order: Order,
+    pub root_work: RootWork,
+}
+
+// By hand, so that letting go of a state is a call wherever it is done, and its parts are written out here alone. What a
+// derive would write stands at each early way out too, with all parts of the parts, and makes most of what is to be proved.
+impl<C: Coefficient> Drop for SearchState<C> {
+    fn drop(self) {
+        let SearchState {
+            engine: _,
+            branches: _,
+            candidate: _,
+            order: _,
+            root_work: _,
+        } = self;
+    }
+}
+
+impl<C: Coefficient> SearchState<C> {
+    /// A state over the normal form, whose solutions make each of the cubes false. There may be `MAX_CUBES` of them.
+    pub fn new(alloc: Global, form: &Form<C>, negated: &[Cube]) -> Result<SearchState<C>, Memory>
+        requires few { length negated.now ≤ MAX_CUBES }
+        requires variables { All (λ cube. All (λ l. l.var ≤ form.now.vars) cube) negated.now }
+        ensures { IfOk result (IsMade form.now negated.now) }
+    {
+        // The engine comes last: an early return past it would let go of it field by field, and cost a minute to prove.
+        let (branches, candidate, order, root_work) = make_room(alloc, form, negated)?;
+        let engine = EngineAt::new(alloc, form, negated)?;
+        Ok(SearchState {
+            engine,
+            branches,
+            candidate,
+            order,
+            root_work,
+        })
+    }
+
+    /// A state over a share of rows and clauses. Of the cubes to be false only the order of decisions knows.
+    pub fn over(
+        alloc: Global,
+        rows: &Arc<Rows<C>, Global>,
+        clauses: &Arc<Clauses, Global>,
+        negated: &[Cube],
+    ) -> Result<SearchState<C>, Memory>
+        requires { AreBeside (arc_value rows.now) (arc_value clauses.now) }
+        ensures form { IfOk result (λ t. t.engine.form ≡ (arc_value rows.now).form) }
+        ensures vars { IfOk result (λ t. t.engine.vars ≡ (arc_value rows.now).form.vars) }
+        ensures rows { IfOk result (λ t. t.engine.rows ≡ (arc_value rows.now).form.rows ++ (arc_value clauses.now).rows) }
+        ensures candidate { IfOk result (λ t. length t.candidate ≡ (arc_value rows.now).form.vars) }
+        ensures room { IfOk result (λ t. (arc_value rows.now).form.vars ≤ vec_capacity t.branches) }
+    {
+        let (branches, candidate, order, root_work) = make_room(alloc, rows.form(), negated)?;
+        let engine = EngineAt::over(alloc, TablesSource::shared(rows, clauses)?)?;
+        Ok(SearchState {
+            engine,
+            branches,
+            candidate,
+            order,
+            root_work,
+        })
+    }
+
+    /// A further piece is searched next.
+    pub fn begin_piece(&mut self)
+        ensures { self.new ≡ self.old }
+    {
+        self.engine.begin_search();
+    }
+
+    /// A further question is asked next.
+    pub fn begin_question(&mut self)
+        ensures { self.new ≡ self.old }
+    {
+        self.engine.begin_question();
+    }
+
+    /// Where to look on below the last decision.
+    pub fn hints(&self) -> Hints {
+        match self.branches.last() {
+            Some(branch) => branch.hints,
+            None => Hints::none(),
+        }
+    }
+}
+
+/// What a state has beside its engine: room for a decision of each variable and for one assignment, the order of decisions,
+/// and the work at the root.
+fn make_room<C: Coefficient>(
+    alloc: Global,
+    form: &Form<C>,
+    negated: &[Cube],
+) -> Result<(Vec<Branch>, Assignment, Order, RootWork), Memory>
+    ensures branches { IfOk result (λ t. form.now.vars ≤ vec_capacity t.0) }
+    ensures candidate { IfOk result (λ t. length t.1 ≡ form.now.vars) }
+{
+    let vars = form.vars();
+    let branches = Vec::with_capacity(alloc, vars as usize)?;
+    let candidate = Assignment::new(alloc, vars)?;
+    let order = Order::new(alloc, form, negated)?;
+    let root_work = RootWork::new(alloc, form)?;
+    Ok((branches, candidate, order, root_work))
+}

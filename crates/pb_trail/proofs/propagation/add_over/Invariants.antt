@@ -1,5 +1,0 @@
-use Rattle.pb_trail.proofs.Looking.{IsLookedAt}
-use Rattle.pb_trail.proofs.propagation.add_over.Given as goal
-
-abbrev pub invariant-loop-term : goal.invariant-loop-term
-invariant-loop-term g l = IsLookedAt l.tables l.initial.trail l.trail l.row l.slack l.term-index

@@ -1,0 +1,229 @@
+-- What several workers claimed and named together.
+use Rattle.std.proofs.Common.{◌≡◌, ◌≢◌, ◌↔◌, IsTrue, map, Option, None, Some, ℕ, suc, ◌+◌, ◌<◌, ◌≤◌, List, [], ◌∷◌, ◌++◌, ◌⊎◌, Bool, true, false, cond, length, refl, sym, ◌∙◌, ap, subst, inl, inr, arith, length-append}
+use Rattle.std.specs.Prelude.{All, Any, Contains, IfNone, filter, flat_map, min, nat_lt, ◌&&◌, if◌then◌else◌}
+use mathlib.Core.Logic.{dite}
+use native.Mathlib.Decide.{ℕ_discrete}
+use Rattle.std.proofs.lemmas.Bool.{false≢true}
+use Rattle.std.proofs.lemmas.Bool.Decides.{nat_tests}
+use Rattle.std.proofs.lemmas.List.{get_or_append_left}
+use Rattle.std.proofs.lemmas.List.Concat.{flat_map-append}
+use Rattle.std.proofs.lemmas.List.Elements.{All-append, All-push, All-nil, Contains-append_cases, filter-append}
+use Rattle.std.proofs.lemmas.List.Quantifiers.{Any-push}
+use Rattle.std.specs.Option.{IfSome}
+use Rattle.pb_inst.specs.Problem.{Problem}
+use Rattle.pb_inst.specs.Incumbent.{Solution}
+use Rattle.pb_cubes.specs.Pieces.{CubeList}
+use Rattle.pb_board.specs.Seats.{BoardView, SeatView}
+use Rattle.pb_board.specs.Numbers.{IsEachOnceBelow, times}
+use Rattle.pb_board.proofs.Counts.{counted, found, mark, none_here, times-append, times-cons}
+use Rattle.pb_workers.specs.Parts.{PartView, AreDone, AreWhole, IsAnswerOf, KeepsBudget, IsFirst, all_numbers}
+use Rattle.pb_workers.specs.Dealing.{TaskView, AreDealtWork, IsEachOwnOnce, is_dealt, is_own_piece}
+use Rattle.pb_workers.specs.Claims.{piece_count, pieces_among, AreDealt, EndsPast, GoesPast, IsWholeWork, AreWholeWork}
+
+Any-append_left : {X : Type 0} (P : X → Type 0) (xs ys : List X) → Any P xs → Any P (xs ++ ys)
+Any-append_left P xs ys h =
+    let within : h.0 < length xs = h.2 in
+    (h.0, h.1, omega (arith, length-append xs ys), get_or_append_left xs ys h.1 h.0 within ∙ h.3, h.4)
+
+-- what stands in one of the lists that are joined stands in some of them
+contained_in_some : {X : Type 0} (f : X → List ℕ) (xs : List X) (i : ℕ) → Contains (flat_map f xs) i → Any (λ x. Contains (f x) i) xs
+contained_in_some f [] i (k, within, is) = absurd (omega arith)
+contained_in_some f (x ∷ xs) i h = elim (Contains-append_cases (f x) (flat_map f xs) i h) [
+  | inl here ↦ (0, x, omega arith, refl, here)
+  | inr there ↦ (let some = contained_in_some f xs i there in (suc some.0, some.1, (let within : some.0 < length xs = some.2 in omega arith), some.3, some.4))
+]
+
+pub holds_some : (l : List ℕ) (i : ℕ) → Contains l i → l ≢ []
+holds_some [] i (k, within, is) = absurd (omega arith)
+holds_some (m ∷ l) i here = λ empty. cc
+
+-- how often a number stands in a list that is dealt into two
+dealt_times : (all some others : List ℕ) (i : ℕ) → AreDealt all some others → times i all ≡ times i some + times i others
+dealt_times [] some others i dealt = omega (arith, ap (times i) dealt.0, ap (times i) dealt.1)
+dealt_times (m ∷ all) some others i (inl h) = omega (arith, times-cons i m all, times-cons i m h.0, ap (times i) h.1, dealt_times all h.0 others i h.2)
+dealt_times (m ∷ all) some others i (inr h) = omega (arith, times-cons i m all, times-cons i m h.0, ap (times i) h.1, dealt_times all some h.0 i h.2)
+
+times_kept : (b : Bool) (i m : ℕ) (kept : List ℕ) → times i (cond b (m ∷ kept) kept) ≡ cond b (mark i m) 0 + times i kept
+times_kept true i m kept = times-cons i m kept
+times_kept false i m kept = omega arith
+
+kept_alike : (b c : Bool) (m n : ℕ) → (b ≡ c) ⊎ (m ≡ 0) → cond b m 0 + cond c n 0 ≡ cond c (m + n) 0
+kept_alike true true m n alike = refl
+kept_alike false false m n alike = omega arith
+kept_alike true false m n (inl alike) = absurd (false≢true (sym alike))
+kept_alike true false m n (inr none) = omega (arith, none)
+kept_alike false true m n (inl alike) = absurd (false≢true alike)
+kept_alike false true m n (inr none) = omega (arith, none)
+
+-- how often a number is among those that are chosen
+times_chosen : (chosen : ℕ → Bool) (claimed : List ℕ) (i : ℕ) → times i (filter chosen claimed) ≡ cond (chosen i) (times i claimed) 0
+times_chosen chosen [] i = none (chosen i)
+  where
+    none : (b : Bool) → times i [] ≡ cond b (times i []) 0
+    none true = refl
+    none false = refl
+times_chosen chosen (m ∷ claimed) i =
+    times_kept (chosen m) i m (filter chosen claimed)
+    ∙ ap (λ n. cond (chosen m) (mark i m) 0 + n) (times_chosen chosen claimed i)
+    ∙ kept_alike (chosen m) (chosen i) (mark i m) (times i claimed) (dite (ℕ_discrete m i) (λ same. inl (ap chosen same)) (λ differs. inr (none_here i m differs)))
+    ∙ ap (λ n. cond (chosen i) n 0) (sym (times-cons i m claimed))
+
+-- without a budget none of them, and none of those more, has a cut piece
+uncut_of_one : (nodes : Option ℕ) (part : PartView) → IfNone nodes (part.cut ≡ []) → IfNone nodes (All (λ (x : PartView). x.cut ≡ []) (part ∷ []))
+uncut_of_one None part none = All-push (λ (x : PartView). x.cut ≡ []) [] part (All-nil (λ (x : PartView). x.cut ≡ [])) none
+uncut_of_one (Some budget) part none = tt
+
+uncut_of_all : (nodes : Option ℕ) (some others : List PartView) → IfNone nodes (All (λ (x : PartView). x.cut ≡ []) some) → IfNone nodes (All (λ (x : PartView). x.cut ≡ []) others) → IfNone nodes (All (λ (x : PartView). x.cut ≡ []) (some ++ others))
+uncut_of_all None some others h k = All-append (λ (x : PartView). x.cut ≡ []) some others h k
+uncut_of_all (Some budget) some others h k = tt
+
+pub budget_of_one : (nodes : Option ℕ) (part : PartView) → IfSome nodes (λ budget. KeepsBudget budget part) → IfSome nodes (λ budget. All (KeepsBudget budget) (part ∷ []))
+budget_of_one None part kept = tt
+budget_of_one (Some budget) part kept = All-push (KeepsBudget budget) [] part (All-nil (KeepsBudget budget)) kept
+
+budget_of_all : (nodes : Option ℕ) (some others : List PartView) → IfSome nodes (λ budget. All (KeepsBudget budget) some) → IfSome nodes (λ budget. All (KeepsBudget budget) others) → IfSome nodes (λ budget. All (KeepsBudget budget) (some ++ others))
+budget_of_all None some others h k = tt
+budget_of_all (Some budget) some others h k = All-append (KeepsBudget budget) some others h k
+
+-- one worker's work, as the work of one
+pub work_of_one : (p : Problem) (pieces : CubeList) (task : Option TaskView) (nodes : Option ℕ) (part : PartView) (parts none : List PartView) (claimed : List ℕ) → parts ≡ none ++ part ∷ [] → none ≡ [] → IsWholeWork p pieces task nodes part claimed → AreWholeWork p pieces task nodes parts claimed
+work_of_one p pieces task nodes part parts none claimed pushed empty h =
+    let is : parts ≡ part ∷ [] = pushed ∙ ap (λ (l : List PartView). l ++ part ∷ []) empty in
+    subst (λ (l : List PartView). AreWholeWork p pieces task nodes l claimed) (sym is) (record {
+      of_instance = All-push (λ (x : PartView). x.best.problem ≡ p) [] part (All-nil (λ (x : PartView). x.best.problem ≡ p)) h.of_instance;
+      of_pieces = All-push (λ (x : PartView). x.pieces ≡ pieces) [] part (All-nil (λ (x : PartView). x.pieces ≡ pieces)) h.of_pieces;
+      named = λ i. omega (arith, times-append i (part.named ++ part.cut) [], times-append i part.named part.cut, dealt_times (pieces_among task (piece_count pieces) claimed) part.named part.cut i h.named);
+      uncut = uncut_of_one nodes part h.uncut;
+      budget = budget_of_one nodes part h.budget;
+      past = past h.ends;
+    })
+  where
+    past : EndsPast (piece_count pieces) claimed ⊎ (length claimed ≡ piece_count pieces + 1) → GoesPast (piece_count pieces) claimed
+    past (inl e) = inl (subst (λ (l : List ℕ). Any (λ n. piece_count pieces ≤ n) l) (sym e.ends) (Any-push (λ n. piece_count pieces ≤ n) e.front e.last e.no_piece))
+    past (inr all) = inr (omega arith)
+
+goes_past_more : (count : ℕ) (xs ys : List ℕ) → GoesPast count xs → GoesPast count (xs ++ ys)
+goes_past_more count xs ys (inl h) = inl (Any-append_left (λ n. count ≤ n) xs ys h)
+goes_past_more count xs ys (inr h) = inr (omega (arith, length-append xs ys))
+
+-- the work of some workers and of some others
+work_of_all : (p : Problem) (pieces : CubeList) (task : Option TaskView) (nodes : Option ℕ) (some others all : List PartView) (claimed more both : List ℕ) → all ≡ some ++ others → both ≡ claimed ++ more → AreWholeWork p pieces task nodes some claimed → AreWholeWork p pieces task nodes others more → AreWholeWork p pieces task nodes all both
+work_of_all p pieces task nodes some others all claimed more both parts_are claims_are h k =
+    subst (λ (l : List PartView). AreWholeWork p pieces task nodes l both) (sym parts_are) (subst (λ (l : List ℕ). AreWholeWork p pieces task nodes (some ++ others) l) (sym claims_are) (record {
+      of_instance = All-append (λ (x : PartView). x.best.problem ≡ p) some others h.of_instance k.of_instance;
+      of_pieces = All-append (λ (x : PartView). x.pieces ≡ pieces) some others h.of_pieces k.of_pieces;
+      named = λ i. named_of_all i;
+      uncut = uncut_of_all nodes some others h.uncut k.uncut;
+      budget = budget_of_all nodes some others h.budget k.budget;
+      past = goes_past_more (piece_count pieces) claimed more h.past;
+    }))
+  where
+    named_of_all : (i : ℕ) → times i (all_numbers (some ++ others)) ≡ times i (pieces_among task (piece_count pieces) (claimed ++ more))
+    named_of_all i =
+        ap (times i) (flat_map-append (λ (x : PartView). x.named ++ x.cut) some others)
+        ∙ times-append i (all_numbers some) (all_numbers others)
+        ∙ ap (λ n. n + times i (all_numbers others)) (h.named i)
+        ∙ ap (λ n. times i (pieces_among task (piece_count pieces) claimed) + n) (k.named i)
+        ∙ sym (times-append i (pieces_among task (piece_count pieces) claimed) (pieces_among task (piece_count pieces) more))
+        ∙ ap (times i) (sym (filter-append (λ n. is_own_piece task (piece_count pieces) n) claimed more))
+
+-- two seats as one
+abbrev joined : BoardView → SeatView → SeatView → SeatView
+joined board v w = record { board = board.id; parts = v.parts + w.parts; claimed = v.claimed ++ w.claimed; offered = v.offered ++ w.offered; seen = min v.seen w.seen }
+
+-- the same where their seats were joined
+pub work_of_both : (p : Problem) (pieces : CubeList) (task : Option TaskView) (nodes : Option ℕ) (some others all : List PartView) (board : BoardView) (low high both : SeatView) → all ≡ some ++ others → both ≡ joined board low high → AreWholeWork p pieces task nodes some low.claimed → AreWholeWork p pieces task nodes others high.claimed → AreWholeWork p pieces task nodes all both.claimed
+work_of_both p pieces task nodes some others all board low high both parts_are is h k =
+    work_of_all p pieces task nodes some others all low.claimed high.claimed both.claimed parts_are (ap (λ (s : SeatView). s.claimed) is) h k
+
+-- a number that is counted once where it is below the total
+counted_below : (n total count : ℕ) → count ≡ (if nat_lt n total then 1 else 0) → 0 < count → n < total
+counted_below n total count is some = grind (arith, nat_tests)
+
+pub counted_once : (n total count : ℕ) → count ≡ (if nat_lt n total then 1 else 0) → n < total → 0 < count
+counted_once n total count is below = grind (arith, nat_tests)
+
+-- what is chosen of those below a total is there once, where it is below a lesser one
+once_chosen : (own : Bool) (n count total k : ℕ) → k ≡ (if nat_lt n total then 1 else 0) → count ≤ total → (own ≡ true → n < count) → cond own k 0 ≡ (if own then 1 else 0)
+once_chosen true n count total k is fewer below = let lower : n < count = below refl in below_once n total k is (omega arith)
+  where
+    below_once : (n total k : ℕ) → k ≡ (if nat_lt n total then 1 else 0) → n < total → k ≡ 1
+    below_once n total k is lower = grind (arith, nat_tests)
+once_chosen false n count total k is fewer below = refl
+
+second_of_both : (a b : Bool) → a && b ≡ true → b ≡ true
+second_of_both true b both = both
+second_of_both false b both = absurd (false≢true both)
+
+below_by_test : (n count : ℕ) → nat_lt n count ≡ true → n < count
+below_by_test n count told = grind (arith, nat_tests)
+
+-- a piece that the task is dealt is one of so many
+own_below : (task : Option TaskView) (count n : ℕ) → is_own_piece task count n ≡ true → n < count
+own_below task count n own = below_by_test n count (second_of_both (is_dealt task n) (nat_lt n count) own)
+
+-- claims that are the numbers below their number, each once, and go past the pieces
+passes_pieces : (count total : ℕ) (claimed : List ℕ) → total ≡ length claimed → IsEachOnceBelow total claimed → GoesPast count claimed → count ≤ total
+passes_pieces count total claimed number once (inr more) = omega arith
+passes_pieces count total claimed number once (inl some) =
+    let at : Contains claimed some.1 = (some.0, some.2, some.3) in
+    let below : some.1 < total = counted_below some.1 total (times some.1 claimed) (once some.1) (counted claimed some.1 at) in
+    let past : count ≤ some.1 = some.4 in
+    omega arith
+
+-- each piece that the task is dealt is among them once
+each_claimed : (task : Option TaskView) (count total : ℕ) (claimed : List ℕ) → total ≡ length claimed → IsEachOnceBelow total claimed → GoesPast count claimed → IsEachOwnOnce task count (pieces_among task count claimed)
+each_claimed task count total claimed number once past i =
+    let all : count ≤ total = passes_pieces count total claimed number once past in
+    times_chosen (λ n. is_own_piece task count n) claimed i
+    ∙ once_chosen (is_own_piece task count i) i count total (times i claimed) (once i) all (own_below task count i)
+
+-- the joined claims of all workers leave no piece out, so the parts name each piece that the task is dealt once
+pub each_named : (p : Problem) (pieces : CubeList) (task : Option TaskView) (nodes : Option ℕ) (parts : List PartView) (claimed : List ℕ) (total : ℕ) → AreWholeWork p pieces task nodes parts claimed → total ≡ length claimed → IsEachOnceBelow total claimed → IsEachOwnOnce task (piece_count pieces) (all_numbers parts)
+each_named p pieces task nodes parts claimed total h number once = λ i. h.named i ∙ each_claimed task (piece_count pieces) total claimed number once h.past i
+
+-- what some part names, where no part has a cut piece, it names as done
+named_as_done : (parts : List PartView) (i : ℕ) → (Any (λ (x : PartView). x.cut ≢ []) parts → ⊥) → Any (λ (x : PartView). Contains (x.named ++ x.cut) i) parts → Any (λ (x : PartView). Contains x.named i) parts
+named_as_done parts i none (k, part, within, is, names) = elim (Contains-append_cases part.named part.cut i names) [
+  | inl done ↦ (k, part, within, is, done)
+  | inr cut ↦ absurd (none (k, part, within, is, holds_some part.cut i cut))
+]
+
+-- where each piece is named and nothing was cut each piece is done
+pub all_named : (pieces : CubeList) (parts : List PartView) → All (λ (x : PartView). x.pieces ≡ pieces) parts → IsEachOnceBelow (piece_count pieces) (all_numbers parts) → (Any (λ (x : PartView). x.cut ≢ []) parts → ⊥) → AreWhole pieces parts
+all_named pieces parts of_pieces once none = record {
+  of_list = of_pieces;
+  all_named = λ i within. named_as_done parts i none (contained_in_some (λ (x : PartView). x.named ++ x.cut) parts i
+      (found (all_numbers parts) i (counted_once i (piece_count pieces) (times i (all_numbers parts)) (once i) (omega arith))));
+}
+
+-- the parts' work on what the task is dealt, where they did all of it and what they hold was gathered
+pub dealt_work : (p q : Problem) (pieces list : CubeList) (task dealt : Option TaskView) (nodes budget : Option ℕ) (parts seen : List PartView) (claimed : List ℕ) (total : ℕ) (before held : Option Solution) (some_cut : Bool)
+    → q ≡ p → list ≡ pieces → dealt ≡ task → budget ≡ nodes → AreWholeWork q list dealt budget parts claimed → total ≡ length claimed → IsEachOnceBelow total claimed
+    → seen ≡ parts → before ≡ None → All AreDone seen → IsFirst (before ∷ map (λ part. part.best.held) seen) held → (IsTrue some_cut ↔ Any (λ (x : PartView). x.cut ≢ []) seen)
+    → AreDealtWork p pieces task nodes parts held some_cut
+dealt_work p q pieces list task dealt nodes budget parts seen claimed total before held some_cut same_instance same_list same_task same_nodes work number once same none done first told =
+    subst (λ (x : Problem). AreDealtWork x pieces task nodes parts held some_cut) same_instance
+    (subst (λ (l : CubeList). AreDealtWork q l task nodes parts held some_cut) same_list
+    (subst (λ (t : Option TaskView). AreDealtWork q list t nodes parts held some_cut) same_task
+    (subst (λ (n : Option ℕ). AreDealtWork q list dealt n parts held some_cut) same_nodes (record {
+      of_instance = work.of_instance;
+      of_pieces = work.of_pieces;
+      each_once = each_named q list dealt budget parts claimed total work number once;
+      uncut = work.uncut;
+      budget = work.budget;
+      done = subst (λ (l : List PartView). All AreDone l) same done;
+      first = subst (λ (l : List PartView). IsFirst (None ∷ map (λ part. part.best.held) l) held) same (subst (λ (o : Option Solution). IsFirst (o ∷ map (λ part. part.best.held) seen) held) none first);
+      told = subst (λ (l : List PartView). IsTrue some_cut ↔ Any (λ (x : PartView). x.cut ≢ []) l) same told;
+    }))))
+
+-- the work on all pieces, as their answer
+pub answer_of_work : (p : Problem) (pieces : CubeList) (nodes : Option ℕ) (parts : List PartView) (held : Option Solution) (some_cut : Bool) → AreDealtWork p pieces None nodes parts held some_cut → IsAnswerOf p pieces parts held some_cut
+answer_of_work p pieces nodes parts held some_cut work = record {
+  of_instance = work.of_instance;
+  of_pieces = work.of_pieces;
+  each_once = work.each_once;
+  done = work.done;
+  first = work.first;
+  told = work.told;
+}

@@ -1,0 +1,6 @@
+pub mod AloneLaws
+pub mod ClaimLaws
+pub mod DealingLaws
+pub mod CutLaws
+pub mod LeastLaws
+pub mod WorkLaws

@@ -1,0 +1,126 @@
+use Rattle.std.proofs.Common.{◌≡◌, ◌++◌, ◌∷◌, [], List, ℕ, length, ap, arith, ◌∙◌, refl, sym, subst, inr}
+use Rattle.std.specs.Prelude.{All}
+use Rattle.std.specs.Option.{IfSome}
+use Rattle.std.proofs.lemmas.List.Elements.{All-nil}
+use Rattle.pb_search.specs.Held.{IsNotAfter}
+use Rattle.pb_search.specs.Done.{Division, IsDone}
+use Rattle.pb_workers.proofs.WorkLaws.{counted_more, dealt_more, done_more, none_counted, none_cut, none_named, room_told, uncut_more, whole_by, own_piece, same_seat_itself, same_seat_onward, same_seat_kept}
+use Rattle.pb_workers.specs.Claims.{AreDealt, NamesOneMore}
+use Rattle.pb_workers.proofs.working.SearchWorkers.search_claimed.Goals as goal
+
+pub loop-turn-init : goal.loop-turn-init
+loop-turn-init g c = record {
+  same_instance = refl;
+  same_search = refl;
+  count = ap length c.requires.unclaimed;
+  named = none_named c.args.self.now.task c.args.count c.new-named.result.done.items c.new-named.result.cut.items c.args.share.now.seat.claimed c.new-named.ensures.pieces.0 c.new-named.ensures.pieces.1 c.requires.unclaimed;
+  uncut = none_cut c.args.self.now.nodes c.new-named.result.cut.items c.new-named.ensures.pieces.1;
+  budget = none_counted c.args.self.now.nodes c.new-named.result.done.items c.new-named.result.decisions.items c.new-named.result.cut.items c.new-named.result.cut_decisions.items
+      c.new-named.ensures.pieces.0 c.new-named.ensures.decisions.0 c.new-named.ensures.pieces.1 c.new-named.ensures.decisions.1;
+  done = subst (λ (ns : List ℕ). All (λ i. IsDone c.args.search.now.division i c.args.best.now.held) ns) (sym c.new-named.ensures.pieces.0) (All-nil (λ i. IsDone c.args.search.now.division i c.args.best.now.held));
+  seat = same_seat_itself c.args.share.now;
+}
+
+pub claim_piece-requires : goal.claim_piece-requires
+claim_piece-requires g c = omega arith
+
+pub run-outcome-requires-clause-piece : goal.run-outcome-requires-clause-piece
+run-outcome-requires-clause-piece g c =
+    let below = c.in-Some.ensures.piece.0 in
+    let number : length c.loop-turn.search.division.cubes ≡ length c.args.search.now.division.cubes = ap (λ (d : Division). length d.cubes) c.loop-turn.invariant.same_search in
+    omega arith
+
+pub run-outcome-requires-clause-same_instance : goal.run-outcome-requires-clause-same_instance
+run-outcome-requires-clause-same_instance g c =
+    c.loop-turn.invariant.same_instance ∙ c.requires.same_instance ∙ sym (ap (λ (d : Division). d.problem) c.loop-turn.invariant.same_search)
+
+pub push_reserved-requires-clause-counts : goal.push_reserved-requires-clause-counts
+push_reserved-requires-clause-counts g c = room_told _ c.args.self.now.nodes c.decisions_of.result c.run-outcome.new.self.decisions c.decisions_of.ensures c.in_ok-reserve.ensures.counts
+
+pub loop-turn-preserved : goal.loop-turn-preserved
+loop-turn-preserved g c =
+    let ran = c.run-outcome in
+    let d : Division = c.args.search.now.division in
+    let same_search : c.loop-turn.search.division ≡ d = c.loop-turn.invariant.same_search in
+    let search : ran.new.self.division ≡ d = ran.ensures.unchanged ∙ same_search in
+    let claim : ran.new.share.seat.claimed ≡ c.loop-turn.share.seat.claimed ++ c.in-Some.piece ∷ [] = ran.ensures.kept.claimed ∙ c.in-Some.ensures.piece.1 in
+    let one = c.claim_piece.ensures.one in
+    let same : length ran.new.share.seat.claimed ≡ length c.claim_piece.new.share.seat.claimed = ap length ran.ensures.kept.claimed in
+    let before = c.loop-turn.invariant.count in
+    let names : NamesOneMore ran.result c.in-Some.piece c.loop-turn.named.done.items c.loop-turn.named.cut.items c.push_reserved.new.self.done.items c.push_reserved.new.self.cut.items =
+    subst (λ (cut : List ℕ). NamesOneMore ran.result c.in-Some.piece c.loop-turn.named.done.items cut c.push_reserved.new.self.done.items c.push_reserved.new.self.cut.items) c.reserve.ensures.same_cut
+    (subst (λ (done : List ℕ). NamesOneMore ran.result c.in-Some.piece done c.reserve.new.self.cut.items c.push_reserved.new.self.done.items c.push_reserved.new.self.cut.items) c.reserve.ensures.same_done c.push_reserved.ensures.named) in
+    let counts : IfSome c.decisions_of.result (λ n. NamesOneMore ran.result n c.loop-turn.named.decisions.items c.loop-turn.named.cut_decisions.items c.push_reserved.new.self.decisions.items c.push_reserved.new.self.cut_decisions.items) =
+    subst (λ (cut : List ℕ). IfSome c.decisions_of.result (λ n. NamesOneMore ran.result n c.loop-turn.named.decisions.items cut c.push_reserved.new.self.decisions.items c.push_reserved.new.self.cut_decisions.items)) c.reserve.ensures.same_cut_decisions
+    (subst (λ (done : List ℕ). IfSome c.decisions_of.result (λ n. NamesOneMore ran.result n done c.reserve.new.self.cut_decisions.items c.push_reserved.new.self.decisions.items c.push_reserved.new.self.cut_decisions.items)) c.reserve.ensures.same_decisions c.push_reserved.ensures.counted) in
+    let of_problem : ran.new.best.problem ≡ d.problem = ran.ensures.same_instance ∙ c.loop-turn.invariant.same_instance ∙ c.requires.same_instance in
+    record {
+      same_instance = ran.ensures.same_instance ∙ c.loop-turn.invariant.same_instance;
+      same_search = search;
+      count = omega arith;
+      named = dealt_more c.args.self.now.task c.args.count ran.result c.loop-turn.named.done.items c.loop-turn.named.cut.items c.push_reserved.new.self.done.items c.push_reserved.new.self.cut.items c.loop-turn.share.seat.claimed ran.new.share.seat.claimed c.in-Some.piece
+          c.loop-turn.invariant.named names claim (own_piece c.args.self.now.task c.args.count c.in-Some.piece c.has_piece.result c.has_piece.ensures c.in-Some.ensures.piece.0 ∙ c.if-not-has_piece.false);
+      uncut = uncut_more c.args.self.now.nodes ran.result c.in-Some.piece c.loop-turn.named.done.items c.loop-turn.named.cut.items c.push_reserved.new.self.done.items c.push_reserved.new.self.cut.items names (whole_by _ c.args.self.now.nodes ran.result ran.ensures.no_budget) c.loop-turn.invariant.uncut;
+      budget = counted_more c.args.self.now.nodes c.decisions_of.result ran.result c.in-Some.piece ran.new.self.decisions
+          c.loop-turn.named.done.items c.loop-turn.named.decisions.items c.loop-turn.named.cut.items c.loop-turn.named.cut_decisions.items
+          c.push_reserved.new.self.done.items c.push_reserved.new.self.decisions.items c.push_reserved.new.self.cut.items c.push_reserved.new.self.cut_decisions.items
+          c.decisions_of.ensures names counts ran.ensures.within ran.ensures.cut c.loop-turn.invariant.budget;
+      done = done_more d ran.result c.loop-turn.named.done.items c.loop-turn.named.cut.items c.push_reserved.new.self.done.items c.push_reserved.new.self.cut.items c.in-Some.piece c.loop-turn.best.held ran.new.best names
+          (subst (λ (e : Division). IsNotAfter e.problem c.loop-turn.best.held ran.new.best.held) same_search ran.ensures.not_after)
+          of_problem c.facts_of.ensures
+          (λ whole. subst (λ (e : Division). IsDone e c.in-Some.piece ran.new.best.held) same_search (ran.ensures.done whole))
+          c.loop-turn.invariant.done;
+      seat = same_seat_onward c.args.share.now c.loop-turn.share ran.new.share c.loop-turn.invariant.seat
+          (same_seat_onward c.loop-turn.share c.claim_piece.new.share ran.new.share c.claim_piece.ensures.seat (same_seat_kept c.claim_piece.new.share ran.new.share ran.ensures.kept));
+    }
+
+pub returns-in_default-clause-same_instance : goal.returns-in_default-clause-same_instance
+returns-in_default-clause-same_instance g c = c.loop-turn.invariant.same_instance
+
+pub returns-in_default-clause-done : goal.returns-in_default-clause-done
+returns-in_default-clause-done g c = c.loop-turn.invariant.done
+
+pub returns-in_default-clause-named : goal.returns-in_default-clause-named
+returns-in_default-clause-named g c = subst (λ (l : List ℕ). AreDealt l c.loop-turn.named.done.items c.loop-turn.named.cut.items) (sym (c.in_default.ensures.none.1 c.args.self.now.task)) c.loop-turn.invariant.named
+
+pub returns-in_default-clause-uncut : goal.returns-in_default-clause-uncut
+returns-in_default-clause-uncut g c = c.loop-turn.invariant.uncut
+
+pub returns-in_default-clause-budget : goal.returns-in_default-clause-budget
+returns-in_default-clause-budget g c = c.loop-turn.invariant.budget
+
+pub returns-in_default-clause-most : goal.returns-in_default-clause-most
+returns-in_default-clause-most g c = omega arith
+
+pub returns-in_default-clause-seat : goal.returns-in_default-clause-seat
+returns-in_default-clause-seat g c = same_seat_onward c.args.share.now c.loop-turn.share c.claim_piece.new.share c.loop-turn.invariant.seat c.claim_piece.ensures.seat
+
+pub returns-in_err-reserve-clause-same_instance : goal.returns-in_err-reserve-clause-same_instance
+returns-in_err-reserve-clause-same_instance g c = c.loop-turn.invariant.same_instance
+
+pub returns-in_err-reserve-clause-seat : goal.returns-in_err-reserve-clause-seat
+returns-in_err-reserve-clause-seat g c = same_seat_onward c.args.share.now c.loop-turn.share c.claim_piece.new.share c.loop-turn.invariant.seat c.claim_piece.ensures.seat
+
+pub returns-clause-same_instance : goal.returns-clause-same_instance
+returns-clause-same_instance g c = c.loop-turn.invariant.same_instance
+
+pub returns-clause-done : goal.returns-clause-done
+returns-clause-done g c = c.loop-turn.invariant.done
+
+pub returns-clause-named : goal.returns-clause-named
+returns-clause-named g c = c.loop-turn.invariant.named
+
+pub returns-clause-uncut : goal.returns-clause-uncut
+returns-clause-uncut g c = c.loop-turn.invariant.uncut
+
+pub returns-clause-budget : goal.returns-clause-budget
+returns-clause-budget g c = c.loop-turn.invariant.budget
+
+pub returns-clause-most : goal.returns-clause-most
+returns-clause-most g c = omega arith
+
+pub returns-clause-ends : goal.returns-clause-ends
+returns-clause-ends g c = inr (omega arith)
+
+pub returns-clause-seat : goal.returns-clause-seat
+returns-clause-seat g c = c.loop-turn.invariant.seat

@@ -1,0 +1,21 @@
+use Rattle.std.proofs.Common.{◌≡◌, ◌∙◌, sym, ap}
+use Rattle.pb_inst.specs.Problem.{Problem}
+use Rattle.pb_inst.specs.Incumbent.{Incumbent}
+use Rattle.pb_board.specs.Seats.{SeatView}
+use Rattle.pb_search.specs.Done.{Division}
+use Rattle.pb_search.specs.Budget.{Searcher}
+use Rattle.pb_workers.proofs.WorkLaws.{part_done, whole_work}
+use Rattle.pb_workers.proofs.working.SearchWorkers.work_of.Goals as goal
+
+pub new-requires-2 : goal.new-requires-2
+new-requires-2 g c =
+    let of_instance : c.search_claimed.new.best.problem ≡ c.args.self.now.inst.now = c.search_claimed.ensures.same_instance ∙ ap (λ (b : Incumbent). b.problem) c.in_ok-best.ensures in
+    let is : c.in_ok-search.search.division ≡ record { problem = c.search_claimed.new.best.problem; cubes = c.args.self.now.pieces.now.cubes } =
+    ap (λ (s : Searcher). s.division) c.in_ok-search.ensures ∙ (c.args.self.now.tables_of_all ∙ ap (λ (p : Problem). let d : Division = record { problem = p; cubes = c.args.self.now.pieces.now.cubes } in d) (sym of_instance)) in
+    part_done c.in_ok-search.search.division c.args.self.now.pieces.now c.in_ok-named.named.done.items c.in_ok-named.named.cut.items c.in_ok-named.named.decisions.items c.in_ok-named.named.cut_decisions.items c.search_claimed.new.best is c.in_ok-named.ensures.done
+
+pub returns-clause-whole : goal.returns-clause-whole
+returns-clause-whole g c =
+    let of_instance : c.search_claimed.new.best.problem ≡ c.args.self.now.inst.now = c.search_claimed.ensures.same_instance ∙ ap (λ (b : Incumbent). b.problem) c.in_ok-best.ensures in
+    whole_work c.args.self.now.inst.now c.args.self.now.pieces.now c.args.self.now.task c.args.self.now.nodes c.new-2.result c.into_seat.result.claimed c.search_claimed.new.share.seat.claimed c.in_ok-named.named.done.items c.in_ok-named.named.cut.items c.in_ok-named.named.decisions.items c.in_ok-named.named.cut_decisions.items c.len-count.result c.search_claimed.new.best
+    c.new-2.ensures (ap (λ (s : SeatView). s.claimed) c.into_seat.ensures) c.len-count.ensures.count of_instance c.in_ok-named.ensures.named c.in_ok-named.ensures.uncut c.in_ok-named.ensures.budget c.in_ok-named.ensures.most c.in_ok-named.ensures.ends

@@ -1,0 +1,60 @@
+-- What workers claim of the pieces, and which of it their parts name.
+use Rattle.std.specs.Prelude.{◌≡◌, ℕ, ◌+◌, ◌<◌, ◌≤◌, ◌⊎◌, List, [], ◌∷◌, ◌++◌, length, filter, All, Any, Option, IfNone, IfSome}
+use Rattle.pb_inst.specs.Problem.{Problem}
+use Rattle.pb_cubes.specs.Pieces.{CubeList}
+use Rattle.pb_subtree.specs.declared.outcome.Outcome.{Outcome}
+use Rattle.pb_subtree.specs.declared.outcome.Outcome.TheVariants.{Whole, Cut}
+use Rattle.pb_board.specs.Numbers.{times}
+use Rattle.pb_workers.specs.Dealing.{TaskView, is_own_piece}
+use Rattle.pb_workers.specs.Parts.{PartView, KeepsBudget, all_numbers}
+
+-- how many pieces the cubes make
+abbrev pub piece_count : CubeList → ℕ
+piece_count pieces = length pieces.cubes + 1
+
+-- the claims that are the number of one of so many pieces and of those that the task is dealt, in order
+abbrev pub pieces_among : Option TaskView → ℕ → List ℕ → List ℕ
+pieces_among task count claimed = filter (λ n. is_own_piece task count n) claimed
+
+-- the last claim is the number of no piece
+pub record EndsPast (count : ℕ) (claimed : List ℕ) : Type 0 where
+  pub front : List ℕ
+  pub last : ℕ
+  pub ends : claimed ≡ front ++ last ∷ []
+  pub no_piece : count ≤ last
+
+-- the list is these two lists, dealt into one another, each of them in order
+abbrev pub AreDealt : List ℕ → List ℕ → List ℕ → Type 0
+AreDealt [] some others = (some ≡ []) × (others ≡ [])
+AreDealt (n ∷ all) some others =
+    ((rest : List ℕ) × (some ≡ n ∷ rest) × AreDealt all rest others) ⊎ ((rest : List ℕ) × (others ≡ n ∷ rest) × AreDealt all some rest)
+
+-- one more piece is named by how its search ended: as done or as cut
+abbrev pub NamesOneMore : Outcome → ℕ → (done cut done' cut' : List ℕ) → Type 0
+NamesOneMore Whole piece done cut done' cut' = (done' ≡ done ++ piece ∷ []) × (cut' ≡ cut)
+NamesOneMore Cut piece done cut done' cut' = (done' ≡ done) × (cut' ≡ cut ++ piece ∷ [])
+
+-- One worker's whole work: its part names those of its claims that are pieces and that the task is dealt, in order, some as done
+-- and, where there is a budget, others as cut, each within the budget. It has at most one claim more than there are pieces, and its last claim is no piece, or it has that many.
+pub record IsWholeWork (p : Problem) (pieces : CubeList) (task : Option TaskView) (nodes : Option ℕ) (part : PartView) (claimed : List ℕ) : Type 0 where
+  pub of_instance : part.best.problem ≡ p
+  pub of_pieces : part.pieces ≡ pieces
+  pub named : AreDealt (pieces_among task (piece_count pieces) claimed) part.named part.cut
+  pub uncut : IfNone nodes (part.cut ≡ [])
+  pub budget : IfSome nodes (λ budget. KeepsBudget budget part)
+  pub most : length claimed ≤ piece_count pieces + 1
+  pub ends : EndsPast (piece_count pieces) claimed ⊎ (length claimed ≡ piece_count pieces + 1)
+
+-- some claim is the number of no piece, or there are more claims than pieces
+abbrev pub GoesPast : ℕ → List ℕ → Type 0
+GoesPast count claimed = Any (λ n. count ≤ n) claimed ⊎ (count < length claimed)
+
+-- The work of several workers: the parts name each number as often as it was claimed, where it is a piece that the task is dealt,
+-- as done or, where there is a budget, as cut, and no other number; and the claims go past the pieces.
+pub record AreWholeWork (p : Problem) (pieces : CubeList) (task : Option TaskView) (nodes : Option ℕ) (parts : List PartView) (claimed : List ℕ) : Type 0 where
+  pub of_instance : All (λ part. part.best.problem ≡ p) parts
+  pub of_pieces : All (λ part. part.pieces ≡ pieces) parts
+  pub named : (i : ℕ) → times i (all_numbers parts) ≡ times i (pieces_among task (piece_count pieces) claimed)
+  pub uncut : IfNone nodes (All (λ part. part.cut ≡ []) parts)
+  pub budget : IfSome nodes (λ budget. All (KeepsBudget budget) parts)
+  pub past : GoesPast (piece_count pieces) claimed

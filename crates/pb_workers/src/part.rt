@@ -1,0 +1,76 @@
+//! What one worker did.
+ghost use Rattle.std.specs.Prelude.{◌≡◌};
+ghost use Rattle.pb_workers.specs.Parts.{AreDone};
+
+use crate::named::Named;
+use pb_cubes::Pieces;
+use pb_inst::Best;
+use std::marker::Model;
+
+/// The numbers of the pieces of a list that a worker got, and the best assignment that it found. A piece is named as done
+/// or as cut. No feasible assignment of a piece that is done is before the best one, which is none only where no piece that
+/// is done has a feasible one; nothing is said of a piece that was cut. With a budget the decisions of each search are told.
+#[derive(Drop)]
+pub struct Part<'i> {
+    list: &'i Pieces,
+    named: Named,
+    best: Best<'i>,
+}
+
+impl<'i> Model for Part<'i> {
+    ghost use Rattle.pb_workers.specs.Parts.{PartView, AreDone};
+
+    ghost Value = { PartView };
+
+    ghost view = { λ p. record { pieces = p.list.now; named = p.named.done.items; cut = p.named.cut.items; decisions = p.named.decisions.items; cut_decisions = p.named.cut_decisions.items; best = p.best } };
+
+    ghost invariant = { λ p. AreDone (record { pieces = p.list.now; named = p.named.done.items; cut = p.named.cut.items; decisions = p.named.decisions.items; cut_decisions = p.named.cut_decisions.items; best = p.best }) };
+}
+
+impl<'i> Part<'i> {
+    /// The part that names these pieces of the list: those that are done, and those that were cut.
+    pub(crate) fn new(list: &'i Pieces, named: Named, best: Best<'i>) -> Part<'i>
+        requires { AreDone (record { pieces = list.now; named = named.done.items; cut = named.cut.items; decisions = named.decisions.items; cut_decisions = named.cut_decisions.items; best = best }) }
+        ensures { result ≡ record { pieces = list.now; named = named.done.items; cut = named.cut.items; decisions = named.decisions.items; cut_decisions = named.cut_decisions.items; best = best.entry } }
+    {
+        Part { list, named, best }
+    }
+
+    /// The numbers of the pieces that are done.
+    pub fn pieces(&self) -> &[u32]
+        ensures value { result.now ≡ self.now.named }
+        ensures done { AreDone self.now }
+    {
+        &self.named.done
+    }
+
+    /// The numbers of the pieces whose search was cut by its budget: none without one.
+    pub fn cut(&self) -> &[u32]
+        ensures { result.now ≡ self.now.cut }
+    {
+        &self.named.cut
+    }
+
+    /// With a budget, how many decisions the search of each piece that is done made, in the order of `pieces`; without one
+    /// nothing.
+    pub fn decisions(&self) -> &[u64]
+        ensures { result.now ≡ self.now.decisions }
+    {
+        &self.named.decisions
+    }
+
+    /// The same of the pieces whose search was cut, in the order of `cut`.
+    pub fn cut_decisions(&self) -> &[u64]
+        ensures { result.now ≡ self.now.cut_decisions }
+    {
+        &self.named.cut_decisions
+    }
+
+    /// The best assignment that was found.
+    pub fn best(&self) -> &Best<'i>
+        ensures value { result.now ≡ self.now.best }
+        ensures done { AreDone self.now }
+    {
+        &self.best
+    }
+}

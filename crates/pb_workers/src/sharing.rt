@@ -1,0 +1,159 @@
+//! The share through which workers lend each other what they found: rows and the least word of the board, and what is known
+//! beside it.
+ghost use Rattle.std.specs.Prelude.{◌≡◌, ◌<◌, ◌≤◌, ◌+◌, ◌^◌, ◌++◌, ◌∷◌, [], refl, length, nat_lt, ◌||◌, ℕ, ℤ, ◌≤ℤ◌, false, true, IsTrue};
+ghost use Rattle.std.proofs.Common.{◌∙◌};
+ghost use Rattle.pb_board.specs.Seats.{BoardView, SeatView};
+ghost use Rattle.pb_workers.specs.Keys.{IsKeyOf};
+ghost use Rattle.pb_workers.specs.Sharing.{BoardShareView, KeepsClaims};
+
+use crate::beyond::Beside;
+use pb_board::{Board, Seat};
+use pb_inst::{Assignment, Number};
+use pb_notes::next_other;
+use pb_search::{Alone, Share};
+use std::marker::Model;
+
+/// What a cost is raised by to be a key of the board: 2^63.
+const KEY_OFFSET: Number = 9_223_372_036_854_775_808;
+
+/// The least cost with a key of its own, -2^63, and the greatest one.
+const LOWEST: Number = -9_223_372_036_854_775_808;
+
+const HIGHEST: Number = 9_223_372_036_854_775_807;
+
+/// A worker's ways to the others: its seat on the board, its own row, and the rows of the others, which it reads in turn. Beside
+/// the board it has a share with others who are not on it, `Alone` where there are none.
+#[derive(Drop)]
+pub struct BoardShare<'b, S: Beside + Drop> {
+    board: &'b Board,
+    seat: Seat,
+    worker: u32,
+    // the worker whose row was read last, at first this one
+    last_read: u32,
+    beside: S,
+}
+
+impl<'b, S: Beside + Drop> Model for BoardShare<'b, S> {
+    ghost Value = { BoardShareView };
+
+    ghost view = { λ s. record { board = s.board.now; worker = s.worker; seat = s.seat; lends_beside = S.lends s.beside } };
+
+    ghost invariant = { λ s. (s.worker < s.board.now.workers) × (s.last_read < s.board.now.workers) × (s.seat.board ≡ s.board.now.id) };
+}
+
+impl<'b> BoardShare<'b, Alone> {
+    /// The share of a worker below the board's number of workers, with a seat of the board. Beside the board there is nobody.
+    pub fn new(board: &'b Board, seat: Seat, worker: u32) -> BoardShare<'b, Alone>
+        requires seat { seat.board ≡ board.now.id }
+        requires worker { worker < board.now.workers }
+        ensures { result ≡ record { board = board.now; worker = worker; seat = seat; lends_beside = false } }
+    {
+        BoardShare::beside(board, seat, worker, Alone)
+    }
+}
+
+impl<'b, S: Beside + Drop> BoardShare<'b, S> {
+    /// The same with a share beside the board, which is told of each assignment that is offered, and is asked where the board
+    /// has nothing to lend.
+    pub fn beside(board: &'b Board, seat: Seat, worker: u32, beside: S) -> BoardShare<'b, S>
+        requires seat { seat.board ≡ board.now.id }
+        requires worker { worker < board.now.workers }
+        ensures { result ≡ record { board = board.now; worker = worker; seat = seat; lends_beside = S.lends beside } }
+    {
+        BoardShare {
+            board,
+            seat,
+            worker,
+            last_read: worker,
+            beside,
+        }
+    }
+
+    /// The worker's number.
+    pub fn worker(&self) -> u32
+        ensures { result ≡ self.now.worker }
+    {
+        self.worker
+    }
+
+    /// The seat, with all that it claimed and offered.
+    pub fn into_seat(self) -> Seat
+        ensures { result ≡ self.entry.seat }
+    {
+        let BoardShare {
+            board: _,
+            seat,
+            worker: _,
+            last_read: _,
+            beside: _,
+        } = self;
+        seat
+    }
+
+    /// Claims the next number of the board, whose piece is about to be searched. Asks that the seat has fewer than 2^32 claims.
+    pub fn claim(&mut self) -> u64
+        requires { length self.old.seat.claimed < 2 ^ 32 }
+        ensures { self.new ≡ record self.old { seat = record self.old.seat { claimed = self.old.seat.claimed ++ result ∷ [] } } }
+    {
+        self.beside.begin();
+        self.board.claim(&mut self.seat)
+    }
+}
+
+impl<'b, S: Beside + Drop> Share for BoardShare<'b, S> {
+    ghost keeps = { KeepsClaims };
+
+    // A board of one worker has no other row to read.
+    ghost lends = { λ s. nat_lt 1 s.board.workers || s.lends_beside };
+
+    ghost keeps_itself = { λ s. record { board = refl; worker = refl; seat_of = refl; parts = refl; claimed = refl; lending = refl } };
+
+    ghost keeps_onward = { λ s t u h k. record { board = k.board ∙ h.board; worker = k.worker ∙ h.worker; seat_of = k.seat_of ∙ h.seat_of; parts = k.parts ∙ h.parts; claimed = k.claimed ∙ h.claimed; lending = k.lending ∙ h.lending } };
+
+    /// Writes the assignment into the worker's own row, and then offers the key of its cost. Tells whoever is beside the board.
+    fn offer(&mut self, cost: Number, assignment: &Assignment) {
+        self.beside.offer(cost, assignment);
+        if assignment.len() != self.board.vars() {
+            return;
+        }
+        self.board
+            .write_row(&mut self.seat, self.worker, assignment);
+        self.board.offer(&mut self.seat, key_of(cost));
+    }
+
+    /// Where some worker offered a lesser key than that of `below`, reads the row of the next other worker in turn. Else asks
+    /// whoever is beside the board.
+    fn borrow(&mut self, below: Number, into: &mut Assignment) -> bool {
+        self.borrow_from_row(below, into) || self.beside.borrow(below, into)
+    }
+}
+
+impl<'b, S: Beside + Drop> BoardShare<'b, S> {
+    /// Where some worker offered a lesser key than that of `below`, reads the row of the next other worker in turn.
+    fn borrow_from_row(&mut self, below: Number, into: &mut Assignment) -> bool
+        ensures kept { KeepsClaims self.old self.new }
+        ensures lent { IsTrue result → nat_lt 1 self.old.board.workers ≡ true }
+        ensures same_length { length into.new ≡ length into.old }
+    {
+        if into.len() != self.board.vars() {
+            return false;
+        }
+        let workers = self.board.workers().get();
+        if self.board.least(&mut self.seat) >= key_of(below) || workers == 1 {
+            return false;
+        }
+        self.last_read = next_other(workers, self.worker, self.last_read);
+        self.board.read_row(&mut self.seat, self.last_read, into);
+        true
+    }
+}
+
+/// The key of a cost on the board: the cost and 2^63, cut off at both ends of 64 bits. So keys never fall where costs grow, and
+/// costs from -2^63 to 2^63 - 1 have keys of their own. Of two costs with one key neither is lent for the other.
+fn key_of(cost: Number) -> u64
+    ensures key { IsKeyOf cost result }
+    ensures rising { (other : ℤ) (key : ℕ) → IsKeyOf other key → cost ≤ℤ other → result ≤ key }
+{
+    let within = cost.clamp(LOWEST, HIGHEST);
+    (within + KEY_OFFSET) as u64
+}

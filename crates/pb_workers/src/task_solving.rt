@@ -1,0 +1,69 @@
+//! Solving the pieces of one task, whose workers lend each other what they found, and others beyond their board.
+ghost use Rattle.std.specs.Prelude.{◌≡◌, [], IfOk, IfNone};
+ghost use Rattle.pb_workers.specs.Dealing.{IsAnswerOfTask};
+
+use crate::beyond::Correspondence;
+use crate::facts::facts_of;
+use crate::gate::Gate;
+use crate::names::Names;
+use crate::solving::SolveFault;
+use crate::task::Task;
+use crate::together::{Dealt, work_together};
+use pb_cubes::Pieces;
+use pb_inst::{Best, Instance, Workers};
+use pb_notes::Notes;
+use std::alloc::Global;
+use std::thread::Threads;
+
+/// What a task found.
+#[derive(Drop)]
+pub struct TaskAnswer<'i> {
+    /// The best assignment that was found in the task's pieces or came from others, which is feasible.
+    pub best: Best<'i>,
+    /// The numbers of the task's pieces that are done, in order: no feasible assignment of them is before the best one.
+    pub done: Vec<u32>,
+    /// The numbers of the task's pieces whose search was cut by its budget, in order; none without one.
+    pub cut: Vec<u32>,
+}
+
+/// The best assignment that a task finds: every piece that it is dealt is searched, with at most `nodes` decisions where a budget
+/// is given. The workers lend each other what they found, and each of them borrows and lends by its way beyond the board. Whatever
+/// comes by these ways, a piece that is named as done is done, since every assignment that is borrowed is checked.
+/// Asks for pieces over the instance's variables. Fails where memory is refused.
+pub fn solve_task<'i, R: Threads + Sync, N: Notes + Sync, G: Gate + Sync>(
+    rt: &R,
+    alloc: Global,
+    inst: &'i Instance,
+    pieces: &'i Pieces,
+    task: Task,
+    workers: Workers,
+    notes: Option<&Correspondence<'_, N>>,
+    gate: &G,
+    nodes: Option<u64>,
+) -> Result<TaskAnswer<'i>, SolveFault>
+    requires { pieces.now.vars ≡ inst.now.vars }
+    ensures same_instance { IfOk result (λ answer. answer.best.problem ≡ inst.now) }
+    ensures answer { IfOk result (λ answer. IsAnswerOfTask inst.now pieces.now task answer.done.items answer.cut.items answer.best.held) }
+    ensures no_budget { IfNone nodes (IfOk result (λ answer. answer.cut.items ≡ [])) }
+{
+    let dealt = work_together(
+        rt,
+        alloc,
+        inst,
+        pieces,
+        workers,
+        notes,
+        gate,
+        Some(task),
+        nodes,
+    )?;
+    let Dealt {
+        best,
+        names,
+        cut: _,
+    } = dealt;
+    // By this what some part did is done by the first of all parts.
+    facts_of(&best);
+    let Names { done, cut } = names;
+    Ok(TaskAnswer { best, done, cut })
+}

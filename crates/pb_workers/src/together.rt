@@ -1,0 +1,91 @@
+//! Workers on threads of their own, on all pieces of an instance or on those of a task.
+ghost use Rattle.std.specs.Prelude.{◌≡◌, ◌≤◌, List, None, false, min, IfOk, IfNone};
+ghost use Rattle.pb_inst.specs.declared.limits.TheConstants.{MAX_WORKERS};
+ghost use Rattle.pb_workers.specs.Dealing.{AreDealtWork, AreNamesOf};
+ghost use Rattle.pb_workers.specs.Parts.{PartView};
+ghost use Rattle.pb_cubes.specs.Solving.{HoldsLeast};
+
+use crate::beyond::Correspondence;
+use crate::fork::fork;
+use crate::gate::Gate;
+use crate::gathering::gather;
+use crate::names::Names;
+use crate::task::Task;
+use crate::working::SearchWorkers;
+use pb_board::Board;
+use pb_cubes::Pieces;
+use pb_inst::{Best, Instance, Memory, Workers};
+use pb_normal::normalise;
+use pb_notes::Notes;
+use pb_search::SearchTables;
+use std::alloc::Global;
+use std::thread::Threads;
+
+/// What workers did of the pieces that they were dealt.
+#[derive(Drop)]
+pub(crate) struct Dealt<'i> {
+    /// The first of what they found.
+    pub(crate) best: Best<'i>,
+    /// What they name the pieces of a task; without one nothing.
+    pub(crate) names: Names,
+    /// Whether the search of some piece was cut by its budget.
+    pub(crate) cut: bool,
+}
+
+/// The whole work of the workers on the pieces that the task is dealt, and without a task on all of them. The workers, numbered
+/// from 0, run on threads of their own where the system gives them. A worker beyond the number of pieces is not started: it would
+/// get none, and yet take memory for a search of its own. Asks for pieces over the instance's variables.
+pub(crate) fn work_together<'i, R: Threads + Sync, N: Notes + Sync, G: Gate + Sync>(
+    rt: &R,
+    alloc: Global,
+    inst: &'i Instance,
+    pieces: &'i Pieces,
+    workers: Workers,
+    notes: Option<&Correspondence<'_, N>>,
+    gate: &G,
+    task: Option<Task>,
+    nodes: Option<u64>,
+) -> Result<Dealt<'i>, Memory>
+    requires { pieces.now.vars ≡ inst.now.vars }
+    ensures same_instance { IfOk result (λ dealt. dealt.best.problem ≡ inst.now) }
+    ensures work { IfOk result (λ dealt. (parts : List PartView) × AreDealtWork inst.now pieces.now task nodes parts dealt.best.held dealt.cut × AreNamesOf task parts dealt.names.done.items dealt.names.cut.items) }
+    ensures least { IfOk result (λ dealt. task ≡ None → dealt.cut ≡ false → HoldsLeast inst.now dealt.best.held) }
+    ensures no_budget { IfNone nodes (IfOk result (λ dealt. dealt.cut ≡ false)) }
+{
+    let mut best = Best::none(alloc, inst)?;
+    let normal = normalise(alloc, inst)?;
+    let tables = SearchTables::new(alloc, inst, &normal, pieces)?;
+    let dealt = dealt_pieces(&task, pieces.len());
+    let mut names = Names::with_room(alloc, &task, dealt)?;
+    let workers = workers_with_a_piece(workers, dealt);
+    let (board, seat) = Board::new(alloc, workers, inst.vars())?;
+    let set = SearchWorkers::new(inst, pieces, &tables, &board, notes, gate, task, nodes);
+    let (parts, seat) = fork(rt, alloc, &set, seat, 0)?;
+    let cut = gather(&mut best, &parts);
+    names.take(&task, &parts)?;
+    drop(parts);
+    board.close(seat);
+    Ok(Dealt { best, names, cut })
+}
+
+/// How many of so many pieces are dealt, and 1 where there are none.
+fn dealt_pieces(task: &Option<Task>, pieces: u32) -> u32
+    ensures { 1 ≤ result }
+{
+    match task {
+        Some(task) => task.share_of(pieces).max(1),
+        None => pieces.max(1),
+    }
+}
+
+/// As many workers as are asked for, and no more than there are pieces.
+fn workers_with_a_piece(asked: Workers, pieces: u32) -> Workers
+    requires { 1 ≤ pieces }
+    ensures fewest { result ≡ min asked pieces }
+    ensures in_range { (1 ≤ result) × (result ≤ MAX_WORKERS) }
+{
+    match Workers::new(asked.get().min(pieces)) {
+        Ok(fewest) => fewest,
+        Err(_) => asked,
+    }
+}

@@ -1,0 +1,212 @@
+//! The whole work of one worker, which claims pieces and searches them.
+ghost use Rattle.std.specs.Prelude.{◌≡◌, ◌<◌, ◌≤◌, ◌⊎◌, ◌+◌, ◌^◌, ◌++◌, ◌∷◌, [], length, Option, All, IfOk, IfSome, IfNone};
+ghost use Rattle.pb_normal.specs.NormalForm.{KeepsCost, KeepsFeasible};
+ghost use Rattle.pb_search.specs.Done.{IsDone};
+ghost use Rattle.pb_workers.specs.Claims.{AreDealt, EndsPast, IsWholeWork, pieces_among};
+ghost use Rattle.pb_workers.specs.Dealing.{TaskView};
+ghost use Rattle.std.specs.Option.{option_map};
+ghost use Rattle.pb_workers.specs.Parts.{AreCounted};
+ghost use Rattle.pb_workers.specs.Sharing.{SameSeat};
+
+use crate::beyond::{Beside, Beyond, Correspondence, NoNotes};
+use crate::facts::facts_of;
+use crate::gate::Gate;
+use crate::named::Named;
+use crate::part::Part;
+use crate::sharing::BoardShare;
+use crate::task::{Task, has_piece};
+use crate::worker_set::WorkerSet;
+use pb_board::{Board, Seat};
+use pb_cubes::Pieces;
+use pb_inst::{Best, Instance, Memory};
+use pb_normal::Normal;
+use pb_notes::Notes;
+use pb_search::{Search, SearchTables};
+use std::alloc::Global;
+
+/// The whole work of one worker: it claims numbers from the board until it gets one that is no piece, and searches each
+/// piece that it got with at most `nodes` decisions, where there is such a budget, of which it tells the gate before. The part
+/// names exactly the claims of the answered seat that are pieces, as done or as cut by the budget, either in order, and with a
+/// budget it tells the decisions of each search: no more than the budget, and all of it where the piece was cut. The worker
+/// builds the tables of its searches for itself; where many share them, `solve` lends them.
+///
+/// Asks for a normal form of the instance, pieces over its variables, a seat of this board without claims, a board for the
+/// instance's variables, and a worker below the board's number of workers. At `Memory` the seat is dropped.
+pub fn work<'i, G: Gate + Sync>(
+    alloc: Global,
+    inst: &'i Instance,
+    normal: &Normal,
+    pieces: &'i Pieces,
+    board: &Board,
+    seat: Seat,
+    worker: u32,
+    gate: &G,
+    nodes: Option<u64>,
+) -> Result<(Part<'i>, Seat), Memory>
+    requires vars { normal.now.vars ≡ inst.now.vars }
+    requires feasible { KeepsFeasible inst.now normal.now }
+    requires costs { KeepsCost inst.now normal.now }
+    requires pieces { pieces.now.vars ≡ inst.now.vars }
+    requires seat { seat.board ≡ board.now.id }
+    requires unclaimed { seat.claimed ≡ [] }
+    requires board { board.now.vars ≡ inst.now.vars }
+    requires worker { worker < board.now.workers }
+    ensures whole { IfOk result (λ done. IsWholeWork inst.now pieces.now None nodes done.0 done.1.claimed) }
+    ensures seat { IfOk result (λ done. (done.1.board ≡ board.now.id) × (done.1.parts ≡ seat.parts)) }
+    ensures claims { IfOk result (λ done. length done.1.claimed ≤ 2 ^ 32) }
+{
+    let tables = SearchTables::new(alloc, inst, normal, pieces)?;
+    let no_notes = None::<&Correspondence<'_, NoNotes>>;
+    let set = SearchWorkers::new(inst, pieces, &tables, board, no_notes, gate, None, nodes);
+    set.work_of(alloc, seat, worker)
+}
+
+/// Workers who search the pieces, or those that a task is dealt, each with engines of its own over the one set of tables. What a
+/// worker changes is its own. Beside the board they exchange notes, where the task does.
+#[derive(Drop)]
+pub(crate) struct SearchWorkers<'a, 'i, N, G> {
+    inst: &'i Instance,
+    pieces: &'i Pieces,
+    tables: &'a SearchTables<'a>,
+    board: &'a Board,
+    notes: Option<&'a Correspondence<'a, N>>,
+    gate: &'a G,
+    task: Option<Task>,
+    nodes: Option<u64>,
+    ghost tables_of_all: { tables.now ≡ record { problem = inst.now; cubes = pieces.now.cubes } },
+    ghost board_vars: { board.now.vars ≡ inst.now.vars },
+}
+
+impl<'a, 'i, N: Notes, G: Gate> SearchWorkers<'a, 'i, N, G> {
+    /// The set over tables of the instance and the pieces, on a board for the instance's variables.
+    pub(crate) fn new(
+        inst: &'i Instance,
+        pieces: &'i Pieces,
+        tables: &'a SearchTables<'a>,
+        board: &'a Board,
+        notes: Option<&'a Correspondence<'a, N>>,
+        gate: &'a G,
+        task: Option<Task>,
+        nodes: Option<u64>,
+    ) -> SearchWorkers<'a, 'i, N, G>
+        requires tables { tables.now ≡ record { problem = inst.now; cubes = pieces.now.cubes } }
+        requires board { board.now.vars ≡ inst.now.vars }
+        ensures lent { (result.inst.now ≡ inst.now) × (result.pieces.now ≡ pieces.now) × (result.board.now ≡ board.now) × (result.nodes ≡ nodes) × (result.task ≡ task) }
+    {
+        SearchWorkers {
+            inst,
+            pieces,
+            tables,
+            board,
+            notes,
+            gate,
+            task,
+            nodes,
+        }
+    }
+
+    /// The whole work of the worker of this number. Asks for a seat of the board without claims, and a worker below the board's
+    /// number of workers. At `Memory` the seat is dropped.
+    fn work_of(&self, alloc: Global, seat: Seat, worker: u32) -> Result<(Part<'i>, Seat), Memory>
+        requires seat { seat.board ≡ self.now.board.now.id }
+        requires unclaimed { seat.claimed ≡ [] }
+        requires worker { worker < self.now.board.now.workers }
+        ensures whole { IfOk result (λ done. IsWholeWork self.now.inst.now self.now.pieces.now self.now.task self.now.nodes done.0 done.1.claimed) }
+        ensures seat { IfOk result (λ done. (done.1.board ≡ self.now.board.now.id) × (done.1.parts ≡ seat.parts)) }
+        ensures claims { IfOk result (λ done. length done.1.claimed ≤ 2 ^ 32) }
+    {
+        let mut best = Best::none(alloc, self.inst)?;
+        let mut search = Search::over(alloc, self.tables)?;
+        let beyond = Beyond::new(alloc, self.notes, self.inst.vars(), worker)?;
+        let mut share = BoardShare::beside(self.board, seat, worker, beyond);
+        let count = self.pieces.len();
+        let named = self.search_claimed(alloc, &mut search, count, &mut best, &mut share)?;
+        Ok((Part::new(self.pieces, named, best), share.into_seat()))
+    }
+
+    /// Searches the pieces that the share claims and the task is dealt, each within the budget, and answers their numbers.
+    fn search_claimed<S: Beside + Drop>(
+        &self,
+        alloc: Global,
+        search: &mut Search<'_>,
+        count: u32,
+        best: &mut Best<'_>,
+        share: &mut BoardShare<'_, S>,
+    ) -> Result<Named, Memory>
+        requires count { count ≡ length search.old.division.cubes + 1 }
+        requires same_instance { best.old.problem ≡ search.old.division.problem }
+        requires unclaimed { share.old.seat.claimed ≡ [] }
+        ensures same_instance { best.new.problem ≡ best.old.problem }
+        ensures done { IfOk result (λ named. All (λ i. IsDone search.old.division i best.new.held) named.done.items) }
+        ensures named { IfOk result (λ named. AreDealt (pieces_among self.now.task count share.new.seat.claimed) named.done.items named.cut.items) }
+        ensures uncut { IfOk result (λ named. IfNone self.now.nodes (named.cut.items ≡ [])) }
+        ensures budget { IfOk result (λ named. IfSome self.now.nodes (λ budget. AreCounted budget named.done.items named.decisions.items named.cut.items named.cut_decisions.items)) }
+        ensures most { IfOk result (λ named. length share.new.seat.claimed ≤ count + 1) }
+        ensures ends { IfOk result (λ named. EndsPast count share.new.seat.claimed ⊎ (length share.new.seat.claimed ≡ count + 1)) }
+        ensures seat { SameSeat share.old share.new }
+    {
+        let mut named = Named::new(alloc);
+        for _turn in 0..u64::from(count) + 1 {
+            let Some(piece) = claim_piece(share, count) else {
+                return Ok(named);
+            };
+            if !has_piece(&self.task, piece) {
+                continue;
+            }
+            // What is refused here is refused before the piece is searched, so that no finished work is lost for it.
+            named.reserve(self.nodes)?;
+            self.gate.pass(share.worker(), piece);
+            let outcome = search.run(piece, best, share, self.nodes);
+            // By this what is done stays done.
+            facts_of(best);
+            named.push_reserved(piece, outcome, decisions_of(search, self.nodes));
+        }
+        Ok(named)
+    }
+}
+
+impl<'a, 'i, N: Notes, G: Gate> WorkerSet for SearchWorkers<'a, 'i, N, G> {
+    ghost problem = { λ c. c.inst.now };
+
+    ghost pieces = { λ c. c.pieces.now };
+
+    ghost meets_on = { λ c. c.board.now };
+
+    ghost task = { λ c. c.task };
+
+    ghost nodes = { λ c. c.nodes };
+
+    fn board(&self) -> &Board {
+        self.board
+    }
+
+    fn work(&self, alloc: Global, seat: Seat, worker: u32) -> Result<(Part<'_>, Seat), Memory> {
+        self.work_of(alloc, seat, worker)
+    }
+}
+
+/// How many decisions the last search made, where it had a budget.
+fn decisions_of(search: &Search<'_>, nodes: Option<u64>) -> Option<u64>
+    ensures { result ≡ option_map (λ _. search.now.decisions) nodes }
+{
+    match nodes {
+        Some(_) => Some(search.decisions()),
+        None => None,
+    }
+}
+
+/// Claims the next number, and answers it where it is a piece's.
+fn claim_piece<S: Beside + Drop>(share: &mut BoardShare<'_, S>, count: u32) -> Option<u32>
+    requires { length share.old.seat.claimed < 2 ^ 32 }
+    ensures piece { IfSome result (λ piece. (piece < count) × (share.new.seat.claimed ≡ share.old.seat.claimed ++ piece ∷ [])) }
+    ensures none { IfNone result (EndsPast count share.new.seat.claimed × ((task : Option TaskView) → pieces_among task count share.new.seat.claimed ≡ pieces_among task count share.old.seat.claimed)) }
+    ensures one { length share.new.seat.claimed ≡ length share.old.seat.claimed + 1 }
+    ensures seat { SameSeat share.old share.new }
+{
+    let number = share.claim();
+    if number < u64::from(count) {
+        Some(number as u32)
+    } else {
+        None
+    }
+}

@@ -1,0 +1,40 @@
+"""Texts that the programs read and write: reports, their headings, and the index of a folder of pieces."""
+import hashlib
+
+from . import TOP
+
+TIE = (TOP / "examples/tie.opb").read_text()
+
+
+def digest(text):
+    return hashlib.sha256(text.encode()).hexdigest()
+
+
+def index_of(text, kind, variables, pieces):
+    """The index of so many pieces of an instance."""
+    width = len(str(pieces - 1))
+    names = "".join(f"{number:0{width}}.{kind}\n" for number in range(pieces))
+    return f"pieces {pieces}\nformat {kind}\nvariables {variables}\nsha256 {digest(text)}\n{names}"
+
+
+def part(of, text, pieces, done, cut=""):
+    """The heading of a report, of a part of the instance of this text."""
+    return f"c part {of} of instance {digest(text)}\nc pieces {pieces}\nc done{done}\nc cut{cut}\n"
+
+
+HEADING = 4  # lines of such a heading
+
+
+def values_line(values, is_clausal):
+    """The `v` line of these values."""
+    letter, end = ("", " 0") if is_clausal else ("x", "")
+    return "v" + "".join(f" {'' if value else '-'}{letter}{i}" for i, value in enumerate(values, 1)) + f"{end}\n"
+
+
+def rank(report):
+    """What orders reports: by cost, then by the first variable that differs, 0 before 1; none where there is no assignment."""
+    lines = {line[0]: line.split()[1:] for line in report.splitlines()}
+    if "v" not in lines:
+        return None
+    values = [not word.startswith("-") for word in lines["v"] if word != "0"]
+    return int(lines.get("o", ["0"])[0]), values

@@ -1,0 +1,218 @@
+"""Texts that were worked by hand, with the reports that they are owed: the tables of tests/runs/texts.py. A report's `s` line tells the
+exit status."""
+from .reports import TIE
+
+# A text of two constraints and an objective. Two assignments of three variables cost as little.
+COVER = TIE.encode()
+COVERED = "o 3\ns OPTIMUM FOUND\nv -x1 x2 -x3\n"
+CONTRADICTION = b"1 x1 >= 1 ;\n1 x1 = 0 ;\n"
+CLAUSE_AND_CUBE = b"p inccnf\n1 2 0\na 1 0\n"
+BAD_SPLIT = "c refused split: BadSplit\ns UNSUPPORTED\n"
+
+# The format, the text and the report.
+WORKED = [
+    # the tie goes to the lexicographically first
+    ("opb", COVER, COVERED),
+    # two constraints that contradict each other
+    ("opb", CONTRADICTION, "s UNSATISFIABLE\n"),
+    # the empty text
+    ("opb", b"", "s SATISFIABLE\nv\n"),
+    # an objective without terms
+    ("opb", b"min: ;\n", "o 0\ns OPTIMUM FOUND\nv\n"),
+    # a negative cost
+    ("opb", b"min: -2 x1 -2 x2 ;\n1 x1 1 x2 <= 1 ;\n", "o -2\ns OPTIMUM FOUND\nv -x1 x2\n"),
+    # the greatest sum of a constraint that 63 bits hold
+    ("opb", b"9223372036854775806 x1 >= 1 ;\n", "s SATISFIABLE\nv x1\n"),
+    # one over what 63 bits hold
+    ("opb", b"9223372036854775807 x1 >= 1 ;\n", "s SATISFIABLE\nv x1\n"),
+    # the greatest sum of a constraint
+    ("opb", b"85070591730234615865843651857942052862 x1 >= 1 ;\n", "s SATISFIABLE\nv x1\n"),
+    # one over the greatest sum of a constraint
+    ("opb", b"85070591730234615865843651857942052863 x1 >= 1 ;\n", "c refused: TooLarge at line 1\ns UNSUPPORTED\n"),
+    # a variable beside its negation
+    ("opb", b"2 x1 3 ~x1 >= 3 ;\n", "s SATISFIABLE\nv -x1\n"),
+    # a variable beside its negation, with one coefficient, that always gives enough
+    ("opb", b"4611686018427387903 x1 4611686018427387903 ~x1 >= 1 ;\n", "s SATISFIABLE\nv -x1\n"),
+    # a negative coefficient whose negation 63 bits hold, which x1 = 0 alone meets
+    ("opb", b"-9223372036854775807 x1 >= 0 ;\n", "s SATISFIABLE\nv -x1\n"),
+    # an equality between two sums
+    ("opb", b"2 x1 2 x2 = 3 ;\n", "s UNSATISFIABLE\n"),
+    # a product
+    ("opb", b"1 x1 x2 >= 1 ;\n", "c refused: NonLinear at line 1\ns UNSUPPORTED\n"),
+    # a last statement that is not ended
+    ("opb", b"1 x1 >= 1", "c refused: Unfinished at line 1\ns UNSUPPORTED\n"),
+    # variables of the header alone
+    ("opb", b"* #variable= 3 #constraint= 1\n1 x2>=1;\n", "s SATISFIABLE\nv -x1 x2 -x3\n"),
+    # an objective that comes late
+    ("opb", b"1 x1 >= 1 ;\nmin: 1 x1 ;\n", "c refused: LateObjective at line 2\ns UNSUPPORTED\n"),
+    # the variable 0
+    ("opb", b"1 x0 >= 1 ;\n", "c refused: BadVariable at line 1\ns UNSUPPORTED\n"),
+    # the variable 0 beside a coefficient that 63 bits hold
+    ("opb", b"9223372036854775807 x0 >= 1 ;\n", "c refused: BadVariable at line 1\ns UNSUPPORTED\n"),
+    # a comment inside a statement
+    ("opb", b"1 x1\n* a note\n1 x2 >= 2 ;\n", "s SATISFIABLE\nv x1 x2\n"),
+    # the greatest cost that 63 bits hold
+    ("opb", b"min: 9223372036854775807 x1 ;\n1 x1 >= 1 ;\n", "o 9223372036854775807\ns OPTIMUM FOUND\nv x1\n"),
+    # a cost that 63 bits do not hold
+    ("opb", b"min: 9223372036854775808 x1 ;\n", "o 0\ns OPTIMUM FOUND\nv -x1\n"),
+    # the greatest cost
+    (
+        "opb",
+        b"min: 85070591730234615865843651857942052863 x1 ;\n1 x1 >= 1 ;\n",
+        "o 85070591730234615865843651857942052863\ns OPTIMUM FOUND\nv x1\n",
+    ),
+    # one over the greatest cost
+    ("opb", b"min: 85070591730234615865843651857942052864 x1 ;\n", "c refused: TooLarge at line 1\ns UNSUPPORTED\n"),
+    # the least cost that 64 bits hold with its negation
+    ("opb", b"min: -9223372036854775807 x1 ;\n", "o -9223372036854775807\ns OPTIMUM FOUND\nv x1\n"),
+    # the least cost
+    (
+        "opb",
+        b"min: -85070591730234615865843651857942052863 x1 ;\n",
+        "o -85070591730234615865843651857942052863\ns OPTIMUM FOUND\nv x1\n",
+    ),
+    # costs that 64 bits do not hold, of which only the last digit differs
+    (
+        "opb",
+        b"min: 36893488147419103232 x1 36893488147419103233 ~x1 1 x2 ;\n1 x1 1 x2 >= 1 ;\n",
+        "o 36893488147419103232\ns OPTIMUM FOUND\nv x1 -x2\n",
+    ),
+    # a variable twice in the objective
+    ("opb", b"min: 1 x1 1 x1 ;\n1 x1 >= 1 ;\n", "o 2\ns OPTIMUM FOUND\nv x1\n"),
+    # the least coefficient, which x1 = 0 alone meets
+    ("opb", b"min: -1 x1 ;\n-85070591730234615865843651857942052863 x1 >= 0 ;\n", "o 0\ns OPTIMUM FOUND\nv -x1\n"),
+    # a header of too many variables
+    ("opb", b"* #variable= 1048577 #constraint= 0\n", "c refused: TooMany at line 1\ns UNSUPPORTED\n"),
+    # signs before numbers, and lines that end with CR LF
+    ("opb", b"min: +1 x1 +2 x2 ;\r\n+1 x1 +1 x2 >= +1 ;\r\n", "o 1\ns OPTIMUM FOUND\nv x1 -x2\n"),
+    # one of two
+    ("opb", b"min: 1 x1 1 x2 ;\n1 x1 1 x2 = 1 ;\n", "o 1\ns OPTIMUM FOUND\nv -x1 x2\n"),
+    # a header without a space
+    ("opb", b"*#variable=2\n-1 x1 >= 0 ;\n", "s SATISFIABLE\nv -x1 -x2\n"),
+    # a header that is not on the first line
+    ("opb", b"* note\n* #variable= 9 #constraint= 1\n1 x1 >= 1 ;\n", "s SATISFIABLE\nv x1\n"),
+    # the first of two faults
+    ("opb", b"1 x1 >= 1 ;\n1 x1 x2 >= 1 ; 1 x0\n", "c refused: NonLinear at line 2\ns UNSUPPORTED\n"),
+    # a relation that is none
+    ("opb", b"1 x1 > 1 ;\n", "c refused: Syntax at line 1\ns UNSUPPORTED\n"),
+    # a bound of forty digits
+    ("opb", b"1 x1 >= 9999999999999999999999999999999999999999 ;\n", "c refused: TooLarge at line 1\ns UNSUPPORTED\n"),
+    # a bound and a coefficient that 63 bits do not hold together
+    ("opb", b"1 x1 >= -9223372036854775807 ;\n", "s SATISFIABLE\nv -x1\n"),
+    # the least bound
+    ("opb", b"1 x1 >= -85070591730234615865843651857942052862 ;\n", "s SATISFIABLE\nv -x1\n"),
+    # one below the least bound
+    ("opb", b"1 x1 >= -85070591730234615865843651857942052863 ;\n", "c refused: TooLarge at line 1\ns UNSUPPORTED\n"),
+    # a bad variable before a sum that is too large
+    ("opb", b"85070591730234615865843651857942052863 x0 >= 1 ;\n", "c refused: BadVariable at line 1\ns UNSUPPORTED\n"),
+    # a clause set
+    ("cnf", b"p cnf 2 2\n1 2 0\n-1 2 0\n", "s SATISFIABLE\nv -1 2 0\n"),
+    # the empty clause
+    ("cnf", b"p cnf 1 1\n0\n", "s UNSATISFIABLE\n"),
+    # a cube of its own
+    ("icnf", b"p inccnf\n1 2 0\na 1 0\n", "s SATISFIABLE\nv -1 2 0\n"),
+    # a cube that contradicts itself, and empty cubes
+    ("icnf", b"p inccnf\n1 2 0\na 1 -1 0\na 0\na 0\n", "s SATISFIABLE\nv -1 2 0\n"),
+    # a clause after a cube
+    ("icnf", b"p inccnf\n1 0\na 1 0\n2 0\n", "c refused: ClauseAfterCube at line 4\ns UNSUPPORTED\n"),
+    # too few clauses
+    ("cnf", b"p cnf 1 2\n1 0\n", "c refused: TooFewClauses at line 2\ns UNSUPPORTED\n"),
+    # a line that ends the text
+    ("cnf", b"p cnf 1 1\n1 0\n%\n0\n", "s SATISFIABLE\nv 1 0\n"),
+    # too many clauses
+    ("cnf", b"p cnf 1 1\n1 0\n1 0\n", "c refused: TooManyClauses at line 3\ns UNSUPPORTED\n"),
+    # a clause that is open where a cube begins
+    ("icnf", b"p inccnf\n1 2\na 1 0\n", "c refused: Unfinished at line 2\ns UNSUPPORTED\n"),
+    # the empty text as CNF
+    ("cnf", b"", "c refused: BadHeader at line 1\ns UNSUPPORTED\n"),
+    # a variable of a cube alone
+    ("icnf", b"p inccnf\n1 0\na -3 0\n", "s SATISFIABLE\nv 1 -2 -3 0\n"),
+    # a clause over two lines and the empty cube
+    ("icnf", b"p inccnf\n1 2\n3 0\na 0\n", "s SATISFIABLE\nv -1 -2 3 0\n"),
+    # a clause that always holds, with a repeat
+    ("cnf", b"p cnf 3 1\n1 -1 2 2 0\n", "s SATISFIABLE\nv -1 -2 -3 0\n"),
+    # a zero with a sign is no end
+    ("cnf", b"p cnf 2 1\n-0\n", "c refused: Unfinished at line 2\ns UNSUPPORTED\n"),
+    # a zero with a sign before the end
+    ("cnf", b"p cnf 2 1\n-0 0\n", "c refused: Syntax at line 2\ns UNSUPPORTED\n"),
+]
+
+# The same with a file of cubes and a split, of which the text is refused first and the split last.
+DIVIDED = [
+    ("opb", COVER, b"a 1 0\na -1 -3 0\n", 0, COVERED),
+    ("opb", COVER, b"c a note\n\na 0\n%\na x\n", 2, COVERED),
+    ("opb", COVER, b"a 4 0\n", 0, "c refused cubes: BadVariable at line 1\ns UNSUPPORTED\n"),
+    ("opb", COVER, b"a 1 -2 0\n1 0\n", 0, "c refused cubes: Syntax at line 2\ns UNSUPPORTED\n"),
+    ("icnf", b"p inccnf\n1 -2 0\n", b"a -2 0\na 3 0\n", 0, "c refused cubes: BadVariable at line 2\ns UNSUPPORTED\n"),
+    ("opb", CONTRADICTION, b"", 2, BAD_SPLIT),
+    ("opb", b"1 x1 x2 >= 1 ;\n", b"a 9 0\n", 12, "c refused: NonLinear at line 1\ns UNSUPPORTED\n"),
+]
+
+# Texts whose report no division changes, and files of cubes to divide them by: none, an empty one, one cube, cubes that overlap,
+# a cube that contradicts itself beside an empty one, and one cube again and again.
+UNCHANGED = [
+    ("opb", COVER, COVERED),
+    ("opb", b"min: -2 x1 -2 x2 ;\n1 x1 1 x2 <= 1 ;\n", "o -2\ns OPTIMUM FOUND\nv -x1 x2\n"),
+    ("icnf", CLAUSE_AND_CUBE, "s SATISFIABLE\nv -1 2 0\n"),
+    ("cnf", b"p cnf 2 4\n1 2 0\n-1 2 0\n1 -2 0\n-1 -2 0\n", "s UNSATISFIABLE\n"),
+]
+CUBE_FILES = [
+    None,
+    b"",
+    b"a 1 0\n",
+    b"a -1 2 0\na 2 0\na 1 -2 0\n",
+    b"a 1 -1 0\na 0\n",
+    b"a -1 -2 0\na -1 -2 0\na -1 -2 0\n",
+]
+
+# Texts with the reports on their beginnings: each is that of the beginnings up to this length which are longer than those before.
+BEGINNINGS = [
+    (
+        "opb",
+        CONTRADICTION,
+        [
+            (0, "s SATISFIABLE\nv\n"),
+            (10, "c refused: Unfinished at line 1\ns UNSUPPORTED\n"),
+            (12, "s SATISFIABLE\nv x1\n"),
+            (21, "c refused: Unfinished at line 2\ns UNSUPPORTED\n"),
+            (23, "s UNSATISFIABLE\n"),
+        ],
+    ),
+    (
+        "icnf",
+        CLAUSE_AND_CUBE,
+        [
+            (7, "c refused: BadHeader at line 1\ns UNSUPPORTED\n"),
+            (9, "s SATISFIABLE\nv 0\n"),
+            (13, "c refused: Unfinished at line 2\ns UNSUPPORTED\n"),
+            (15, "s SATISFIABLE\nv -1 2 0\n"),
+            (19, "c refused: Unfinished at line 3\ns UNSUPPORTED\n"),
+            (21, "s SATISFIABLE\nv -1 2 0\n"),
+        ],
+    ),
+]
+
+# Texts that are spoiled, and a file of cubes that is, beside the cover.
+SPOILED = [("opb", COVER), ("cnf", b"p cnf 2 2\n1 2 0\n-1 2 0\n"), ("icnf", b"p inccnf\n1 2 0\na 1 -1 0\na 0\na 0\n")]
+SPOILED_CUBES = b"c -\na 1 -3 0\n\na 0\n%\na x\n"
+
+# Texts as large as the limits allow, and one beyond: a part, how often it is repeated, the end, and the report.
+LONG = [
+    # as many constraints as there may be, in one line
+    (b">=0;", 4_194_304, b"", "s SATISFIABLE\nv\n"),
+    # one constraint more
+    (b">=0;", 4_194_305, b"", "c refused: TooMany at line 1\ns UNSUPPORTED\n"),
+    # a coefficient of a million digits
+    (b"9", 1_000_000, b" x1 >= 1 ;", "c refused: TooLarge at line 1\ns UNSUPPORTED\n"),
+    # a million zeros before a coefficient
+    (b"0", 1_000_000, b"1 x1 >= 1 ;", "s SATISFIABLE\nv x1\n"),
+    # ten thousand variables of the header alone
+    (b"* #variable= 10000 #constraint= 0\n", 1, b"", "s SATISFIABLE\nv" + "".join(f" -x{i}" for i in range(1, 10_001)) + "\n"),
+]
+
+# Files of so many empty cubes beside the cover, with a split of so many variables: as many cubes as there may be, and one beyond.
+MANY_CUBES = [
+    (1_048_575, 0, COVERED),
+    (1_048_575, 1, "c refused cubes: TooMany\ns UNSUPPORTED\n"),
+    (1_048_576, 0, "c refused cubes: TooMany at line 1048576\ns UNSUPPORTED\n"),
+]

@@ -1,0 +1,208 @@
+#!/usr/bin/env python3
+"""Holds the pages of promises to the code, and prints what differs.
+
+    tests/promises.py [--write]
+
+In docs/PROMISES.md the last cell of a table that has the head Contract names functions, and after a colon their clauses; the heading
+above it names their crates. Each function must be there and have each clause. What that page and
+docs/PLANTING.md name without quotes, as tie_prefers_one, must be a clause, a test, a must-fail edit or a plant. The function that is
+to refuse an edit must be in its crate. docs/EDITS.md lists all edits, tests and plants; it must be what --write writes there.
+"""
+import re
+import sys
+from dataclasses import dataclass, field
+from functools import cache
+from itertools import groupby
+from pathlib import Path
+
+sys.dont_write_bytecode = True
+from lib import TOP
+
+CRATES = TOP / "crates"
+PLANTS = TOP / "tests/plants"
+EDITS, PROMISES, PLANTING = (TOP / f"docs/{name}.md" for name in ("EDITS", "PROMISES", "PLANTING"))
+FUNCTION = re.compile(r'\s*(?:pub(?:\(\w+\))? )?(?:const )?(?:extern "C" )?fn (\w+)')
+CLAUSE = re.compile(r"\s*ensures\s*(\w*)\s*\{")
+TEST = re.compile(r"#\[test\]\s+(?:#\[.*\]\s+)*(?:pub )?fn (\w+)")
+HEAD = """# Edits, tests and plants
+
+`tests/promises.py --write` writes this page. [PROMISES.md](PROMISES.md) has the promises, [PLANTING.md](PLANTING.md) tells of plants.
+
+## Must-fail edits
+
+An edit is a wrong body, `crates/CRATE/must-fail/EDIT.edit`. In the gate the prover must refuse each, in the function behind it. By
+which clause, its first line tells.
+
+"""
+TESTS = """
+## Tests
+
+The gate runs each.
+
+"""
+BUGS = """
+## Plants
+
+`tests/plants/LIST/PLANT.plant`, which no contract refuses.
+
+"""
+
+
+@dataclass
+class Code:
+    """What a crate has: the clauses of each function, by its name, and behind that of its type, or else folder; types with an
+    invariant; tests by file."""
+
+    clauses: dict = field(default_factory=dict)
+    invariants: set = field(default_factory=set)
+    tests: dict = field(default_factory=dict)
+
+    def read(self, path):
+        text, owner, names = path.read_text(), "", []
+        for line in text.splitlines():
+            if re.match(r"(unsafe )?impl\b|(pub )?trait\b", line):
+                owner = owner_of(line)
+            elif line.startswith("}"):
+                owner = ""
+            elif found := FUNCTION.match(line):
+                names = [found[1], f"{owner or path.parent.name}::{found[1]}"]
+                for name in names:
+                    self.clauses.setdefault(name, set())
+            elif found := CLAUSE.match(line):
+                for name in names:
+                    self.clauses[name].add(found[1])
+            elif "ghost invariant" in line:
+                self.invariants.add(owner)
+        if tests := TEST.findall(text):
+            self.tests[path.stem] = tests
+
+
+@dataclass(frozen=True)
+class Edit:
+    """A wrong body: the function that is to refuse it, and by what."""
+
+    crate: str
+    name: str
+    function: str
+    by: str
+
+
+def owner_of(line):
+    """The type or trait that the line begins to write out, without its parameters."""
+    name = re.sub(r"^(pub )?(unsafe )?(impl|trait)", "", line)
+    while (shorter := re.sub(r"<[^<>]*>", "", name)) != name:
+        name = shorter
+    return re.findall(r"\w+", name.split(" for ")[-1])[0]
+
+
+@cache
+def code_of(crate):
+    code = Code()
+    for path in sorted((CRATES / crate / "src").rglob("*.rt")):
+        code.read(path)
+    return code
+
+
+def crates():
+    return sorted(it.name for it in CRATES.iterdir() if (it / "src").exists())
+
+
+def edits():
+    for path in sorted(CRATES.glob("*/must-fail/*.edit")):
+        first = path.read_text().split("\n")[0]
+        function, _, by = first.removeprefix("# refused by: ").partition(", ")
+        yield Edit(path.parts[-3], path.stem, function, by)
+
+
+def plants():
+    """The file of each plant, with its crate and its guard."""
+    for path in sorted(PLANTS.glob("*/*.plant")):
+        said = dict(line.partition(": ")[::2] for line in path.read_text().splitlines())
+        yield path, said["crate"], said["guard"]
+
+
+def listed():
+    """What docs/EDITS.md has to be."""
+    wrong = in_lists((it.crate, f"{it.name} (`{it.function}`)") for it in edits())
+    tests = in_lists((crate, name) for crate in crates() for names in code_of(crate).tests.values() for name in names)
+    bugs = in_lists((path.parent.name, path.stem) for path, _, _ in plants())
+    return "".join((HEAD, *wrong, TESTS, *tests, BUGS, *bugs))
+
+
+def in_lists(named):
+    """A line for each list, with its names, which come list by list."""
+    for title, pairs in groupby(named, key=lambda pair: pair[0]):
+        yield f"- `{title}`: {', '.join(name for _, name in pairs)}\n"
+
+
+def misled_edits():
+    """Edits whose first line tells no function of their crate."""
+    for edit in edits():
+        if not edit.by or edit.function not in code_of(edit.crate).clauses:
+            yield f"crates/{edit.crate}/must-fail/{edit.name}.edit: its first line names no function of the crate and what refuses it"
+
+
+def contracts():
+    """For each row of a table of promises: the crates of its section, and the cell that names its contracts."""
+    section, is_table = [], False
+    for line in PROMISES.read_text().splitlines():
+        if line.startswith("#"):
+            section = [it for it in re.findall(r"`(\w+)`", line) if (CRATES / it).exists()]
+        if not line.startswith("|"):
+            is_table = False
+        elif line.endswith("| Contract |"):
+            is_table = True
+        elif is_table and not line.startswith("|--"):
+            yield section, line.split("|")[-2].strip()
+
+
+def broken_contracts():
+    """What a cell names and the crates of its section do not have."""
+    for section, cell in contracts():
+        for part in cell.split("; "):
+            names, _, clauses = part.partition(": ")
+            for name in re.findall(r"`([\w:]+)`", names):
+                yield from broken(section, name, clauses.split(", ") if clauses else [], names.startswith("invariant of "))
+
+
+def broken(section, name, clauses, is_type):
+    where = f"docs/PROMISES.md: {name} of {', '.join(section) or 'no crate'}"
+    if is_type:
+        if not any(name in code_of(crate).invariants for crate in section):
+            yield f"{where}: there is no such type with an invariant"
+        return
+    crate, _, rest = name.partition("::")
+    if crate in section:
+        section, name = [crate], rest
+    found = [code_of(it).clauses[name] for it in section if name in code_of(it).clauses]
+    if not any(found):
+        yield f"{where}: there is no such function with a contract"
+    elif missing := [it for it in clauses if not any(it in contract for contract in found)]:
+        yield f"{where}: it has no clause {', '.join(missing)}"
+
+
+def unknown_names():
+    """Names without quotes on the pages that nothing has, and files that are not there."""
+    known = {it.name for it in edits()} | {path.stem for path, _, _ in plants()}
+    for crate in crates():
+        code = code_of(crate)
+        known.update(*code.tests.values(), *code.clauses.values())
+    for page in (PROMISES, PLANTING):
+        text = page.read_text()
+        files = [it for it in re.findall(r"`((?:tests|bindings)/[a-z_./]+)`", text) if not (TOP / it).exists()]
+        names = re.findall(r"\b[a-z]\w*_\w+", re.sub(r"`[^`]*`|\(\S+\)|(?m:^ {4}.*$)", "", text))
+        for name in sorted({*files, *names} - known):
+            yield f"docs/{page.name}: nothing has the name {name}"
+
+
+def main(words):
+    if words == ["--write"]:
+        EDITS.write_text(listed())
+    stale = [] if EDITS.exists() and EDITS.read_text() == listed() else ["docs/EDITS.md is not as it is written by --write"]
+    faults = [*stale, *misled_edits(), *broken_contracts(), *unknown_names()]
+    print(*[f"promises: {it}" for it in faults], f"promises: {len(list(contracts()))} held to the code, {len(faults)} faults", sep="\n")
+    return 1 if faults else 0
+
+
+if __name__ == "__main__":
+    sys.exit(main(sys.argv[1:]))

@@ -1,0 +1,106 @@
+#!/usr/bin/env python3
+"""Runs the built program with budgets of decisions on small random instances, and judges each report by a listing of all
+assignments.
+
+    tests/runs/budgets.py [PROGRAM ..]
+
+Without a word it takes the programs that the merge gate built. Each instance is run without a budget, with each budget from 0
+to 20, and with some of them in pieces and with two workers. The numbers of some are too great for 64 bits. `s OPTIMUM FOUND` and
+`s UNSATISFIABLE` must be the whole answer; with `s SATISFIABLE` the values must be feasible and the `o` line their cost; `s UNKNOWN`
+stands alone. With one worker a greater budget never does worse, and once it is enough it stays so.
+"""
+import sys
+import tempfile
+from concurrent.futures import ThreadPoolExecutor
+from pathlib import Path
+
+sys.dont_write_bytecode = True
+sys.path.insert(0, str(Path(__file__).resolve().parents[1]))
+from lib import PROCESSORS, STATUSES, built, ran
+from lib.draws import instances
+
+INSTANCES = 300
+BUDGETS = range(21)
+AMPLE = 1000  # more than any of these instances needs
+UNKNOWN = "s UNKNOWN\n"
+
+
+def found(instance, report):
+    """The values of a report that tells some, and its cost; none where it is not of that form."""
+    lines = report.split("\n")
+    costs = [line for line in lines if line.startswith("o ")]
+    words = lines[-2].split()[1:]
+    if instance.is_cnf:
+        words = words[:-1]
+    values = tuple(not word.startswith("-") for word in words)
+    expected = [*costs, "s SATISFIABLE", lines[-2], ""]
+    if lines != expected or len(values) != instance.variables or len(costs) != (instance.objective is not None):
+        return None
+    return values, int(costs[0][2:]) if costs else 0
+
+
+def complaint(instance, whole, report, status):
+    """What is wrong with a report of a run with a budget, where anything is."""
+    if report == UNKNOWN:
+        return None if status == 0 else f"status {status}"
+    named = next((line for line in report.splitlines() if line in STATUSES), None)
+    if named is None or status != STATUSES[named]:
+        return f"no report, or status {status}"
+    if named != "s SATISFIABLE":
+        return None if report == whole else "it is not the whole answer"
+    told = found(instance, report)
+    if told is None or not instance.is_feasible(told[0]) or told[1] != instance.cost(told[0]):
+        return "the values are not feasible, or not of this cost"
+    return None
+
+
+def rank(instance, whole, report):
+    """How far a report is from the whole answer."""
+    if report == whole:
+        return (0, 0)
+    if report == UNKNOWN:
+        return (2, 0)
+    told = found(instance, report)
+    return (1, told[1] if told else 0)
+
+
+def judged(program, folder, number, instance):
+    """How many runs there were on the instance, and what was wrong with them."""
+    file = folder / f"{Path(program).name}_{number}.{instance.format}"
+    file.write_text(instance.text())
+
+    def run(*words):
+        return ran([program, "--format", instance.format, *words, file])
+
+    whole = instance.report()
+    wrong = [] if run().out == whole else [("without a budget", "it is not the whole answer")]
+    ranks = []
+    divisions = [(budget, 1, 0) for budget in [*BUDGETS, AMPLE]] + [(budget, workers, 1) for budget in (0, 2, 5, AMPLE) for workers in (1, 2)]
+    for budget, workers, split in divisions:
+        words = f"--nodes {budget} --workers {workers} --split {split}"
+        ended = run(*words.split())
+        said = complaint(instance, whole, ended.out, ended.status)
+        if said or (budget == AMPLE and ended.out != whole):
+            wrong.append((words, said or "the budget is enough"))
+        elif split == 0:
+            ranks.append(rank(instance, whole, ended.out))
+    if ranks != sorted(ranks, reverse=True):
+        wrong.append(("budgets in turn", "a greater one does worse"))
+    return len(divisions) + 1, [f"{what}: {why}\n{instance.text()}" for what, why in wrong]
+
+
+def main(programs):
+    runs, failed = 0, 0
+    with tempfile.TemporaryDirectory() as folder, ThreadPoolExecutor(PROCESSORS) as pool:
+        jobs = [pool.submit(judged, it, Path(folder), i, instance) for it in programs or built() for i, instance in enumerate(instances(INSTANCES))]
+        for job in jobs:
+            count, wrong = job.result()
+            runs, failed = runs + count, failed + len(wrong)
+            for text in wrong:
+                print(f"budgets: {text}")
+    print(f"budgets: {runs} runs on {INSTANCES} instances, {failed} failed")
+    return 1 if failed else 0
+
+
+if __name__ == "__main__":
+    sys.exit(main(sys.argv[1:]))

@@ -1,0 +1,427 @@
+#!/usr/bin/env python3
+"""Runs the clients of examples/clients/ with the built program, and prints where an answer is not what it should be.
+
+    tests/runs/clients.py [PROGRAM]
+
+Random models in CPLEX's LP format, in PuLP and in MiniZinc are solved by pbcube and by listing all values; some of PuLP's also by its
+CBC, and worked models of MiniZinc also by its Gecode. The commands of docs/CLIENTS.md must write what the `.expected` file beside
+their model has. PuLP, MiniZinc and mccs are tried where they are installed; a line says what is left out.
+"""
+import os
+import random
+import re
+import runpy
+import shutil
+import subprocess
+import sys
+import tempfile
+import time
+from fractions import Fraction
+from pathlib import Path
+
+sys.dont_write_bytecode = True
+sys.path.insert(0, str(Path(__file__).resolve().parents[1]))
+from lib import SECONDS, TOP, Ended, program, ran, side_by_side
+from lib.client_models import Sum, decimal, drawn, lp_text, minizinc_text, whole
+
+CLIENTS = TOP / "examples/clients"
+sys.path.insert(0, str(CLIENTS))
+from pbcube_model import GREATEST_SUM, Model, Row
+from pbcube_program import NoAnswer, Program, Status
+
+lp_model_of = runpy.run_path(str(CLIENTS / "pbcube-lp"))["model_of"]
+MODELS = 150  # that take a few milliseconds each
+COMPILED = 4  # that take most of a second each
+MODEL = r"examples/clients/\w+\.(?:py|mzn|cudf|lp)\b"  # of a command
+CBC_STEP = 10  # of so many PuLP models one is given to CBC
+ODD_NAMES = ("x", "y1", "#2", "z(1,2)", "it's", "e_", "a;b", "_", 'é|"', "end.", "$&~", "free!")
+NAMES = ("a", "b", "c", "d", "e", "f")
+
+
+# ---- CPLEX's LP format
+
+
+def differences(found, answer):
+    """How the answer of a client differs from what a listing found."""
+    status = Status.UNSATISFIABLE if found is None else Status.SATISFIABLE if found[1] is None else Status.OPTIMUM
+    values, objective = found or ({}, None)
+    if (answer.status, answer.objective, dict(answer.values)) != (status, objective, values):
+        return f"{answer} and not {status} {objective} {values}"
+    return ""
+
+
+def random_lp_faults(path):
+    for number in range(MODELS):
+        problem = drawn(number, decimal, ODD_NAMES, ("<=", "=", ">="), has_repeats=True)
+        text = lp_text(problem, random.Random(number))
+        order = list(dict.fromkeys(word for word in text.split() if word in problem.bounds))
+        yield f"LP text {number}", differences(problem.best(order), lp_model_of(text).solve(Program(path)))
+
+
+LP_ANSWERS = {  # worked texts, each with its values and its objective
+    "Max\n - - 2 x - - + y + 0.5\nst\n x + - - y <= 1\nBinary\n x y": ({"x": 1, "y": 0}, Fraction(5, 2)),
+    "Min\n x - y\nBounds\n -3 <= x <= 4\n y <= 9\nBinary\n x y\nEnd\n [ what follows": ({"x": 0, "y": 1}, Fraction(-1)),
+    "max\n x\nbounds\n x <= 0.5\nbin\n x": ({"x": 0}, Fraction(0)),
+    "Minimize\n obj:\nSubject To\n st: x +\n 2 max = 3\nBounds\n 1 >= max\nGenerals\n x max\nBinary\n x max": ({"x": 1, "max": 1}, None),
+    "Min\n obj: 3\nst\n c: 0 x >= 0 d: x <= 1\nBounds\n x = -2": ({"x": -2}, Fraction(3)),
+}
+LP_ROWS = {  # what is told of texts that are refused
+    "Minimize\n x\nEnd": "line 2: x is continuous, and pbcube has integers alone",
+    "Min\n x\nGenerals\n x\nEnd": "line 2: x has no finite upper bound",
+    "Min\n x\nBounds\n x free\nGeneral\n x": "line 2: x has no finite lower bound",
+    "Min\n x\nBounds\n -inf <= x <= 3\nGeneral\n x": "line 2: x has no finite lower bound",
+    "Min\n x\nBounds\n x <= 1e20\nGeneral\n x": "line 2: x has no finite upper bound",
+    "Min\n x\nBounds\n x = 1.5": "line 2: x is continuous, and pbcube has integers alone",
+    "Min\n x\nst\n x + y >= 1\nBinary\n x": "line 4: y is continuous, and pbcube has integers alone",
+    "Min\n obj: x + [ x^2 ] / 2\nBinary\n x": "line 2: [ stands where there should be a name",
+    "Min\n x\nst\n c: x * y >= 1\nBinary\n x y": "line 4: * stands where there should be a relation",
+    "Min\n x\nst\n c: b = 1 -> x >= 1\nBinary\n x b": "line 4: -> stands where there should be a label",
+    "Min\n x\nst\n 1 <= x\nBinary\n x": "line 4: x stands where there should be a number",
+    "Min\n x\nst\n x >= 1 <= 2\nBinary\n x": "line 4: <= stands where there should be a label",
+    "Min\n x\nst\n x >= 3 + y <= 5\nBinary\n x y": "line 4: + stands where there should be a label",
+    "Min\n x\nst\n x + >= 1\nBinary\n x": "line 4: >= stands where there should be a name",
+    "Min\n x\nst\n x + 1\nBinary\n x": "line 4: the section's end stands where there should be a relation",
+    "Min\n x y\nBinary\n x y": "line 2: y stands where there should be a sign",
+    "Min\n x\nBounds\n x\nBinary\n x": "line 4: the section's end stands where there should be a relation",
+    "Min\n x\nBinary\n x\nSOS2\n s: x:1": "line 5: SOS2 cannot be told to pbcube",
+    "Min\n x\nBinary\n x\nSemi-Continuous\n y": "line 5: Semi-Continuous cannot be told to pbcube",
+    "Min\n x\nGeneral Constraints\n": "line 3: General Constraints cannot be told to pbcube",
+    "Min\n x\nMax\n x\nBinary\n x": "line 3: Max cannot be told to pbcube",
+    "\n x >= 1\nMin\n x": "line 2: x cannot be told to pbcube",
+    "Min\n 1e9999 x\nBinary\n x": "line 2: 1e9999 is no number that can be taken exactly",
+    f"Min\n x\nst\n x >= {GREATEST_SUM}\nBinary\n x": "line 4: the numbers add up to more than 2^126 - 1 once they are whole",
+    f"Min\n {GREATEST_SUM} x + 0.5 y\nBinary\n x y": "the objective: the numbers add up to more than 2^126 - 1 once they are whole",
+}
+
+
+def lp_faults(path):
+    """The worked texts, and what is told of each that is refused."""
+    for text, found in LP_ANSWERS.items():
+        yield f"LP text {text!r}", differences(found, lp_model_of(text).solve(Program(path)))
+    for text, told in LP_ROWS.items():
+        said = no_answer(lambda: lp_model_of(text).opb())
+        yield f"LP text {text!r}", "" if said == told else f"told {said!r}"
+
+
+def word_faults(path, room):
+    """pbcube-lp with options, and where there is no answer: one line on standard error, and status 1."""
+    file, refused, bytes_ = CLIENTS / "mixture.lp", room / "refused.lp", room / "bytes.lp"
+    refused.write_text("Min\n x\n")
+    bytes_.write_bytes(b"Min\n \xff\n")
+    expected, here = file.with_suffix(".expected").read_text(), f"pbcube-lp: {file}: "
+    rows = {
+        ("--workers", "3", "--split", "2", file): Ended(expected, "", 30),
+        ("-p", "2", "--nodes", "1000", file): Ended(expected, "", 30),
+        ("--nodes", "0", file): Ended("s UNKNOWN\n", "", 0),
+        ("--split", "13", file): Ended("", f"{here}{path}: error: invalid value '13' for '--split <K>': 13 is not in 0..=12\n", 1),
+        ("--program", "/no/pbcube", file): Ended("", f"{here}cannot run /no/pbcube: No such file or directory\n", 1),
+        (refused,): Ended("", f"pbcube-lp: {refused}: line 2: x is continuous, and pbcube has integers alone\n", 1),
+        (bytes_,): Ended("", f"pbcube-lp: {bytes_}: 'utf-8' codec can't decode byte 0xff in position 5: invalid start byte\n", 1),
+        ("/no/file.lp",): Ended("", "pbcube-lp: /no/file.lp: [Errno 2] No such file or directory: '/no/file.lp'\n", 1),
+    }
+    ends = side_by_side(lambda words: ran([CLIENTS / "pbcube-lp", "--program", path, *words]), rows)
+    for (words, expected), end in zip(rows.items(), ends):
+        yield f"pbcube-lp {words}", "" if end == expected else f"{end} and not {expected}"
+
+
+def stopped_fault(room):
+    """Where pbcube goes on when pbcube-lp, which waits for it, is told to end."""
+    sleeper, number = room / "sleeper", room / "number"
+    sleeper.write_text(f"#!/bin/sh\ncat > /dev/null\necho $$ > {number}.new\nmv {number}.new {number}\nexec sleep {SECONDS}\n")
+    sleeper.chmod(0o755)
+    with subprocess.Popen([CLIENTS / "pbcube-lp", "--program", sleeper, CLIENTS / "mixture.lp"]) as process:
+        while not number.exists() and process.poll() is None:
+            time.sleep(0.01)
+        process.terminate()
+    goes_on = Path(f"/proc/{number.read_text().strip()}").exists()
+    return "" if process.returncode == 143 and not goes_on else f"status {process.returncode}, and the program goes on: {goes_on}"
+
+
+# ---- what the clients share
+
+
+def shared_faults(path, room):
+    model = Model()
+    model.integer("x", -3, 2)
+    model.rows.append(Row("half", [(Fraction(1, 2), "x"), (Fraction(1, 3), "x")], "<=", Fraction(7, 4)))
+    text = "* #variable= 3 #constraint= 2\n4 x1 2 x2 1 x3 <= 5 ;\n24 x1 12 x2 6 x3 16 x1 8 x2 4 x3 <= 51 ;\n"
+    yield "shared: OPB", "" if model.opb() == text else repr(model.opb())
+    greatest = Model()
+    greatest.integer("y", 0, 1)
+    greatest.rows.append(Row("great", [(Fraction(GREATEST_SUM - 2), "y")], ">=", Fraction(2)))
+    yield "shared: the greatest numbers", differences(({"y": 1}, None), greatest.solve(Program(path)))
+    lies = {"v -x1 x2 x3": "", "v x1 x2 -x3": "bounds of x: the values that {} wrote break it", "c refused: Memory": "{}: refused: Memory"}
+    for line, told in lies.items():
+        liar = room / "liar"
+        liar.write_text(f"#!/bin/sh\ncat > /dev/null\necho 's SATISFIABLE'\necho '{line}'\n")
+        liar.chmod(0o755)
+        said = no_answer(lambda: model.solve(Program(str(liar))))
+        yield f"shared: a program that writes {line}", "" if said == told.format(liar) else f"told {said!r}"
+    killed = no_answer(lambda: model.solve(Program("/bin/false")))
+    yield "shared: a program without a report", "" if killed == "/bin/false: no report, status 1" else f"told {killed!r}"
+    twice = no_answer(lambda: model.integer("x", 0, 1))
+    yield "shared: a name that is taken", "" if twice == "two variables are named x" else f"told {twice!r}"
+    empty = Model()
+    empty.integer("x", 2, 1)
+    yield "shared: bounds without a number", differences(None, empty.solve(Program(path)))
+
+
+def no_answer(work):
+    """What is told where there is no answer."""
+    try:
+        work()
+    except NoAnswer as fault:
+        return str(fault)
+    return ""
+
+
+# ---- PuLP, in a Python that has it
+
+
+def pulp_faults(path):
+    import pulp
+    from pbcube_pulp import PBCUBE
+
+    solver, cbc = PBCUBE(path), pulp.COIN_CMD(msg=False)
+    for number in range(MODELS):
+        problem = drawn(number, decimal, NAMES, ("<=", "=", ">="), has_repeats=False)
+        lp = pulp_problem(pulp, problem)
+        lp.solve(solver)
+        named = [it.name for it in lp.variables() if it.name != "__dummy"]  # PuLP drops what only a 0 stands before
+        found = problem.best([*named, *(name for name in problem.bounds if name not in named)])
+        yield f"PuLP {number}", pulp_difference(lp, found, solver.answer)
+        with tempfile.NamedTemporaryFile("r", suffix=".lp") as text:
+            lp.writeLP(text.name)
+            answer = lp_model_of(text.read()).solve(Program(path))
+        objective = found and found[1] and found[1] - Fraction(problem.objective[0].constant)  # PuLP writes no constant
+        is_same = (answer.status is Status.UNSATISFIABLE) == (found is None) and (answer.objective or 0) == (objective or 0)
+        yield f"PuLP {number} by its LP text", "" if is_same else f"{answer} and not {objective}"
+        if number % CBC_STEP == 0 and cbc.available():
+            lp.solve(cbc)
+            told = lp.status, round((lp.objective and lp.objective.value()) or 0, 6) if found else 0
+            expected = (1, float(found[1] or 0)) if found else (-1, 0)
+            yield f"PuLP {number} by CBC", "" if told == expected else f"{told} and not {expected}"
+    yield from pulp_messages(pulp, PBCUBE, path)
+
+
+def pulp_problem(pulp, problem):
+    lp = pulp.LpProblem("drawn", pulp.LpMaximize if problem.objective and problem.objective[1] == -1 else pulp.LpMinimize)
+    kinds = {name: "Binary" if it == (0, 1) else "Integer" for name, it in problem.bounds.items()}
+    variables = {name: pulp.LpVariable(name, *it, kinds[name]) for name, it in problem.bounds.items()}
+
+    def expression(total):
+        return pulp.lpSum(float(text) * variables[name] for text, name in total.terms) + float(total.constant)
+
+    if problem.objective:
+        lp += expression(problem.objective[0])
+    for total, relation, bound in problem.rows:
+        sense = {"<=": pulp.LpConstraintLE, "=": pulp.LpConstraintEQ, ">=": pulp.LpConstraintGE}[relation]
+        lp += pulp.LpConstraint(expression(total), sense, rhs=float(bound))
+    return lp
+
+
+def pulp_difference(lp, found, answer):
+    """How PuLP's statuses and values, or the answer with its fraction, differ from what a listing found."""
+    values = {it.name: it.value() for it in lp.variables() if it.name != "__dummy"}
+    expected = (1, 1, {name: found[0][name] for name in values}) if found else (-1, -1, dict.fromkeys(values))
+    if (lp.status, lp.sol_status, values) != expected:
+        return f"{lp.status} {lp.sol_status} {values} and not {expected}"
+    is_constant = all(it.name == "__dummy" for it in lp.objective or ())  # then PuLP hands over none
+    objective = found[1] if found and not is_constant else None
+    return "" if answer.objective == objective else f"{answer.objective} and not {objective}"
+
+
+def pulp_messages(pulp, solver, path):
+    """What is refused, and what a budget leaves."""
+    continuous, free, whole = pulp.LpVariable("c", 0, 1), pulp.LpVariable("f", 0, cat="Integer"), pulp.LpVariable("w", 0, 3, "Integer")
+    rows = (
+        (continuous, path, "variable c is continuous, and pbcube has integers alone"),
+        (free, path, "variable f has no finite upper bound"),
+        (float("nan") * whole, path, "constraint _C1: nan is no number that can be taken exactly"),
+        (2.0**200 * whole, path, "constraint _C1: the numbers add up to more than 2^126 - 1 once they are whole"),
+        (whole, "/no/pbcube", "cannot run /no/pbcube: No such file or directory"),
+    )
+    for expression, called, told in rows:
+        lp = pulp.LpProblem("refused")
+        lp += expression >= 1
+        try:
+            said = lp.solve(solver(called))
+        except pulp.PulpSolverError as fault:
+            said = str(fault)
+        yield f"PuLP: {told}", "" if said == told else f"told {said!r}"
+    lp = pulp.LpProblem("cut", pulp.LpMaximize)
+    lp += whole
+    lp += 2 * whole <= 5
+    told = [(lp.solve(it), lp.sol_status, whole.value()) for it in (solver(path), solver(path, nodes=0))]
+    yield "PuLP: a budget", "" if told == [(1, 1, 2), (0, 0, None)] else str(told)
+    yield "PuLP: available", "" if solver(path).copy().available() and not solver("/no/pbcube").available() else "it is not told"
+
+
+# ---- MiniZinc
+
+
+FLATZINC = """% what MiniZinc folds away, or other versions may write
+predicate odd(var int: x);
+array [1..3] of int: weights = [2, -1, 3]; int: least = 4; set of int: few = 1..3; array [1..2] of float: floats = [1.5, 2.0];
+var 0..5: x :: output_var;
+var -2..2: y :: output_var :: is_defined_var; var bool: b :: output_var; var 0..1: n; var 0..9: z :: output_var = x;
+array [1..4] of var int: cells :: output_array([1..2, 0..1]) = [x, y, 7, n]; array [1..2] of var bool: flags :: output_array([1..2]) = [b, true];
+constraint int_lin_le(weights, [x, y, 1], 12) :: domain; constraint int_le(least, cells[1]); constraint int_eq(cells[2], -1);
+constraint bool2int(b, n); constraint bool_eq(b, true);
+solve :: int_search([x, y], first_fail, indomain_min, complete) maximize x;
+"""
+FLATZINC_ANSWER = """x = 4;
+y = -1;
+b = true;
+z = 4;
+cells = array2d(1..2,0..1,[4,-1,7,1]);
+flags = array1d(1..2,[true,true]);
+----------
+==========
+"""
+FLATZINC_FAULTS = {
+    "var 0..4: x;\nconstraint int_times(x, x, x); solve satisfy;": "line 2: the constraint int_times cannot be told to pbcube",
+    "var {1, 3}: x; solve satisfy;": "line 1: x is of type { 1 , 3 }, and pbcube has integers between bounds",
+    "var 0..4: x; constraint int_le(y, x); solve satisfy;": "line 1: y stands where there should be an integer or a variable",
+    "var int: x;": "line 1: x has no finite lower bound",
+}
+
+
+def flatzinc_faults(path, room):
+    """Texts in FlatZinc, without MiniZinc."""
+    rows = {FLATZINC: Ended(FLATZINC_ANSWER, "", 0)}
+    rows |= {text: Ended("=====ERROR=====\n", f"fzn-pbcube: {told}\n", 1) for text, told in FLATZINC_FAULTS.items()}
+    files = {room / f"{number}.fzn": text for number, text in enumerate(rows)}
+    for file, text in files.items():
+        file.write_text(text)
+    ends = side_by_side(lambda file: ran([CLIENTS / "fzn-pbcube", "--program", path, file]), files)
+    for (text, expected), end in zip(rows.items(), ends):
+        yield f"FlatZinc {text!r}", "" if end == expected else f"{end} and not {expected}"
+
+
+WORKED = (  # models without ties, so that both solvers write the same
+    'var 0..9: x; var 0..9: y; constraint 3*x + 2*y <= 17; constraint x != y; solve maximize 5*x + 3*y;\noutput ["\\(5*x+3*y)"];',
+    "var 1..3: x; var 1..3: y; constraint x * y = 5; solve satisfy;",
+    "array[1..5] of var 1..5: c; constraint forall(i in 1..4)(c[i] != c[i+1]) /\\ c[1] != c[5];\n"
+    'solve minimize max(c); output ["\\(max(c))"];',
+    "array[1..4] of int: t = [5, -2, 7, 1]; var 1..4: i; var bool: b; var set of 1..3: s; constraint b -> t[i] < 2;\n"
+    'constraint card(s) = i; constraint (1 in s) xor b; solve maximize 3*t[i] + 20*bool2int(b) - sum(s); output ["\\(t[i]) \\(b) \\(s)"];',
+    "array[0..1, 1..2] of var bool: m; var -4..4: w; constraint sum(m) = 3 /\\ not m[0,1] /\\ abs(w) >= 3 /\\ w mod 2 = 0;\n"
+    'solve minimize w; output ["\\(m) \\(w)"];',
+    "int: k = 3; var 3..3: x; array[1..2] of var 0..2: a; constraint a[1] = 2; solve minimize k + x - a[2];\n"
+    'output ["\\(k) \\(x) \\(a)"];',
+)
+MINIZINC_FAULTS = {
+    "var int: x; constraint x > 3; solve minimize x;": "line 1: x has no finite lower bound",
+    "var 0.0..5.0: x; constraint x >= 2.5; solve minimize x;": "line 1: x is of type 2.5 .. 5.0, and pbcube has integers between bounds",
+    "var 0..4: x; predicate odd(var int: x); constraint odd(x); solve satisfy;": "line 3: the constraint odd cannot be told to pbcube",
+}
+
+
+def solved_by(solver, text, *words):
+    environment = {**os.environ, "MZN_SOLVER_PATH": str(CLIENTS)}
+    with tempfile.NamedTemporaryFile("w", suffix=".mzn") as model:
+        model.write(text)
+        model.flush()
+        return ran(["minizinc", "--solver", solver, *words, model.name], env=environment)
+
+
+def minizinc_difference(problem, end):
+    """How what MiniZinc wrote differs from what a listing finds: a problem may have several best values."""
+    found = problem.best(list(problem.bounds))
+    ending = "=====UNSATISFIABLE=====\n" if found is None else "\n----------\n" + ("==========\n" if problem.objective else "")
+    if not end.out.endswith(ending):
+        return str(end)
+    values = {name: int(value) for name, value in (word.split("=") for word in end.out.removesuffix(ending).split())}
+    total, _ = problem.objective or (Sum(()), 1)
+    is_right = found is None or (problem.is_met(values) and total.value(values) == total.value(found[0]))
+    return "" if is_right else f"{values} and not {found}"
+
+
+def minizinc_faults(path):
+    called = ("--program", path)
+    problems = [drawn(number, whole, NAMES, ("<=", "=", ">=", "!="), has_repeats=True) for number in range(COMPILED)]
+    ends = side_by_side(lambda it: solved_by("pbcube", minizinc_text(it), *called, "-p", "2", "--split", "1"), problems)
+    for number, (problem, end) in enumerate(zip(problems, ends)):
+        yield f"MiniZinc {number}", minizinc_difference(problem, end)
+    worked = WORKED if shutil.which("fzn-gecode") else ()
+    solvers = [("pbcube", text, *called) for text in worked] + [("gecode", text) for text in worked]
+    ends = side_by_side(lambda it: solved_by(*it).out, solvers)
+    for text, ours, theirs in zip(worked, ends, ends[len(worked) :]):
+        yield f"MiniZinc {text}", "" if ours == theirs else f"{ours!r} and by Gecode {theirs!r}"
+    ends = side_by_side(lambda it: solved_by("pbcube", it, *called), MINIZINC_FAULTS)
+    for (text, told), end in zip(MINIZINC_FAULTS.items(), ends):
+        is_told = f"fzn-pbcube: {told}\n" in end.err and end.out == "=====ERROR=====\n"
+        yield f"MiniZinc {text}", "" if is_told else str(end)
+    cut = solved_by("pbcube", WORKED[0], *called, "--nodes", "0").out
+    yield "MiniZinc, a budget", "" if cut == "=====UNKNOWN=====\n" else repr(cut)
+
+
+# ---- the page's commands
+
+
+def commands():
+    """The commands of docs/CLIENTS.md that have a model of examples/clients/."""
+    page = (TOP / "docs/CLIENTS.md").read_text()
+    return re.findall(rf"^    (.*{MODEL}.*)$", page, re.M)
+
+
+def command_faults(path, room, python):
+    """Each command in the repository, with the program on the path, where its client is installed."""
+    for name, target in (("pbcube", path), ("python3", python or sys.executable)):
+        (room / name).symlink_to(target)
+    environment = {**os.environ, "PATH": f"{room}:{os.environ['PATH']}"}
+    for command in commands():
+        model = re.search(MODEL, command)[0]
+        if is_here(command, python):
+            end = ran(["bash", "-c", command], cwd=TOP, env=environment)
+            yield command, "" if (end.out, end.err) == ((TOP / model).with_suffix(".expected").read_text(), "") else str(end)
+
+
+def is_here(command, python):
+    """Whether the client that the command calls is installed."""
+    needs = {".py": python, ".mzn": shutil.which("minizinc"), ".cudf": shutil.which("mccs"), ".lp": sys.executable}
+    return any(ending in command and found for ending, found in needs.items())
+
+
+def python_with_pulp():
+    """This Python or the system's, where it has PuLP."""
+    for python in (sys.executable, "/usr/bin/python3"):
+        if shutil.which(python) and not subprocess.run([python, "-c", "import pulp"], capture_output=True).returncode:
+            return python
+    return None
+
+
+def checks(path, room):
+    """Each check's name and what is wrong."""
+    python = python_with_pulp()
+    names = {"PuLP's CBC": "cbc", "MiniZinc": "minizinc", "MiniZinc's Gecode": "fzn-gecode", "mccs": "mccs"}
+    for name in [*([] if python else ["PuLP"]), *(name for name, command in names.items() if not shutil.which(command))]:
+        print(f"clients: {name} is left out, since it is not here")
+    yield from shared_faults(path, room)
+    yield from random_lp_faults(path)
+    yield from lp_faults(path)
+    yield from word_faults(path, room)
+    yield "pbcube-lp, stopped", stopped_fault(room)
+    yield from flatzinc_faults(path, room)
+    yield from command_faults(path, room, python)
+    if python:
+        end = ran([python, __file__, "--pulp", path])
+        yield "PuLP", "" if end.status == 0 and not end.err else f"{end.out}{end.err}"
+    if shutil.which("minizinc"):
+        yield from minizinc_faults(path)
+
+
+def main(words):
+    path = str(Path(words[-1]).resolve() if words else program("pbcube"))
+    with tempfile.TemporaryDirectory() as room:
+        found = list(pulp_faults(path) if "--pulp" in words else checks(path, Path(room)))
+    for name, fault in found:
+        print(*[f"clients: {name}: {fault}"] if fault else [], sep="", end="\n" if fault else "")
+    failed = sum(bool(fault) for _, fault in found)
+    print(f"clients: {len(found) - failed} passed, {failed} failed")
+    return 1 if failed else 0
+
+
+if __name__ == "__main__":
+    sys.exit(main(sys.argv[1:]))

@@ -1,0 +1,563 @@
+#!/usr/bin/env python3
+"""Runs the built programs on command lines, and prints where an output, a file or the exit status is not as expected.
+
+    tests/runs/commands.py [PROGRAM ..]
+
+Without a word it takes the programs that the merge gate built: pbcube, pbcube_pieces, pbcube_task and
+pbcube_join. Each runs its own rows, in a new folder with the files below.
+"""
+import bz2
+import errno
+import lzma
+import os
+import stat
+import sys
+import tempfile
+from dataclasses import dataclass, field
+from pathlib import Path
+
+sys.dont_write_bytecode = True
+sys.path.insert(0, str(Path(__file__).resolve().parents[1]))
+from lib import PROGRAMS, built, name_of, ran, reason, side_by_side, version
+from lib.reports import TIE, digest, index_of, part
+
+FULL = "/dev/full"  # takes no byte
+CLOSED = "|"  # a pipe that nobody reads
+MISSING = reason(errno.ENOENT)
+FOLDER = reason(errno.EISDIR)
+NO_ROOM = reason(errno.ENOSPC)
+
+OWN_CUBES = "p inccnf\n1 20 0\na 1 0\n"  # one, of twenty variables
+
+
+FIRST = "o 3\ns OPTIMUM FOUND\nv x1 -x2 x3\n"
+SECOND = "o 3\ns OPTIMUM FOUND\nv -x1 x2 -x3\n"
+ATTAINED = "o 3\ns SATISFIABLE\nv -x1 x2 -x3\n"
+
+
+# reports of two tasks, of three pieces, and others that are none of their parts
+IN_THREE = "3 split 1 cubes none"
+PARTS = {
+    "parts/first.report": part("0 of 2", TIE, IN_THREE, " 0 2") + "o 3\ns SATISFIABLE\nv x1 -x2 x3\n",
+    "parts/second.report": part("1 of 2", TIE, IN_THREE, " 1") + ATTAINED,
+    "cut.part": part("1 of 2", TIE, IN_THREE, "", " 1") + "s UNKNOWN\n",
+    "unnamed.part": part("0 of 2", TIE, IN_THREE, " 0") + ATTAINED,
+    "few.part": part("0 of 5", TIE, "1 split 0 cubes none", " 0") + ATTAINED,
+    "edited.part": part("1 of 2", TIE + "* edited\n", IN_THREE, " 1") + ATTAINED,
+    "no_pieces.part": part("1 of 2", TIE, "0 split 1 cubes none", "") + "s UNKNOWN\n",
+    "divided.part": part("1 of 2", TIE, "3 split 2 cubes none", " 1") + ATTAINED,
+    "claims.part": part("1 of 2", TIE, IN_THREE, " 1") + SECOND,
+    "costs.part": part("1 of 2", TIE, IN_THREE, " 1") + ATTAINED.replace("o 3", "o 2"),
+    "torn.part": part("1 of 2", TIE, IN_THREE, " 1") + "o 3\ns SATISFIABLE\nv -x1 x2\n",
+    "others.part": part("1 of 2", TIE, IN_THREE, " 1 2") + ATTAINED,
+}
+FILES = {
+    "tie.opb": TIE,
+    "none_feasible.opb": "1 x1 >= 1 ;\n1 x1 = 0 ;\n",
+    "no_objective.opb": "* #variable= 3 #constraint= 1\n1 x2>=1;\n",
+    "product.opb": "1 x1 x2 >= 1 ;\n",
+    "over.opb": "1 x1 1 x0 >= 1 ;\n",
+    "maximum.opb": "max: 1 x1 ;\n1 x1 >= 0 ;\n",
+    "soft.opb": "soft: 9 ;\n[2] 1 x1 >= 1 ;\n",
+    "marked.opb": "\ufeff1 x1 >= 1 ;\n",
+    "weighted.wcnf": "p wcnf 2 2 9\n9 1 2 0\n1 -1 0\n",
+    "hard.wcnf": "h 1 2 0\n1 -1 0\n",
+    "older_spelling.opb": "* a comment\n+1*x1 >= 1 ;\n",
+    "one_clause.cnf": "p cnf 2 2\n1 2 0\n-1 2 0\n",
+    "own_cube.icnf": "p inccnf\n1 2 0\na 1 0\n",
+    "own_cubes.icnf": OWN_CUBES,
+    "good.cubes": "a 1 0\n",
+    "over.cubes": "a 4 0\n",
+    "second_over.cubes": "a 1 0\na 4 0\n",
+    "nine.cubes": "a 2 0\n" * 9,
+    "hundred.cubes": "a 2 0\n" * 100,
+    "with_index/index": "",
+    "with_piece/0.opb": "kept\n",
+    "clause.cnf": "p cnf 2 1\n1 2 0\n",
+    "clause-0.out": "s SATISFIABLE\nv -1 2 0\n",
+    "out/0.out": FIRST,
+    "again-0.out": FIRST,
+    "piece-001.out": "c another solver\no 4\no 3\ns OPTIMUM FOUND\nv -x1 x2\nv -x3\n",
+    "2": "s UNSATISFIABLE\n",
+    "cut-1.out": "s UNKNOWN\n",
+    "torn-1.out": "o 3\ns OPTIMUM FOUND\nv -x1 x2\n",
+    "wrong-1.out": "o 2\ns OPTIMUM FOUND\nv -x1 x2 -x3\n",
+    "report.out": "s UNSATISFIABLE\n",
+    "reports/0.report": FIRST,
+    "reports/1.report": SECOND,
+    "reports/0.opb": "no report\n",
+    "empty/index.txt": "no report\n",
+    "empty/2.opb": "no report\n",
+    "empty/report": "no report\n",
+    "empty/3.reports": "no report\n",
+    "cut/index": index_of(TIE, "opb", 3, 3),
+    "cut/0.report": FIRST,
+    "cut/1.report": SECOND,
+    "cut/2.report": "s UNSATISFIABLE\n",
+    "cut_in_two/index": index_of(TIE, "opb", 3, 2),
+    "edited/index": index_of(TIE + "* edited\n", "opb", 3, 1),
+    "edited/0.report": FIRST,
+    "broken/index": "no index\n",
+    "torn/index": index_of(TIE, "opb", 3, 1)[:30],
+    "longer/index": index_of(TIE, "opb", 3, 1) + "1.opb\n",
+    "too_many/index": index_of(TIE, "opb", 3, 1).replace("pieces 1", "pieces 1048577"),
+    "unread/0.report": FIRST,
+    **PARTS,
+}
+PACKED = {"packed.xz": lzma.compress(TIE.encode()), "packed.bz2": bz2.compress(TIE.encode())}
+# names of reports, and the numbers of the pieces that they tell
+NUMBERS = {
+    "names/007.out": 7,
+    "names/a.9/run2-10.out": 10,
+    "names/a.9/run2-10.opb.out": None,
+    "names/3": 3,
+    "names/.5": 5,
+    "names/piece-.out": None,
+    "names/7/.out": None,
+    "names/7/..out": None,
+    "names/4294967296.out": None,
+}
+UNREADABLE = ("broken.opb", "broken.cubes", "unread/index")  # folders: opened, and then not read
+SOCKET = "7.out"  # neither a folder nor opened
+UNOPENED = "private.opb"  # a file that nobody may open, but for root
+IS_ROOT = os.geteuid() == 0
+
+
+@dataclass(frozen=True)
+class Row:
+    """Words, and how the program ends on them. Of an output either all that is written stands here, or some parts of it."""
+
+    words: str
+    out: str | tuple = ""
+    err: str | tuple = ""
+    status: int = 0
+    out_to: str = ""  # a file in place of the standard output
+    err_to: str = ""  # and in place of the standard error
+    may_write_files: bool = True
+    files: dict = field(default_factory=dict)  # the texts of some files that are there afterwards
+
+
+def refused(words, *parts):
+    return Row(words, err=parts, status=2)
+
+
+def helped(words, *parts):
+    return Row(words, out=parts)
+
+
+def closed(*words):
+    """Rows of runs that write to a pipe which nobody reads: they end in silence."""
+    return [Row(it, status=1, out_to=CLOSED) for it in words]
+
+
+def unopened(name, *words):
+    """Rows of runs that may not open the file, where there is such a file."""
+    why = f"{name}: cannot read {UNOPENED}: {reason(errno.EACCES)}\n"
+    return [] if IS_ROOT else [Row(f"{it} {UNOPENED}".strip(), err=why, status=1) for it in words]
+
+
+def hinted(words, kind, hint):
+    """A row of a run that refuses its text for this fault at line 1, and tells this hint."""
+    return Row(words, f"c refused: {kind} at line 1\n{UNSUPPORTED}", f"pbcube: {hint}\n")
+
+
+def told_version(name):
+    told = f"{name} {version()}\n"
+    return [Row("--version", told), Row("-V", told), Row("--version", err=f"{name}: cannot write: {NO_ROOM}\n", status=1, out_to=FULL)]
+
+
+UNSUPPORTED = "s UNSUPPORTED\n"
+IS_WCNF = "begins as WCNF, which is not read: write it as OPB, with the weights in min:"
+PRODUCT = hinted("product.opb", "NonLinear", "line 1, column 6: 'x2': no product is read: write a variable of its own for it")
+PBCUBE = [
+    Row("tie.opb", SECOND, status=30),
+    Row("--format opb --workers 64 --split 0 no_objective.opb", "s SATISFIABLE\nv -x1 x2 -x3\n", status=10),
+    Row("none_feasible.opb", "s UNSATISFIABLE\n", status=20),
+    Row("--format cnf --workers 3 --split 1 one_clause.cnf", "s SATISFIABLE\nv -1 2 0\n", status=10),
+    Row("--format icnf own_cube.icnf", "s SATISFIABLE\nv -1 2 0\n", status=10),
+    Row("--cubes good.cubes tie.opb", SECOND, status=30),
+    # budgets
+    Row("--nodes 0 tie.opb", "s UNKNOWN\n"),
+    Row("--nodes 1 tie.opb", "o 3\ns SATISFIABLE\nv x1 -x2 x3\n", status=10),
+    Row("--nodes 1000 tie.opb", SECOND, status=30),
+    Row("--nodes 1000000000 tie.opb", SECOND, status=30),
+    Row("--nodes 0 none_feasible.opb", "s UNSATISFIABLE\n", status=20),
+    # refused texts, with a hint where there is one
+    PRODUCT,
+    hinted("over.opb", "BadVariable", "line 1, column 8: 'x0': variables are numbered from 1 to 1048576"),
+    hinted("maximum.opb", "Syntax", "line 1, column 1: 'max:': write min: of the negated sum"),
+    hinted(
+        "soft.opb",
+        "Syntax",
+        "line 1, column 1: 'soft:': no soft constraint is read: give each a variable that satisfies it, with its weight in min:",
+    ),
+    hinted("marked.opb", "Syntax", "marked.opb begins with a byte order mark: save it as ASCII, without one"),
+    hinted("weighted.wcnf", "Unfinished", f"weighted.wcnf {IS_WCNF}"),
+    hinted("--format cnf weighted.wcnf", "BadHeader", f"weighted.wcnf {IS_WCNF}"),
+    hinted("--format cnf hard.wcnf", "BadHeader", f"hard.wcnf {IS_WCNF}"),
+    hinted("packed.xz", "Unfinished", "packed.xz is compressed by xz: unxz it first"),
+    hinted("packed.bz2", "Unfinished", "packed.bz2 is compressed by bzip2: bunzip2 it first"),
+    Row("--cubes over.cubes tie.opb", f"c refused cubes: BadVariable at line 1\n{UNSUPPORTED}"),
+    Row("--split 2 none_feasible.opb", f"c refused split: BadSplit\n{UNSUPPORTED}"),
+    Row(
+        "one_clause.cnf",
+        f"c refused: Unfinished at line 1\n{UNSUPPORTED}",
+        "pbcube: one_clause.cnf begins as DIMACS CNF: --format cnf reads it\n",
+    ),
+    Row("older_spelling.opb", f"c refused: Syntax at line 2\n{UNSUPPORTED}", "pbcube: line 2, column 1: '+1*x1'\n"),
+    Row(
+        "--format cnf tie.opb",
+        f"c refused: BadHeader at line 1\n{UNSUPPORTED}",
+        "pbcube: tie.opb begins as OPB: --format opb reads it\n",
+    ),
+    # files that are not there or cannot be read: both are opened before one is read, and the input is first in each
+    Row("none.opb", err=f"pbcube: cannot read none.opb: {MISSING}\n", status=1),
+    Row("broken.opb", err=f"pbcube: cannot read broken.opb: {FOLDER}\n", status=1),
+    Row("--cubes none.cubes tie.opb", err=f"pbcube: cannot read none.cubes: {MISSING}\n", status=1),
+    Row("--cubes broken.cubes tie.opb", err=f"pbcube: cannot read broken.cubes: {FOLDER}\n", status=1),
+    Row("--cubes none.cubes none.opb", err=f"pbcube: cannot read none.opb: {MISSING}\n", status=1),
+    Row("--cubes none.cubes broken.opb", err=f"pbcube: cannot read none.cubes: {MISSING}\n", status=1),
+    Row("--cubes broken.cubes broken.opb", err=f"pbcube: cannot read broken.opb: {FOLDER}\n", status=1),
+    Row("--cubes broken.cubes product.opb", PRODUCT.out, PRODUCT.err),
+    *unopened("pbcube", "", "--cubes none.cubes"),
+    # outputs that fail: the standard error's is ignored
+    *closed("tie.opb", "none_feasible.opb", "product.opb", "--workers 2 --split 1 tie.opb", "--help", "--version"),
+    Row("tie.opb", err=f"pbcube: cannot write: {NO_ROOM}\n", status=1, out_to=FULL),
+    Row("--help", err=f"pbcube: cannot write: {NO_ROOM}\n", status=1, out_to=FULL),
+    Row("none.opb", status=1, err_to=FULL),
+    Row("--nothing", status=2, err_to=FULL),
+    Row("tie.opb", status=1, out_to=FULL, err_to=FULL),
+    # refused words
+    refused("", "<FILE>"),
+    refused("tie.opb product.opb", "'product.opb'"),
+    refused("--workers 0 tie.opb", "0 is not in 1..=64"),
+    refused("--workers 65 tie.opb", "65 is not in 1..=64"),
+    refused("--workers two tie.opb", "'two'"),
+    refused("--split 13 tie.opb", "13 is not in 0..=12"),
+    refused("--split -1 tie.opb", "'-1'"),
+    refused("--nodes 1000000001 tie.opb", "1000000001 is not in 0..=1000000000"),
+    refused("--nodes -1 tie.opb", "'-1'"),
+    refused("--nodes x tie.opb", "'x'"),
+    refused("--split 1 --split 2 tie.opb", "multiple times"),
+    refused("--format wbo tie.opb", "opb, cnf and icnf"),
+    refused("--nothing tie.opb", "'--nothing'"),
+    refused("tie.opb --cubes", "--cubes"),
+    helped(
+        "-h",
+        "Usage: pbcube [OPTIONS] <FILE>",
+        "--format <FORMAT>",
+        "opb, cnf or icnf [default: opb]",
+        "1 to 64",
+        "[default: 1]",
+        "0 to 12 [default: 0]",
+        "--cubes <FILE>",
+        "`a LITERALS 0`",
+        "--nodes <B>",
+        "0 to 1000000000",
+    ),
+    helped(
+        "--help",
+        "Usage: pbcube [OPTIONS] <FILE>",
+        "--format <FORMAT>",
+        "--workers <W>",
+        "--split <K>",
+        "--nodes <B>",
+        "pbcube --format cnf formula.cnf",
+        "30  s OPTIMUM FOUND",
+        "20  s UNSATISFIABLE",
+        "10  s SATISFIABLE",
+        " 0  s UNSUPPORTED",
+        " 1  a file cannot be opened",
+        " 2  the command line is refused",
+    ),
+    *told_version("pbcube"),
+]
+
+
+TIE_WITH_CUBE = TIE.replace("#constraint= 2", "#constraint= 3") + "1 x2 >= 1 ;\n"
+PIECES = [
+    Row("--out one/new tie.opb", "pieces 1\n", files={"one/new/0.opb": TIE}),
+    Row("--split 3 --cubes good.cubes --out ten tie.opb", "pieces 10\n"),
+    Row("--format icnf --out two own_cube.icnf", "pieces 2\n"),
+    Row(
+        "--format icnf --cubes nine.cubes --out eleven own_cubes.icnf",
+        "pieces 11\n",
+        files={"eleven/index": index_of(OWN_CUBES, "cnf", 20, 11)},
+    ),
+    Row("--cubes hundred.cubes --out hundred tie.opb", "pieces 101\n", files={"hundred/007.opb": TIE_WITH_CUBE}),
+    Row("--out untold tie.opb", err=f"pbcube_pieces: cannot write: {NO_ROOM}\n", status=1, out_to=FULL, files={"untold/0.opb": TIE}),
+    Row("--out pieces none.opb", err=f"pbcube_pieces: cannot read none.opb: {MISSING}\n", status=1),
+    Row("--out pieces product.opb", err="pbcube_pieces: product.opb: NonLinear at line 1\n", status=1),
+    Row(
+        "--cubes second_over.cubes --out pieces tie.opb",
+        err="pbcube_pieces: second_over.cubes: BadVariable at line 2\n",
+        status=1,
+    ),
+    Row(
+        "--split 4 --out pieces tie.opb",
+        err="pbcube_pieces: the split is over more variables than there are\n",
+        status=1,
+    ),
+    Row("--format cnf --out pieces tie.opb", err="pbcube_pieces: tie.opb: BadHeader at line 1\n", status=1),
+    # folders and files that cannot be made or written
+    Row("--out product.opb tie.opb", err=f"pbcube_pieces: cannot use product.opb: {reason(errno.EEXIST)}\n", status=1),
+    Row("--out with_index tie.opb", err="pbcube_pieces: with_index holds an index already\n", status=1),
+    Row(
+        "--split 1 --out with_piece tie.opb",
+        err=f"pbcube_pieces: cannot write with_piece/0.opb: {reason(errno.EEXIST)}\n",
+        status=1,
+        files={"with_piece/0.opb": "kept\n"},
+    ),
+    Row(
+        "--out unwritten tie.opb",
+        err=f"pbcube_pieces: cannot write unwritten/0.opb: {reason(errno.EFBIG)}\n",
+        status=1,
+        may_write_files=False,
+    ),
+    Row("--help", err=f"pbcube_pieces: cannot write: {NO_ROOM}\n", status=1, out_to=FULL),
+    Row("--out unread_by_any tie.opb", status=1, out_to=CLOSED, files={"unread_by_any/0.opb": TIE}),
+    *closed("--help"),
+    *unopened("pbcube_pieces", "--out pieces"),
+    refused("tie.opb", "error: the following required arguments were not provided"),
+    *told_version("pbcube_pieces"),
+]
+
+
+def digest_of(name):
+    return digest(FILES[name])
+
+
+NOTE = f"pbcube note of instance {digest_of('tie.opb')}\ncost 3\nvalues 010\n"
+WITHOUT_NOTES = "pbcube_task: cannot use tie.opb, so no notes are exchanged: "
+TASK = [
+    Row("--task 0 --tasks 1 tie.opb", part("0 of 1", FILES["tie.opb"], "1 split 0 cubes none", " 0") + ATTAINED, status=10),
+    Row("--split 1 --task 1 --tasks 2 tie.opb", part("1 of 2", FILES["tie.opb"], "3 split 1 cubes none", " 1") + ATTAINED, status=10),
+    Row("--split 1 --task 2 --tasks 3 tie.opb", part("2 of 3", FILES["tie.opb"], "3 split 1 cubes none", " 2") + "s UNKNOWN\n"),
+    Row(
+        "--cubes good.cubes --workers 2 --task 1 --tasks 2 tie.opb",
+        part("1 of 2", FILES["tie.opb"], f"2 split 0 cubes {digest_of('good.cubes')}", " 1") + ATTAINED,
+        status=10,
+    ),
+    Row(
+        "--format icnf --task 0 --tasks 4294967295 own_cube.icnf",
+        part("0 of 4294967295", FILES["own_cube.icnf"], "2 split 0 cubes none", " 0") + "s SATISFIABLE\nv 1 -2 0\n",
+        status=10,
+    ),
+    Row("--task 0 --tasks 1 none_feasible.opb", part("0 of 1", FILES["none_feasible.opb"], "1 split 0 cubes none", " 0") + "s UNKNOWN\n"),
+    Row("--nodes 0 --task 0 --tasks 1 tie.opb", part("0 of 1", FILES["tie.opb"], "1 split 0 cubes none", "", " 0") + "s UNKNOWN\n"),
+    Row(
+        "--task 5 --tasks 9 --exchange unmade tie.opb",
+        part("5 of 9", FILES["tie.opb"], "1 split 0 cubes none", "") + "s UNKNOWN\n",
+        "pbcube_task: none of the 1 pieces is of task 5\n",
+    ),
+    # notes
+    Row(
+        "--task 0 --tasks 1 --exchange some/notes tie.opb",
+        part("0 of 1", FILES["tie.opb"], "1 split 0 cubes none", " 0") + ATTAINED,
+        status=10,
+        files={"some/notes/0.note": NOTE},
+    ),
+    Row(
+        "--task 0 --tasks 1 --exchange tie.opb tie.opb",
+        part("0 of 1", FILES["tie.opb"], "1 split 0 cubes none", " 0") + ATTAINED,
+        (WITHOUT_NOTES,),
+        10,
+    ),
+    # refused texts, and files that are not there or cannot be read
+    Row("--task 0 --tasks 1 product.opb", f"c refused: NonLinear at line 1\n{UNSUPPORTED}"),
+    Row("--cubes second_over.cubes --task 0 --tasks 1 tie.opb", f"c refused cubes: BadVariable at line 2\n{UNSUPPORTED}"),
+    Row("--split 4 --task 0 --tasks 1 tie.opb", f"c refused split: BadSplit\n{UNSUPPORTED}"),
+    Row("--format cnf --task 0 --tasks 1 tie.opb", f"c refused: BadHeader at line 1\n{UNSUPPORTED}"),
+    Row("--task 0 --tasks 1 none.opb", err=f"pbcube_task: cannot read none.opb: {MISSING}\n", status=1),
+    Row("--task 0 --tasks 1 broken.opb", err=f"pbcube_task: cannot read broken.opb: {FOLDER}\n", status=1),
+    Row("--cubes none.cubes --task 0 --tasks 1 tie.opb", err=f"pbcube_task: cannot read none.cubes: {MISSING}\n", status=1),
+    # outputs that fail
+    Row("--task 0 --tasks 1 tie.opb", err=f"pbcube_task: cannot write: {NO_ROOM}\n", status=1, out_to=FULL),
+    Row("--help", err=f"pbcube_task: cannot write: {NO_ROOM}\n", status=1, out_to=FULL),
+    *closed("--task 0 --tasks 1 tie.opb", "--task 0 --tasks 1 product.opb", "--help"),
+    *unopened("pbcube_task", "--task 0 --tasks 1"),
+    Row("--task 0 --tasks 1 none.opb", status=1, err_to=FULL),
+    # refused words
+    refused("--task 0 tie.opb", "--tasks <T>"),
+    refused("--tasks 1 tie.opb", "--task <I>"),
+    refused("--task 0 --tasks 0 tie.opb", "0 is not in 1..=4294967295"),
+    refused("--task 0 --tasks 4294967296 tie.opb", "4294967296 is not in 1..=4294967295"),
+    refused("--task 1 --tasks 1 tie.opb", "the number of --task is below that of --tasks"),
+    refused("--format wcnf --task 0 --tasks 1 tie.opb", "opb, cnf and icnf"),
+    refused("--workers 65 --task 0 --tasks 1 tie.opb", "65 is not in 1..=64"),
+    *told_version("pbcube_task"),
+]
+
+
+def states(pieces, cut=()):
+    """What is said of so many pieces of which these were cut and no other has a report."""
+    said = {number: "was not solved to its end" if number in cut else "has no report" for number in pieces}
+    return "".join(f"pbcube_join: piece {number} {it}\n" for number, it in said.items())
+
+
+def again(*tasks):
+    """What is said of tasks that have to be run again."""
+    return f"pbcube_join: run again: tasks {' '.join(map(str, tasks))}\n"
+
+
+def number_row(name, number):
+    words = f"--pieces 12 tie.opb {name}"
+    if number is None:
+        return rejected(words, f"{name}: the name has no number of a piece before its last dot")
+    return Row(words, "s UNKNOWN\n", states(range(12), [number]))
+
+
+def rejected(words, why):
+    return Row(words, err=f"pbcube_join: {why}\n", status=1)
+
+
+JOIN = [
+    Row("--pieces 3 tie.opb 2 out/0.out piece-001.out", SECOND, status=30),
+    Row(
+        "--pieces 3 tie.opb out/0.out cut-1.out",
+        "o 3\ns SATISFIABLE\nv x1 -x2 x3\n",
+        states([1, 2], [1]),
+        10,
+    ),
+    Row("--format cnf --pieces 1 clause.cnf clause-0.out", "s SATISFIABLE\nv -1 2 0\n", status=10),
+    Row("--pieces 1 tie.opb", "s UNKNOWN\n", states([0])),
+    # folders
+    Row("--pieces 3 tie.opb 2 reports", SECOND, status=30),
+    Row("--pieces 1 tie.opb empty", "s UNKNOWN\n", states([0])),
+    rejected("--pieces 1 tie.opb none", f"cannot read none: {MISSING}"),
+    # folders with an index
+    Row("tie.opb cut", SECOND, status=30),
+    Row("--pieces 3 tie.opb cut", SECOND, status=30),
+    Row("tie.opb cut_in_two out/0.out piece-001.out", SECOND, status=30),
+    rejected("--pieces 2 tie.opb cut", "cut/index: it is of 3 pieces, and not of 2"),
+    rejected("tie.opb cut cut_in_two", "cut_in_two/index: it is of 2 pieces, and not of 3"),
+    rejected("tie.opb edited", "edited/index: the instance is not the text that was cut: the digest at line 4 is another"),
+    rejected("tie.opb broken", "broken/index: line 1 tells no number of pieces"),
+    rejected("--pieces 1 tie.opb broken", "broken/index: line 1 tells no number of pieces"),
+    rejected("tie.opb with_index", "with_index/index: line 1 tells no number of pieces"),
+    rejected("tie.opb too_many", "too_many/index: line 1 tells no number of pieces"),
+    rejected("tie.opb torn", "torn/index: line 3 is not that of an index of the instance"),
+    rejected("tie.opb longer", "longer/index: line 6 is not that of an index of the instance"),
+    rejected("tie.opb unread", f"unread/index: cannot be read: {FOLDER}"),
+    rejected("tie.opb reports", "the number of pieces is told neither by --pieces nor by an index"),
+    rejected("tie.opb", "the number of pieces is told neither by --pieces nor by an index"),
+    # reports that are rejected
+    rejected("--pieces 3 tie.opb out/0.out again-0.out", "again-0.out: there are two reports of this piece"),
+    rejected("--pieces 3 tie.opb torn-1.out", "torn-1.out: Unfinished at line 3"),
+    rejected("--pieces 3 tie.opb wrong-1.out", "wrong-1.out: the o line is not the cost of the assignment"),
+    rejected("--pieces 3 tie.opb report.out", "report.out: the name has no number of a piece before its last dot"),
+    rejected(f"--pieces 3 tie.opb {SOCKET}", f"{SOCKET}: cannot be read: {reason(errno.ENXIO)}"),
+    rejected("--pieces 1 none.opb", f"cannot read none.opb: {MISSING}"),
+    # reports of tasks
+    Row("--tasks 2 tie.opb parts", SECOND, status=30),
+    Row("--tasks 2 tie.opb parts/second.report parts/first.report", SECOND, status=30),
+    Row("--tasks 2 tie.opb parts/first.report cut.part", "o 3\ns SATISFIABLE\nv x1 -x2 x3\n", again(1), 10),
+    Row("--tasks 2 tie.opb parts/second.report unnamed.part", ATTAINED, again(0), 10),
+    Row("--tasks 2 tie.opb parts/second.report", ATTAINED, again(0), 10),
+    Row("--tasks 2 tie.opb unnamed.part cut.part", ATTAINED, again(0, 1), 10),
+    Row("--tasks 5 tie.opb few.part", SECOND, status=30),
+    Row("--tasks 3 tie.opb", "s UNKNOWN\n", again(0, 1, 2)),
+    Row("--tasks 1 tie.opb empty", "s UNKNOWN\n", again(0)),
+    rejected("--tasks 2 tie.opb cut.part cut.part", "cut.part: there are two reports of this task"),
+    rejected("--tasks 2 tie.opb parts/first.report edited.part", "edited.part: the part is of another instance"),
+    rejected("--tasks 2 tie.opb no_pieces.part", "no_pieces.part: the part is of no pieces"),
+    rejected("--tasks 3 tie.opb cut.part", "cut.part: the part is of another number of tasks"),
+    rejected("--tasks 2 tie.opb unnamed.part divided.part", "divided.part: the first part is of other pieces"),
+    rejected("--tasks 2 tie.opb claims.part", "claims.part: a part has no such answer"),
+    rejected("--tasks 2 tie.opb costs.part", "costs.part: the o line is not the cost of the assignment"),
+    rejected("--tasks 2 tie.opb torn.part", "torn.part: Unfinished at line 7"),
+    rejected("--tasks 2 tie.opb others.part", "others.part: OtherTask at line 3"),
+    rejected("--tasks 1 tie.opb out/0.out", "out/0.out: Heading at line 1"),
+    rejected(f"--tasks 1 tie.opb {SOCKET}", f"{SOCKET}: cannot be read: {reason(errno.ENXIO)}"),
+    rejected("--tasks 1 tie.opb none", f"cannot read none: {MISSING}"),
+    rejected("--tasks 1 none.opb", f"cannot read none.opb: {MISSING}"),
+    rejected("--tasks 1 product.opb", "product.opb: NonLinear at line 1"),
+    Row("--tasks 2 tie.opb parts", err=f"pbcube_join: cannot write: {NO_ROOM}\n", status=1, out_to=FULL),
+    Row("--tasks 1 tie.opb", "s UNKNOWN\n", err_to=FULL),
+    refused("--tasks 0 tie.opb", "0 is not in 1..=4294967295"),
+    refused("--tasks 4294967296 tie.opb", "4294967296 is not in 1..=4294967295"),
+    refused("--tasks 1 --pieces 1 tie.opb", "--pieces and --tasks cannot be used together"),
+    rejected("--pieces 3 product.opb", "product.opb: NonLinear at line 1"),
+    Row("--pieces 1 tie.opb", err=f"pbcube_join: cannot write: {NO_ROOM}\n", status=1, out_to=FULL),
+    Row("--help", err=f"pbcube_join: cannot write: {NO_ROOM}\n", status=1, out_to=FULL),
+    *closed("--pieces 3 tie.opb 2 out/0.out piece-001.out", "--tasks 2 tie.opb parts", "--help"),
+    *unopened("pbcube_join", "--pieces 1"),
+    refused("--pieces 0 tie.opb", "0 is not in 1..="),
+    refused("--format wcnf --pieces 1 tie.opb", "opb, cnf and icnf"),
+    *(number_row(name, number) for name, number in NUMBERS.items()),
+    *told_version("pbcube_join"),
+]
+ROWS = {"pbcube": PBCUBE, "pbcube_pieces": PIECES, "pbcube_task": TASK, "pbcube_join": JOIN}
+
+
+def make_files(room):
+    for name, text in {**FILES, **dict.fromkeys(NUMBERS, "s UNKNOWN\n")}.items():
+        (room / name).parent.mkdir(parents=True, exist_ok=True)
+        (room / name).write_text(text)
+    for name, data in PACKED.items():
+        (room / name).write_bytes(data)
+    for name in UNREADABLE:
+        (room / name).mkdir()
+    (room / UNOPENED).touch(mode=0)
+    os.mknod(room / SOCKET, stat.S_IFSOCK | 0o600)
+
+
+def opened(name):
+    """The file of this name, to be written."""
+    if name != CLOSED:
+        return open(name or os.devnull, "w")
+    read, write = os.pipe()
+    os.close(read)
+    return open(write, "w")
+
+
+def run(program, row, room):
+    """How the program ends. What goes elsewhere is not told."""
+    # help tells the name by which a program is called, which is not that of each file
+    call = "exec -a \"$0\" \"$@\"" if row.may_write_files else "trap '' XFSZ; ulimit -f 0; exec -a \"$0\" \"$@\""
+    words = ["bash", "-c", call, name_of(program), program, *row.words.split()]
+    with opened(row.out_to) as out, opened(row.err_to) as err:
+        elsewhere = {name: file for name, file, is_told in (("stdout", out, row.out_to), ("stderr", err, row.err_to)) if is_told}
+        return ran(words, cwd=room, **elsewhere)
+
+
+def is_as_expected(text, expected):
+    return text == expected if isinstance(expected, str) else all(part in text for part in expected)
+
+
+def complaints(program, row, room):
+    """What is wrong with the run on one row."""
+    ended = run(program, row, room)
+    outputs = (("out", ended.out, row.out), ("err", ended.err, row.err))
+    found = [f"{name}: {text!r}" for name, text, expected in outputs if not is_as_expected(text, expected)]
+    if ended.status != row.status:
+        found.append(f"status {ended.status} and not {row.status}")
+    for name, text in row.files.items():
+        file = room / name
+        if not file.is_file() or file.read_text() != text:
+            found.append(f"{name} is not there, or not as it should be")
+    return found
+
+
+def judge(program):
+    """How many rows of the program went well, and how many did not."""
+    rows = ROWS[name_of(program)]
+    with tempfile.TemporaryDirectory(prefix="pbcube-commands-") as room:
+        make_files(Path(room))
+        answers = side_by_side(lambda row: complaints(program, row, Path(room)), rows)
+    for row, found in zip(rows, answers):
+        if found:
+            print(f"commands: {program.name} {row.words}", *found, sep="\n  ")
+    failed = sum(map(bool, answers))
+    return len(rows) - failed, failed
+
+
+def main(programs):
+    counts = [judge(Path(it).resolve()) for it in programs or built(PROGRAMS)]
+    passed, failed = sum(it[0] for it in counts), sum(it[1] for it in counts)
+    print(f"commands: {passed} passed, {failed} failed")
+    return 1 if failed else 0
+
+
+if __name__ == "__main__":
+    sys.exit(main(sys.argv[1:]))

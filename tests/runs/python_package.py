@@ -1,0 +1,636 @@
+#!/usr/bin/env python3
+"""Calls each name of the package for Python, and prints what is wrong.
+
+    tests/runs/python_package.py
+
+It takes the library that is built. Random models with fractions, floats, implications and counts have the answer that a listing of all
+assignments finds; each refusal is met; what a child process finds is what this process finds. Real signals end a long search: Ctrl-C,
+alone and for the whole group as a terminal sends it, an exception, a time limit, and the death of the process; each time no child is
+left, and after Ctrl-C the process solves on. The block of docs/EMBEDDING.md prints what it says. Where there is no C compiler, and so
+no library, all is left out.
+"""
+import itertools
+import json
+import operator
+import os
+import pickle
+import random
+import re
+import signal
+import subprocess
+import sys
+import threading
+import time
+from decimal import Decimal
+from fractions import Fraction
+from pathlib import Path
+
+sys.dont_write_bytecode = True
+sys.path.insert(0, str(Path(__file__).resolve().parents[1]))
+from lib import TOP, callers
+from lib.callers import PYTHON
+
+callers.package()
+from pbcube import Answer, Constraint, Error, Explanation, ForeignLiteral, Literal, Model, Refused, Status, Sum, solve, total
+
+MODELS = 150
+IN_CHILD = 6  # of which each has to start
+PATIENCE = 30  # seconds, of a machine that may be busy; no search that is ended here would end by itself in so few
+RELATIONS = {">=": operator.ge, "<=": operator.le, "==": operator.eq}
+TEXT = "min: 2 x1 3 x2 ;\n1 x1 1 x2 >= 1 ;\n"
+HARD = """import os, signal, sys, threading
+import pbcube
+signal.signal(signal.SIGINT, signal.default_int_handler)
+def children():
+    parents = {}
+    for name in filter(str.isdigit, os.listdir("/proc")):
+        try:
+            parents[int(name)] = int(open(f"/proc/{name}/stat").read().rpartition(")")[2].split()[1])
+        except OSError:
+            pass
+    return [it for it, parent in parents.items() if parent == os.getpid()]
+def hard():
+    model = pbcube.Model()
+    parts = model.variables(40)
+    for row in range(5):
+        weights = [pow(row + 3, at + 5, 101) for at in range(40)]
+        model.add(pbcube.total(weight * part for weight, part in zip(weights, parts)) == sum(weights) // 2)
+    return model
+def easy():
+    return pbcube.solve("min: 2 x1 3 x2 ;\\n1 x1 1 x2 >= 1 ;\\n").cost
+def say(*words):
+    print(*words, flush=True)
+"""  # five rows that are to be met exactly, which takes far longer than anyone waits
+
+
+# ---- worked calls
+
+
+def raised(call):
+    """What the call raises, or nothing."""
+    try:
+        call()
+    except Exception as fault:
+        return fault
+    return None
+
+
+def value_facts():
+    model = Model()
+    x, y = model.variable("x"), model.variable()
+    z, w = model.variables("z w")
+    model.maximise(x / 2 + 0.25 * y - z + Decimal("0.5") * w + 3)
+    model.add(x + y + z + w <= 2.5)
+    answer = model.solve()
+    yield "the greatest sum", (answer.status, answer.cost, answer.values) == (Status.OPTIMUM, 4, (True, False, False, True))
+    yield "a whole cost is an int", type(answer.cost) is int
+    yield "names", answer.names == ("x", None, "z", "w") and answer.named() == {"x": True, "z": False, "w": True}
+    yield "by literal and by name", answer[x] and answer[~y] and answer["w"] and not answer["z"] and model["z"].number == z.number
+    values = [answer.value(it) for it in (3 * x - 2 * ~w + y / 3 + 1, x / 4, ~x, 7)]
+    yield "the value of a sum", values == [4, Fraction(1, 4), 0, 7]
+    told = {"status": "OPTIMUM", "cost": 4, "values": [True, False, False, True], "named": {"x": True, "z": False, "w": True}}
+    yield "as JSON", json.loads(answer.json()) == json.loads(answer.json(indent=1)) == told
+    yield "pickled", pickle.loads(pickle.dumps(answer)) == answer and pickle.loads(pickle.dumps(answer))[pickle.loads(pickle.dumps(x))]
+    model = Model()
+    x = model.variable()
+    model.minimise(0.1 * x)
+    model.add(x >= 1)
+    told = json.loads(model.solve().json())["cost"]
+    yield "a float is what Python holds", model.solve().cost == Fraction(0.1) == Fraction(told) == 0.1
+    yield "an answer as it was made before", Answer(Status.FOUND, 1, (True,))[Literal(1)] and repr(Literal(3)) == "Literal(number=3)"
+    yield "the same names as before", repr(answer).startswith("Answer(status=Status.OPTIMUM, cost=4, values=(True, ")
+    yield "a text", solve(TEXT).cost == solve(TEXT.encode(), "opb", 100, time_limit=60).cost == 2
+    yield "sums", total([]).terms == () and isinstance(x + 1, Sum) and isinstance(x >= 1, Constraint) and (2 - x).constant == 2
+
+
+def page_facts():
+    """The block of docs/EMBEDDING.md, with what stands below it."""
+    page = (TOP / "docs/EMBEDDING.md").read_text().split("\n## Python\n")[1]
+    block, expected = re.search(r"```python\n(.*?)```\n\nIt prints `(.*?)`", page, re.S).groups()
+    run = Run(block)
+    said, _ = run.line()
+    yield f"docs/EMBEDDING.md: {said}", said == expected and run.process.wait() == 0
+
+
+def wide_facts():
+    """Numbers that pass 64 bits, which are told as a text."""
+    model = Model()
+    x, y, z = model.variables(3)
+    model.minimise(10**20 * x + 0.1 * y + 1e9 * ~z)
+    model.clause([x, y, ~z])
+    model.clause([~y, z])
+    model.add(2**100 * x + 2**100 * y - z == 2**100 - 1)
+    answer = model.solve()
+    yield "wide numbers", (answer.values, answer.cost) == ((False, True, True), Fraction(0.1))
+    model = Model()
+    x, _ = model.variables(2)
+    model.minimise(0)
+    model.add((2**126 - 2) * x >= 1)
+    yield "the greatest sum of numbers", model.solve() == Answer(Status.OPTIMUM, 0, (True, False))
+    fault = raised(lambda: model.copy().add((2**126 - 1) * x >= 1))
+    yield "and one more", isinstance(fault, Error) and fault.name == "TooLarge"
+
+
+def copy_facts():
+    model = Model()
+    x, y = model.variables("x y")
+    model.minimise(x + 2 * y)
+    model.add(x + y >= 1)
+    yield "a model", model.solve().cost == 1
+    copied = model.copy()
+    z = copied.variable("z")
+    copied.add(~x + z >= 2)
+    answer = copied.solve()
+    yield "a copy takes more", (answer.cost, answer[x], answer[z], copied["x"].number) == (2, False, True, 1)
+    yield "which the model does not have", model.solve().cost == 1 and len(model.solve().values) == 2
+    yield "a literal made after the copy is not the copy's", is_foreign(lambda: model.copy().add(z >= 1))
+    later = model.variable("z")
+    yield "nor the other way round", is_foreign(lambda: copied.copy().add(later >= 1)) and is_foreign(lambda: answer[later])
+    yield "a copy of a copy knows all", raised(lambda: copied.copy().clause([x, z])) is None
+
+
+def is_foreign(call):
+    fault = raised(call)
+    return isinstance(fault, ForeignLiteral) and fault.name == "ForeignLiteral" and "another model" in str(fault)
+
+
+def foreign_facts():
+    model, other = Model(), Model()
+    x, y = model.variable(), other.variable()
+    calls = {
+        "add": lambda: model.add(x + y >= 1), "clause": lambda: model.clause([x, y]), "minimise": lambda: model.minimise(3 * y),
+        "maximise": lambda: model.maximise(x - y), "implies": lambda: model.implies(y, x), "implied": lambda: model.implies(x, y >= 1),
+        "exactly": lambda: model.exactly(1, [x, y]), "at_most": lambda: model.at_most(1, [x, ~y]),
+        "at_least": lambda: model.at_least(1, [y]), "total": lambda: model.add(total([x, y]) <= 1),
+        "assumed": lambda: model.solve(assuming=[x, ~y]), "explained": lambda: model.explain([y]), "fixed": lambda: model.fixed([y]),
+        "asked": lambda: model.fixed()[y], "start": lambda: model.solve(start={y: True}),
+        "answers": lambda: model.solve(start=other.solve()),
+        "answer": lambda: model.solve()[y], "value": lambda: model.solve().value(x + y),
+    }  # fmt: skip
+    for name, call in calls.items():
+        yield f"a literal of another model: {name}", is_foreign(call)
+    yield "nothing was added", model.copy().solve() == Answer(Status.SATISFIABLE, None, (False,))
+    yield "pickled", str(pickle.loads(pickle.dumps(ForeignLiteral()))) == str(ForeignLiteral())
+
+
+# ---- refusals
+
+
+def refusal_facts():
+    model = Model()
+    x = model.variable("x")
+    cases = (
+        ("BadVariable", lambda: Literal(0)), ("BadVariable", lambda: model.variables(-1)), ("BadVariable", lambda: model.variables(10**15)),
+        ("BadVariable", lambda: model.variables(2**20)), ("NameTaken", lambda: model.variable("x")),
+        ("NameTaken", lambda: model.variables("y y")), ("NotFinite", lambda: float("nan") * x),
+        ("NotFinite", lambda: model.add(x <= float("inf"))), ("NotFinite", lambda: x + Decimal("nan")),
+        ("TooLarge", lambda: model.add(1e-300 * x >= 1)), ("TooLarge", lambda: model.minimise(2**126 * x)),
+    )  # fmt: skip
+    for name, call in cases:
+        fault = raised(call)
+        is_told = isinstance(fault, Error) and fault.name == name and fault.hint and str(fault) == f"{name}: {fault.hint}"
+        yield f"{name}: {fault!r}", is_told and str(pickle.loads(pickle.dumps(fault))) == str(fault)
+    yield "advice for fractions", "limit_denominator" in raised(lambda: model.add(1e-300 * x >= 1)).hint
+    yield from other_refusals(model, x, Model().solve())
+    model.add(x >= 1)
+    yield "nothing was added", model.solve() == Answer(Status.SATISFIABLE, None, (True,), ("x",)) and model.variable("z").number == 2
+
+
+def other_refusals(model, x, answer):
+    """What other exceptions than those of the package tell."""
+    cases = (
+        (ValueError, lambda: model.solve(nodes=-1)), (ValueError, lambda: model.solve(time_limit=-1)),
+        (TypeError, lambda: model.solve(time_limit="1")), (ValueError, lambda: Model().add(Constraint((), "<", 1))),
+        (ValueError, lambda: model.solve(time_limit=float("nan"))), (ValueError, lambda: solve(TEXT, "lp")), (TypeError, lambda: bool(x)),
+        (TypeError, lambda: bool(x + 1)), (TypeError, lambda: bool(x >= 1)), (TypeError, lambda: "1" * x), (TypeError, lambda: x + None),
+        (TypeError, lambda: model.add(x)), (TypeError, lambda: model.clause([1])), (TypeError, lambda: model.at_most(1.5, [x])),
+        (TypeError, lambda: model.implies(x, 1)), (TypeError, lambda: model.variables([1])), (TypeError, lambda: answer[1]),
+        (LookupError, lambda: answer[Literal(1)]), (LookupError, lambda: answer["x"]), (KeyError, lambda: model["y"]),
+        (ValueError, lambda: model.fixed(among="all")), (TypeError, lambda: model.solve(assuming=[1])),
+        (TypeError, lambda: model.explain("x")), (LookupError, lambda: model.fixed()["y"]),
+        (LookupError, lambda: model.fixed([x, ~x])["x"]), (KeyError, lambda: model.solve(start={"y": 1})),
+        (LookupError, lambda: model.solve(start={Literal(2): 1})), (ValueError, lambda: model.explain([x], -1)),
+        (TypeError, lambda: total([x, "y"])), (LookupError, lambda: solve("1 x1 >= 2 ;")[Literal(1)]), (ZeroDivisionError, lambda: x / 0),
+    )  # fmt: skip
+    for at, (kind, call) in enumerate(cases):
+        yield f"refusal {at} is {kind.__name__}: {raised(call)!r}", type(raised(call)) in (kind, *kind.__subclasses__())
+
+
+def room_facts():
+    """The limits on constraints and terms, which are those of the library, with small ones in their place."""
+    source, module = (TOP / "crates/pb_inst/src/limits.rt").read_text(), sys.modules["pbcube.model"]
+    told = {name: int(number.replace("_", "")) for name, number in re.findall(r"const (MAX_\w+): \w+ = ([\d_]+);", source)}
+    held = (module.MOST_VARIABLES, module._MOST_CONSTRAINTS, module._MOST_TERMS)
+    yield "the limits of the library", held == (told["MAX_VARS"], told["MAX_CONSTRAINTS"], told["MAX_TERMS"])
+    module._MOST_CONSTRAINTS, module._MOST_TERMS = 2, 6
+    model = Model()
+    x, y = model.variables(2)
+    model.minimise(x + y)
+    model.minimise(x + 2 * y)
+    model.add(x + y >= 1)
+    for call in (lambda: model.clause([x, y, x]), lambda: model.minimise(total([x] * 5))):
+        yield "terms", raised(call).name == "TooMany"
+    model.clause([x])
+    yield "constraints", raised(lambda: model.add(sum([]) == 0)).name == "TooMany" and model.solve().cost == 1
+    module._MOST_CONSTRAINTS, module._MOST_TERMS = held[1:]
+    searches = sys.modules["pbcube.searches"]
+    kept = searches.search, searches.Kept.ask
+    searches.search = searches.Kept.ask = lambda *_: (0, None, None, ("Memory", 0))
+    yield "memory", type(raised(model.solve)) is type(raised(lambda: solve(TEXT))) is MemoryError
+    searches.search, searches.Kept.ask = kept
+
+
+REFUSED = (
+    ("opb", "1 x1 >= 1", "Unfinished", 1, "';'"), ("opb", "1 x1 >= 1 ;\nmin: 1 x1 ;", "LateObjective", 2, "in front"),
+    ("opb", "x1 >= 1 ;", "Syntax", 1, "min: 2 x1"), ("opb", "max: 1 x1 ;", "Syntax", 1, "'min:' of the sum"),
+    ("opb", "1 x1 >= 1 ;\n1 x1 x2 >= 1 ;", "NonLinear", 2, "new variable"), ("opb", "1 x0 >= 1 ;", "BadVariable", 1, "1048576"),
+    ("opb", f"{2**127} x1 >= 1 ;", "TooLarge", 1, "2**126 - 1"), ("opb", "* #variable= 1048577\n", "TooMany", 1, "1048576"),
+    ("opb", "p cnf 1 1\n1 0\n", "Unfinished", 1, "solve(text, 'cnf')"), ("cnf", "p inccnf\n1 0\n", "BadHeader", 1, "solve(text, 'icnf')"),
+    ("cnf", "* #variable= 1\n1 x1 >= 1 ;", "BadHeader", 1, "solve(text, 'opb')"), ("cnf", "1 0\n", "BadHeader", 1, "p cnf"),
+    ("cnf", "p cnf 1 1\n1 0 1 0\n", "TooManyClauses", 2, "header"), ("cnf", "p cnf 1 2\n1 0\n", "TooFewClauses", 2, "header"),
+    ("icnf", "p inccnf\na 1 0\n1 0\n", "ClauseAfterCube", 3, "before the first cube"), ("opb", "\x1f\x8b\x08", "Unfinished", 1, "gzip"),
+)  # fmt: skip
+
+
+def text_facts():
+    for format, text, name, line, hint in REFUSED:
+        data = text.encode("latin-1")
+        fault = raised(lambda: solve(data, format))
+        is_told = isinstance(fault, Refused) and (fault.line, hint in fault.hint) == (line, True) and fault.name == name
+        text_again = str(pickle.loads(pickle.dumps(fault)))
+        yield f"{text!r}: {fault!r}", is_told and str(fault) == text_again == f"{fault.name} at line {line}: {fault.hint}"
+
+
+# ---- random models beside a listing
+
+
+def drawn_number():
+    whole = random.randint(-9, 9)
+    return random.choice((whole, whole / 4, Fraction(whole, 3), random.choice((0.1, -2.7, 1e6))))
+
+
+def drawn_sum(literals):
+    chosen = random.sample(literals, random.randint(1, 4))
+    return [(drawn_number(), literal) for literal in chosen], drawn_number()
+
+
+def worth(literal, values):
+    return values[abs(literal) - 1] == (literal > 0)
+
+
+def worth_of(drawn, values):
+    terms, constant = drawn
+    return Fraction(constant) + sum(Fraction(coefficient) * worth(literal, values) for coefficient, literal in terms)
+
+
+def tell_rule(model, of, literals):
+    """Adds a random rule to the model, and answers how it is tested."""
+    kind = random.choice(("sum", "sum", "clause", "implies", "implies sum", "at_least", "at_most", "exactly"))
+    chosen = random.sample(literals, random.randint(1, 4))
+    count, relation = random.randint(0, 3), random.choice([*RELATIONS])
+    drawn, bound = drawn_sum(literals), drawn_number()
+    rule = RELATIONS[relation](told_sum(of, drawn), bound)
+    holds = lambda values: RELATIONS[relation](worth_of(drawn, values), Fraction(bound))
+    true = lambda values: sum(worth(literal, values) for literal in chosen)
+    first, last = chosen[0], chosen[-1]
+    calls = {
+        "sum": (lambda: model.add(rule), holds),
+        "clause": (lambda: model.clause(map(of, chosen)), lambda values: true(values) >= 1),
+        "implies": (lambda: model.implies(of(first), of(last)), lambda values: worth(first, values) <= worth(last, values)),
+        "implies sum": (lambda: model.implies(of(first), rule), lambda values: not worth(first, values) or holds(values)),
+        "at_least": (lambda: model.at_least(count, map(of, chosen)), lambda values: true(values) >= count),
+        "at_most": (lambda: model.at_most(count, map(of, chosen)), lambda values: true(values) <= count),
+        "exactly": (lambda: model.exactly(count, map(of, chosen)), lambda values: true(values) == count),
+    }
+    call, tested = calls[kind]
+    call()
+    return tested
+
+
+def told_sum(of, drawn):
+    terms, constant = drawn
+    return total([*(coefficient * of(literal) for coefficient, literal in terms), constant])
+
+
+def drawn_model():
+    """A random model, and the answer that a listing finds."""
+    model = Model()
+    variables = model.variables(random.randint(4, 7))
+    literals = [number * sign for number in range(1, len(variables) + 1) for sign in (1, -1)]
+    of = lambda literal: variables[literal - 1] if literal > 0 else ~variables[-literal - 1]
+    tests = [tell_rule(model, of, literals) for _ in range(random.randint(1, 5))]
+    aim, sign = drawn_sum(literals), random.choice((-1, 0, 1))
+    if sign:
+        (model.minimise if sign > 0 else model.maximise)(told_sum(of, aim))
+    listed = itertools.product((False, True), repeat=len(variables))
+    feasible = [values for values in listed if all(holds(values) for holds in tests)]
+    if not feasible:
+        return model, Answer(Status.UNSATISFIABLE, None, None)
+    best = min(feasible, key=lambda values: sign * worth_of(aim, values))
+    return model, Answer(Status.OPTIMUM, worth_of(aim, best), best) if sign else Answer(Status.SATISFIABLE, None, best)
+
+
+def question_facts():
+    """Questions of one model, with rules between them: of these tests/questions.py asks many, of this process alone."""
+    model = Model()
+    x, y, z = model.variables("x y z")
+    unnamed = model.variable()
+    model.minimise(3 * x + 2 * y)
+    model.add(x + y >= 1)
+    yield "under a literal", model.solve(assuming=[~y]).named() == {"x": True, "y": False, "z": False}
+    yield "of no rule", model.solve(assuming=[unnamed])[unnamed]
+    yield "twice of no rule", model.solve(assuming=[unnamed, ~unnamed]).status is Status.UNSATISFIABLE
+    why = model.explain([z, ~x, unnamed, ~y])
+    yield "why", why.status is Status.UNSATISFIABLE and why.is_minimal and [it.number for it in why.core] == [-1, -2]
+    why = model.explain([x, ~y])
+    yield "no core", isinstance(why, Explanation) and (why.status, why.core, why.is_minimal) == (Status.SATISFIABLE, None, False)
+    fixed = model.fixed([~x])
+    yield "fixed", (fixed[x], fixed[~x], fixed["y"], fixed[z], fixed[~z], fixed[unnamed]) == (False, True, True, None, None, None)
+    yield "fixed in the least", model.fixed(among="least").named() == {"x": False, "y": True, "z": None}
+    yield "nothing is fixed", model.fixed([x, ~x]).status is Status.UNSATISFIABLE and model.fixed([x, ~x]).named() == {}
+    cut = model.fixed(nodes=0)
+    yield "cut", cut.status is Status.UNKNOWN and not cut.is_known(x) and cut.named() == {}
+    yield "not known", isinstance(raised(lambda: cut[x]), LookupError)
+    first = model.solve(0, start={x: True, ~y: True, "z": True})
+    yield "a start", (first.status, first.cost, first[z]) == (Status.FOUND, 3, True)
+    model.add(x + z >= 2)
+    yield "a rule after questions", model.solve(start=first).cost == 3 and [it.name for it in model.explain([y, ~z]).core] == ["z"]
+    model.minimise(x + 5 * z + unnamed)
+    yield "an objective after questions", model.solve(start=model.solve()).cost == 6 and model.solve(assuming=[unnamed]).cost == 7
+    model.add(2**70 * y >= 1)
+    yield "numbers over 64 bits", model.solve(assuming=[unnamed])["y"] and model.solve(assuming=[~y]).status is Status.UNSATISFIABLE
+    yield "which ask for less", raised(lambda: model.explain([~y])).name == raised(model.fixed).name == "TooLarge"
+
+
+def start_facts():
+    """The values of a start that misses one rule are the first that a search tries: what it finds first differs from it in little."""
+    random.seed(3)
+    model = Model()
+    items = model.variables(24)
+    model.minimise(total((1 + at % 5) * item for at, item in enumerate(items)))
+    for _ in range(30):
+        model.at_least(2, random.sample(items, 5))
+    model.clause(items[:2])
+    start = {item: at > 1 for at, item in enumerate(items)}
+    plain, led = model.solve(24), model.solve(24, start=start)
+    yield "both are cut", plain.status is led.status is Status.FOUND
+    yield "a start is tried first", sum(led[item] != value for item, value in start.items()) <= 4
+    yield "and else it is not", sum(plain[item] != value for item, value in start.items()) > 8
+
+
+def kept_facts():
+    """A child answers question after question of one model. It ends with the model, and where many wait."""
+    searches = sys.modules["pbcube.searches"]
+    is_small, searches._is_small = searches._is_small, lambda _: False
+    models = []
+    for _ in range(6):
+        model = Model()
+        x, y = model.variables(2)
+        model.add(x + y == 1)
+        models.append((model, x, y, model.fixed([x])[y]))
+    yield "fixed by a child", all(fixed is False for *_, fixed in models)
+    yield f"so many wait: {waiting()}", len(waiting()) == searches._MOST_WAITING
+    model, x, y, _ = models[-1]
+    before = waiting()
+    model.add(x >= 1)
+    answers = model.solve()[x], model.explain([y]).status, model.solve(assuming=[y], time_limit=60).status
+    yield "a kept one is told more", answers == (True, Status.UNSATISFIABLE, Status.UNSATISFIABLE) and waiting() == before
+    yield "one that was ended is started anew", models[0][0].fixed([models[0][1]])[models[0][2]] is False
+    killed = waiting()[-1]
+    os.kill(killed, signal.SIGKILL)
+    yield "one that was killed while it waited too", has_ended(killed) and all(it.fixed([x])[y] is False for it, x, y, _ in models)
+    asked = []
+    thread = threading.Thread(target=lambda: asked.append(model.solve(assuming=[x], time_limit=60).status))
+    thread.start()
+    thread.join()
+    yield "in another thread", asked == [Status.SATISFIABLE] and model.solve(assuming=[x], time_limit=60).status is Status.SATISFIABLE
+    del models, model, x, y
+    yield "each ends with its model", waiting() == [] and raised(lambda: os.waitpid(-1, os.WNOHANG)).__class__ is ChildProcessError
+    searches._is_small = is_small
+
+
+def waiting():
+    """The children that wait for questions, the one that does so longest first."""
+    searches = sys.modules["pbcube.searches"]
+    return [child._process.pid for child in (it() for it in searches._waiting) if child is not None]
+
+
+def random_facts():
+    random.seed(7)
+    for number in range(MODELS):
+        model, expected = drawn_model()
+        found = model.solve()
+        yield f"model {number}: {found} and not {expected}", found == expected
+
+
+def child_facts():
+    """What a child finds is what this process finds, in all formats, with fractions and with budgets."""
+    searches = sys.modules["pbcube.searches"]
+    random.seed(8)
+    models = [drawn_model() for _ in range(IN_CHILD)]
+    clauses = "p cnf 3 2\n1 2 0\n-1 3 0\n"
+    cubes = "p inccnf\n1 2 0\na 1 0\n"
+    calls = [lambda: solve(TEXT), lambda: solve(TEXT, nodes=0), lambda: solve(clauses, "cnf"), lambda: solve(cubes, "icnf")]
+    here = [call() for call in calls]
+    kept, searches._is_small = searches._is_small, lambda _: False
+    yield "texts by a child", [call() for call in calls] == here
+    yield "models by a child", [model.solve() for model, _ in models] == [expected for _, expected in models]
+    yield "with a time limit", models[0][0].solve(time_limit=60) == models[0][1] and solve(TEXT, time_limit=0).status is Status.UNKNOWN
+    yield "a refusal by a child", isinstance(raised(lambda: solve("1 x1 x2 >= 1 ;")), Refused)
+    python, sys.executable = sys.executable, "/opt/a program/with/its own"
+    yield "with no Python to start", solve(TEXT) == here[0] and isinstance(raised(lambda: solve(TEXT, time_limit=9)), ChildProcessError)
+    sys.executable = python
+    answers = []
+    thread = threading.Thread(target=lambda: answers.extend((solve(TEXT), solve(TEXT, time_limit=60))))
+    thread.start()
+    thread.join()
+    yield "in another thread", answers == [here[0], here[0]]
+    searches._is_small = kept
+    yield "with no child left", raised(lambda: os.waitpid(-1, os.WNOHANG)).__class__ is ChildProcessError
+
+
+# ---- searches that are ended
+
+
+class Run:
+    """A Python that runs the text, in a group of its own, and what it says."""
+
+    def __init__(self, text):
+        environment = {**os.environ, "PYTHONPATH": str(PYTHON), "PYTHONDONTWRITEBYTECODE": "1"}
+        pipes = {"stdout": subprocess.PIPE, "stderr": subprocess.STDOUT, "stdin": subprocess.DEVNULL, "text": True}
+        self.process = subprocess.Popen([sys.executable, "-c", HARD + text], env=environment, start_new_session=True, **pipes)
+
+    def line(self):
+        """The next line, and how many seconds it took."""
+        begun = time.monotonic()
+        return self.process.stdout.readline().strip(), time.monotonic() - begun
+
+    def child(self):
+        """The process of its search, once that has the library."""
+        for _ in range(1000):
+            found = [it for it in os.listdir("/proc") if it.isdigit() and is_searching(it, self.process.pid)]
+            if found:
+                return int(found[0])
+            time.sleep(0.02)
+        sys.exit("python: no search has begun")
+
+
+def is_searching(pid, parent):
+    """Whether it is a child of the parent that runs the search, and not yet still the parent's program, and has the library."""
+    try:
+        is_child = int(stat_of(pid)[1]) == parent and "library.py" in open(f"/proc/{pid}/cmdline").read()
+        return is_child and "libpbcube" in open(f"/proc/{pid}/maps").read()
+    except OSError:
+        return False
+
+
+def stat_of(pid):
+    """The state of a process, its parent and so on."""
+    return open(f"/proc/{pid}/stat").read().rpartition(")")[2].split()
+
+
+def has_ended(pid):
+    """Whether the process ends soon. What nobody has asked about may stay, as a zombie."""
+    for _ in range(PATIENCE * 50):
+        try:
+            if stat_of(pid)[0] == "Z":
+                return True
+        except OSError:
+            return True
+        time.sleep(0.02)
+    return False
+
+
+INTERRUPTED = """
+while True:
+    try:
+        say("begun")
+        say("found", hard().solve())
+    except KeyboardInterrupt:
+        say("interrupted", children(), easy())
+"""
+
+
+def interrupt_facts(send):
+    """Ctrl-C within a search, and at other times from the beginning of a call on, as while the child starts."""
+    run = Run(INTERRUPTED)
+    for delay in (None, None, 0, 0.005, 0.01, 0.02, 0.03, 0.05, 0.1):
+        run.line()
+        if delay is None:
+            run.child()
+        time.sleep(delay or 0)
+        send(run.process.pid, signal.SIGINT)
+        said, seconds = run.line()
+        yield f"Ctrl-C by {send.__name__} after {delay} seconds: {said!r}", said == "interrupted [] 2"
+        yield f"Ctrl-C by {send.__name__} after {delay} seconds took {seconds}", seconds < PATIENCE
+    run.process.kill()
+    run.process.wait()
+
+
+ASKED = """
+pbcube.searches._is_small = lambda _: False
+model, x = hard(), pbcube.Literal(1)
+say(model.fixed([x, ~x]).status, len(children()))
+try:
+    model.fixed()
+except KeyboardInterrupt:
+    say("interrupted", children(), model.fixed([x, ~x]).status, len(children()))
+say(model.fixed(time_limit=0.5).status, children())
+"""
+
+
+def question_end_facts():
+    """A child that is kept ends with Ctrl-C and with a time limit, and the model asks another one."""
+    run = Run(ASKED)
+    yield "a question", run.line()[0] == "Status.UNSATISFIABLE 1"
+    time.sleep(0.3)
+    run.process.send_signal(signal.SIGINT)
+    for told in ("interrupted [] Status.UNSATISFIABLE 1", "Status.UNKNOWN []"):
+        said, _ = run.line()
+        yield f"a question that is ended: {said!r}", said == told
+    yield "and then it ends", run.process.wait() == 0
+
+
+ALARMED = """
+def ring(*_):
+    raise RuntimeError("rung")
+signal.signal(signal.SIGUSR1, ring)
+signal.signal(signal.SIGINT, lambda *_: say("noted"))
+try:
+    hard().solve()
+except RuntimeError:
+    say("rung", children(), easy())
+try:
+    hard().solve()
+except pbcube.Error as fault:
+    say(fault.name, children(), easy())
+"""
+
+
+def exception_facts():
+    """A signal whose handler returns does not end the search, one whose handler raises does; and a child that another one kills."""
+    run = Run(ALARMED)
+    run.child()
+    os.killpg(run.process.pid, signal.SIGINT)
+    yield "a handler that returns", run.line()[0] == "noted" and run.process.poll() is None
+    run.process.send_signal(signal.SIGUSR1)
+    said, seconds = run.line()
+    yield f"a handler that raises: {said!r} after {seconds} seconds", said == "rung [] 2" and seconds < PATIENCE
+    os.kill(run.child(), signal.SIGKILL)
+    yield "a child that is killed", run.line()[0] == "Ended [] 2" and run.process.wait() == 0
+
+
+LIMITED = """
+import time
+begun = time.monotonic()
+answer = hard().solve(time_limit=1)
+say(answer.status, answer.cost, answer.values, children(), time.monotonic() - begun < 1 + {patience})
+model = pbcube.Model()
+parts = model.variables(100)
+weights = [[pow(row + 5, at + 3, 997) for at in range(100)] for row in range(10)]
+gains = [sum(column) // 10 + pow(7, at + 3, 97) for at, column in enumerate(zip(*weights))]
+model.maximise(pbcube.total(gain * part for gain, part in zip(gains, parts)))
+for row in weights:
+    model.add(pbcube.total(weight * part for weight, part in zip(row, parts)) <= sum(row) // 2)
+answer = model.solve(time_limit=4)
+taken = lambda row: sum(number for number, value in zip(row, answer.values) if value)
+say(answer.status, all(taken(row) <= sum(row) // 2 for row in weights), answer.cost == taken(gains), children(), easy())
+seen = []
+thread = threading.Thread(target=lambda: seen.append(hard().solve(time_limit=0.3).status))
+thread.start()
+thread.join()
+say(seen, children())
+"""
+
+
+def limit_facts():
+    run = Run(LIMITED.format(patience=PATIENCE))
+    expected = ("Status.UNKNOWN None None [] True", "Status.FOUND True True [] 2", "[Status.UNKNOWN] []")
+    for told in expected:
+        said = run.line()[0]
+        yield f"time limit: {said} and not {told}", said == told
+    yield "it ends", run.process.wait() == 0
+
+
+def death_facts():
+    run = Run("hard().solve()")
+    child = run.child()
+    run.process.kill()
+    run.process.wait()
+    yield "where the process is killed its child ends", has_ended(child)
+
+
+def main():
+    calls = [value_facts, page_facts, wide_facts, copy_facts, question_facts, start_facts, random_facts, child_facts, kept_facts]
+    refusals = [foreign_facts, refusal_facts, room_facts, text_facts]
+    interrupts = [lambda: interrupt_facts(os.kill), lambda: interrupt_facts(os.killpg), question_end_facts]
+    ends = [*interrupts, exception_facts, limit_facts, death_facts]
+    facts = [fact for part in (*calls, *refusals, *ends) for fact in part()]
+    wrong = [what for what, holds in facts if not holds]
+    print(*(f"python: not so: {it}" for it in wrong), sep="\n", end="\n" if wrong else "")
+    print(f"python: {len(facts) - len(wrong)} facts of the package hold, {len(wrong)} do not")
+    return 1 if wrong else 0
+
+
+if __name__ == "__main__":
+    sys.exit(main())

@@ -1,0 +1,277 @@
+#!/usr/bin/env python3
+"""Asks random questions on random instances, from C, Rust and Python, and prints each answer that a listing of all assignments gives not.
+
+    tests/runs/questions.py
+
+It takes the library that is built. Each instance is small; some have no objective, some no solution. Between the questions of one
+instance more is told of it, and values are suggested. A question is for the least assignment under literals, why there is none, or
+which variables are fixed, some with a budget of decisions. A row of questions on a larger instance must take no memory but for its
+first ones. Where there is no cargo Rust is left out, and all where there is no C compiler.
+"""
+import itertools
+import os
+import random
+import sys
+import tempfile
+from dataclasses import dataclass, field
+from pathlib import Path
+
+sys.dont_write_bytecode = True
+sys.path.insert(0, str(Path(__file__).resolve().parents[1]))
+from lib import callers, ran
+from lib.callers import NO_LIMIT, RELATIONS, SAID, by_driver, drivers, terms_of
+from lib.instance import HOLDS, value
+from lib.reports import values_line
+
+pbcube = callers.package()
+INSTANCES = 300
+QUESTIONS = 20
+ROW, ROW_ITEMS, ROW_QUESTIONS = 1000, 60, 10_000
+FIRST_QUESTIONS = 1  # which may take memory: for the search, and for two assignments
+STATUSES = {False: "0", True: "1", None: "2"}
+
+
+@dataclass
+class Known:
+    """What an instance was told so far, and the feasible assignments with their costs, the least first."""
+
+    variables: int
+    objective: list
+    constraints: list = field(default_factory=list)
+
+    def add(self, terms, relation, bound):
+        self.constraints.append((terms, relation, bound))
+
+    def listed(self):
+        values = itertools.product((False, True), repeat=self.variables)
+        feasible = [it for it in values if all(HOLDS[relation](value(terms, it), bound) for terms, relation, bound in self.constraints)]
+        return sorted((value(self.objective or (), it), it) for it in feasible)
+
+
+def is_true(values, literal):
+    return values[abs(literal) - 1] == (literal > 0)
+
+
+def drawn_terms(variables, count):
+    return [(random.randint(-4, 6), random.choice((1, -1)) * random.randint(1, variables)) for _ in range(count)]
+
+
+def drawn_constraint(variables):
+    terms = drawn_terms(variables, random.randint(1, variables))
+    low, high = (sum(f(0, coefficient) for coefficient, _ in terms) for f in (min, max))
+    relation = random.choice((">=", ">=", "<=", "="))
+    return terms, relation, random.randint(low, (low + high) // 2 if relation == ">=" else high)
+
+
+@dataclass(frozen=True)
+class Step:
+    """A statement ('objective', 'sum'), values to be suggested, a question, or 'new', and of a question which assignments it is about."""
+
+    kind: str
+    given: tuple = ()
+    among: int = 0
+    decisions: int = NO_LIMIT
+    listed: tuple = ()
+    has_objective: bool = False
+
+    def written(self):
+        """As the drivers read it."""
+        if self.kind == "objective":
+            return f"objective {terms_of(self.given)}\n"
+        if self.kind == "sum":
+            terms, relation, bound = self.given
+            return f"sum {RELATIONS.index(relation)} {bound} {terms_of(terms)}\n"
+        numbers = f"{len(self.given)} {' '.join(str(int(number)) for number in self.given)}\n"
+        return {
+            "new": "new\n",
+            "suggest": f"suggest {numbers}",
+            "under": f"under {self.decisions} {numbers}",
+            "explain": f"explain {self.decisions} {numbers}",
+            "fixed": f"fixed {self.among} {self.decisions} {numbers}",
+        }[self.kind]
+
+    def under(self, literals):
+        """The feasible assignments that make the literals true."""
+        return [(cost, values) for cost, values in self.listed if all(is_true(values, literal) for literal in literals)]
+
+
+def drawn_question(variables, listed, has_objective):
+    kind = random.choice(("under", "explain", "fixed"))
+    count = random.randint(0, variables)
+    given = tuple(random.choice((1, -1)) * random.randint(1, variables) for _ in range(count))
+    decisions = random.randint(0, 3) if random.random() < 0.15 else NO_LIMIT
+    return Step(kind, given, random.randint(0, 1), decisions, listed, has_objective)
+
+
+def steps_of(number):
+    """What is told and asked of one instance."""
+    variables = random.randint(2, 7)
+    known = Known(variables, None if number % 3 == 0 else drawn_terms(variables, variables))
+    yield Step("new")
+    if known.objective is not None:
+        yield Step("objective", tuple(known.objective))
+    whole = ([(1, variable) for variable in range(1, variables + 1)], ">=", 0)  # which names each variable
+    for constraint in (whole, *(drawn_constraint(variables) for _ in range(random.randint(1, 4)))):
+        known.add(*constraint)
+        yield Step("sum", constraint)
+    listed = tuple(known.listed())
+    for _ in range(QUESTIONS):
+        if random.random() < 0.1:
+            constraint = drawn_constraint(variables)
+            known.add(*constraint)
+            listed = tuple(known.listed())
+            yield Step("sum", constraint)
+        if random.random() < 0.2:
+            yield Step("suggest", tuple(random.random() < 0.5 for _ in range(variables)))
+        yield drawn_question(variables, listed, known.objective is not None)
+
+
+def is_least(step, said, answer):
+    """Whether this is the answer to a question for the least assignment."""
+    found = step.under(step.given)
+    if answer in (1, 11):
+        shown = [report_of(cost, values, answer, step.has_objective) for cost, values in found]
+        return step.decisions != NO_LIMIT and said in (shown if answer == 11 else [report_of(None, None, 1, step.has_objective)])
+    if not found:
+        return (said, answer) == (report_of(None, None, 20, step.has_objective), 20)
+    right = 30 if step.has_objective else 10
+    return (said, answer) == (report_of(*found[0], right, step.has_objective), right)
+
+
+def report_of(cost, values, answer, has_objective):
+    told = f"o {cost}\n" if has_objective and values is not None else ""
+    return f"{told}s {SAID.get(answer, 'SATISFIABLE')}\n{'' if values is None else values_line(values, False)}"
+
+
+def is_why(step, said, answer):
+    """Whether this is an answer to why nothing is feasible."""
+    core = [int(word) for word in said.split()[1:]]
+    if answer not in (20, 21):
+        return not core and (bool(step.under(step.given)) if answer == 10 else answer == 1 and step.decisions != NO_LIMIT)
+    is_core = set(core) <= set(step.given) and not step.under(core)
+    return is_core and (step.decisions != NO_LIMIT if answer == 21 else all(step.under(left_out(core, at)) for at in range(len(core))))
+
+
+def left_out(core, at):
+    return core[:at] + core[at + 1 :]
+
+
+def is_fixed(step, said, answer):
+    """Whether this is the answer to which variables are fixed."""
+    found = step.under(step.given)
+    if answer == 20 or not found:
+        return not found and (answer == 20 or (answer == 1 and step.decisions != NO_LIMIT))
+    about = [values for cost, values in found if step.among == 0 or cost == found[0][0]]
+    right = ["2" if len({*column}) == 2 else str(int(column[0])) for column in zip(*about)]
+    told = said.split()[1]
+    is_right = len(told) == len(right) and all(one in (other, "3") for one, other in zip(told, right))
+    return is_right and answer == (1 if "3" in told else 10) and (step.decisions != NO_LIMIT or "3" not in told)
+
+
+JUDGES = {"under": is_least, "explain": is_why, "fixed": is_fixed}
+
+
+class Asked:
+    """A model of the package for Python that does what each step says."""
+
+    def __init__(self, variables):
+        self.model = pbcube.Model()
+        self.variables = self.model.variables(variables)
+        self.start = None
+
+    def literal(self, number):
+        return self.variables[number - 1] if number > 0 else ~self.variables[-number - 1]
+
+    def total(self, terms):
+        return pbcube.total(coefficient * self.literal(number) for coefficient, number in terms)
+
+    def tell(self, step):
+        if step.kind == "objective":
+            self.model.minimise(self.total(step.given))
+        elif step.kind == "sum":
+            terms, relation, bound = step.given
+            left = self.total(terms)
+            self.model.add(left >= bound if relation == ">=" else left <= bound if relation == "<=" else left == bound)
+        else:
+            self.start = dict(zip(self.variables, step.given))
+
+    def ask(self, step):
+        """The same as a driver answers."""
+        nodes = None if step.decisions == NO_LIMIT else step.decisions
+        assuming = [self.literal(number) for number in step.given]
+        if step.kind == "under":
+            answer = self.model.solve(nodes, assuming=assuming, start=self.start)
+            return report_of(answer.cost, answer.values, answer.status.value, step.has_objective), answer.status.value
+        if step.kind == "explain":
+            why = self.model.explain(assuming, nodes)
+            core = "".join(f" {literal.number}" for literal in why.core or ())
+            return f"core{core}\n", 21 if why.core is not None and not why.is_minimal else why.status.value
+        fixed = self.model.fixed(assuming, ("feasible", "least")[step.among], nodes)
+        is_told = fixed.status is not pbcube.Status.UNSATISFIABLE
+        told = [STATUSES[fixed[it]] if fixed.is_known(it) else "3" for it in self.variables] if is_told else []
+        return f"fixed {''.join(told)}\n", fixed.status.value
+
+
+def by_python(every):
+    asked, reports = None, []
+    for at, step in enumerate(every):
+        if step.kind == "new":
+            whole = next(it for it in every[at:] if it.kind == "sum")
+            asked = Asked(len(whole.given[0]))
+        elif step.kind in JUDGES:
+            reports.append(asked.ask(step))
+        else:
+            asked.tell(step)
+    return reports
+
+
+def wrong_answers(way, every, reports):
+    questions = [step for step in every if step.kind in JUDGES]
+    if len(reports) != len(questions):
+        yield f"{way}: {len(reports)} answers to {len(questions)} questions"
+    for step, (said, answer) in zip(questions, reports):
+        if not JUDGES[step.kind](step, said, answer):
+            yield f"{way}: {said!r} with {answer} to {step.written()!r} on {step.listed[:8]}"
+
+
+def row_of_questions(count):
+    """An instance of many rows, and so many questions on it."""
+    random.seed(11)
+    lines = ["objective " + terms_of([(random.randint(1, 9), item) for item in range(1, ROW_ITEMS + 1)]) + "\n"]
+    for _ in range(ROW):
+        clause = [(1, item) for item in random.sample(range(1, ROW_ITEMS + 1), 12)]
+        lines.append(f"sum 0 1 {terms_of(clause)}\n")
+    for _ in range(count):
+        given = [random.choice((1, -1)) * item for item in random.sample(range(1, ROW_ITEMS + 1), 3)]
+        lines.append(f"under 30 3 {' '.join(map(str, given))}\n")
+    return "".join(lines)
+
+
+def memory_of_a_row(command):
+    """What a row of questions to a driver takes of memory beyond its first ones, as a list of one text or none."""
+
+    def requests(count):
+        environment = {**os.environ, "TELL_REQUESTS": "1"}
+        ended = ran(command, input=row_of_questions(count).encode(), env=environment, timeout=callers.SECONDS)
+        return ended.status, ended.err
+
+    few, many = requests(FIRST_QUESTIONS), requests(FIRST_QUESTIONS + ROW_QUESTIONS)
+    return [] if few == many and few[0] == 0 else [f"memory: {few} of {FIRST_QUESTIONS} question, {many} of {ROW_QUESTIONS} more"]
+
+
+def main():
+    random.seed(10)
+    every = [step for number in range(INSTANCES) for step in steps_of(number)]
+    with tempfile.TemporaryDirectory() as name:
+        commands = dict(drivers(Path(name)))
+        ways = {way: by_driver(command, every) for way, command in commands.items()}
+        wrong = memory_of_a_row(commands["C"])
+    ways["Python"] = by_python(every)
+    wrong += [text for way, reports in ways.items() for text in wrong_answers(way, every, reports)]
+    print("\n".join(wrong[:20]), end="\n" if wrong else "")
+    print(f"questions: {INSTANCES} instances with {QUESTIONS} questions each, from {', '.join(ways)}: {len(wrong)} wrong answers")
+    return 1 if wrong else 0
+
+
+if __name__ == "__main__":
+    sys.exit(main())

@@ -1,0 +1,370 @@
+#!/usr/bin/env python3
+"""Runs the recipes of examples/cluster/ on this machine, and compares what they join with the report of one run.
+
+    tests/runs/recipes.py
+
+It takes the programs that the merge gate built. The recipes for GNU parallel are run where that is here or can be fetched, those
+for Slurm task by task, without Slurm. Reports are lost in them, a solver is killed, and once there is no solver at all. The tasks
+that exchange notes meet hostile files in the folder of notes, and some are run twice at a time.
+"""
+import os
+import shutil
+import subprocess
+import sys
+import tempfile
+from concurrent.futures import ThreadPoolExecutor
+from pathlib import Path
+
+sys.dont_write_bytecode = True
+sys.path.insert(0, str(Path(__file__).resolve().parents[1]))
+from lib import PROGRAMS, SECONDS, TOP, Ended, program, ran, run, side_by_side
+
+CLUSTER = TOP / "examples/cluster"
+DIVIDERS = ("pbcube_pieces", "pbcube_join")
+GIGABYTES = 4
+
+
+def has_parallel():
+    """Whether GNU parallel is here, or can be fetched from Debian's packages."""
+    if not shutil.which("parallel") and shutil.which("apt-get") and os.geteuid() == 0:
+        for words in (["update"], ["install", "--yes", "--no-install-recommends", "parallel"]):
+            subprocess.run(["apt-get", "--quiet", *words], stdin=subprocess.DEVNULL, capture_output=True, timeout=300)
+    return shutil.which("parallel") is not None
+
+
+def reports_in(folder):
+    """The names of the reports of a folder, in order."""
+    return sorted(it.name for it in folder.glob("*.report"))
+
+
+def times_of(folder, without=""):
+    """When each report of a folder was written, but for the one of this name."""
+    return {it.name: it.stat().st_mtime_ns for it in folder.glob("*.report") if it.name != without}
+
+
+def log_of(folder, number):
+    """What a task of Slurm has said."""
+    file = folder / f"task-{number}.log"
+    return file.read_text() if file.exists() else ""
+
+
+class Recipes:
+    """Recipes that solve one instance, and a folder to run them in."""
+
+    def __init__(self, room, file):
+        room.mkdir()
+        self.room, self.file = room, file
+        whole = run("pbcube", file)
+        self.answer = Ended(whole.out, "", whole.status)
+        self.paths = {}
+        self.put_path("all", PROGRAMS)
+        self.put_path("no solver", DIVIDERS)
+
+    def put_path(self, name, programs, **scripts):
+        """Makes a folder with these programs, and shell scripts in the place of others."""
+        folder = self.paths[name] = self.room / f"path {name}"
+        folder.mkdir()
+        for it in programs:
+            (folder / it).symlink_to(program(it))
+        for it, text in scripts.items():
+            (folder / it).write_text(f'#!/bin/sh\n{text}\nexec {program(it)} "$@"\n')
+            (folder / it).chmod(0o755)
+
+    def ran(self, script, *words, path="all", **more):
+        """How a recipe ends on these words, with the programs of one of the paths before the others. One that hangs is ended."""
+        others = [it for it in os.environ["PATH"].split(os.pathsep) if not (Path(it) / "pbcube").exists()]
+        told = {**os.environ, "PATH": os.pathsep.join([str(self.paths[path]), *others]), **more}
+        command = ["timeout", str(SECONDS), CLUSTER / script, *map(str, words)]
+        return ran(command, env=told, timeout=2 * SECONDS)
+
+    def joined(self, folder, *words):
+        """What the job that joins leaves in the folder: its status, the report and the log."""
+        status = self.ran("slurm-join.sh", self.file, "opb", folder, *words).status
+        return status, (folder / "joined").read_text(), (folder / "joined.log").read_text()
+
+
+class OfPieces(Recipes):
+    """Those of pieces in files."""
+
+    def __init__(self, room):
+        super().__init__(room, TOP / "examples/repairs.opb")
+        # it ends by a signal on one piece, and writes a part of a report before
+        self.put_path("a killed solver", DIVIDERS, pbcube='case "$*" in *4.opb) echo "o 3"; kill -9 $$ ;; esac')
+
+    def of_parallel(self):
+        folder = self.room / "parallel"
+        words = ["parallel.sh", self.file, "opb", "3", folder]
+        for path in ("no solver", "a killed solver"):
+            ended = self.ran(*words, path=path)
+            if ended.out == self.answer.out or "has no report" not in ended.err:
+                yield f"parallel.sh, {path}: {ended}"
+        if reports_in(folder) != [f"{number}.report" for number in range(9) if number != 4]:
+            yield f"parallel.sh, a killed solver: {reports_in(folder)}"
+        yield from self.of_lost_reports(words, folder)
+        yield from self.of_old_folders(folder)
+        own_cubes = ["parallel.sh", TOP / "examples/colouring.icnf", "icnf", "1", self.room / "own"]
+        for ended in (self.ran(*own_cubes), self.ran(*own_cubes)):
+            if ended.status != 10:
+                yield f"parallel.sh, own cubes: {ended}"
+
+    def of_lost_reports(self, words, folder):
+        for lost in ("4.report", "3.report", "0.report"):
+            if lost == "0.report":
+                (folder / lost).write_text("")
+            else:
+                (folder / lost).unlink(missing_ok=True)
+            old = times_of(folder, lost)
+            if (ended := self.ran(*words)) != self.answer:
+                yield f"parallel.sh, without {lost}: {ended}"
+            if times_of(folder, lost) != old:
+                yield f"parallel.sh, without {lost}: other pieces were solved again"
+
+    def of_old_folders(self, folder):
+        other = self.room / "other.opb"
+        other.write_text(self.file.read_text() + "* another text\n")
+        for file, split in ((other, 3), (self.file, 2), (self.file, 0)):
+            ended = self.ran("parallel.sh", file, "opb", split, folder)
+            if (ended.out, ended.err.count("\n"), ended.status) != ("", 1, 2):
+                yield f"parallel.sh, {file.name} and split {split} in an old folder: {ended}"
+
+    def of_slurm(self):
+        folder = self.room / "slurm"
+        run("pbcube_pieces", "--split", 3, "--out", folder, self.file)
+        (folder / "8.report").write_text("")
+
+        def task(number, *words, path="all"):
+            ended = self.ran("slurm.sh", folder, *words, path=path, SLURM_ARRAY_TASK_ID=str(number))
+            return ended.status, log_of(folder, number)
+
+        if (said := task(0, path="no solver"))[0] != 1 or "ended with status 127" not in said[1] or (folder / "0.report").exists():
+            yield f"slurm.sh, no solver: {said}"
+        # pieces 3 to 5: the two beside the one whose solver is killed are solved
+        if (said := task(1, 3, path="a killed solver"))[0] != 1 or "ended with status 137" not in said[1]:
+            yield f"slurm.sh, a killed solver: {said}"
+        if reports_in(folder) != ["3.report", "5.report", "8.report"]:
+            yield f"slurm.sh, a killed solver: {reports_in(folder)}"
+        for number in range(5):
+            if (said := task(number, 2)) != (0, ""):
+                yield f"slurm.sh, task {number}: {said}"
+        for number in (5, 400):
+            if (said := task(number, 2))[0] or "there is no piece" not in said[1]:
+                yield f"slurm.sh, task {number}: {said}"
+        if (said := self.joined(folder)) != (0, self.answer.out, ""):
+            yield f"slurm-join.sh: {said}"
+        for file in folder.glob("*.report"):
+            file.unlink()
+        if (said := self.joined(folder))[:2] != (1, "s UNKNOWN\n"):
+            yield f"slurm-join.sh, without reports: {said}"
+
+
+class OfTasks(Recipes):
+    """Those of tasks that exchange notes."""
+
+    SPLIT, TASKS, KILLED = 3, 4, 2
+
+    def __init__(self, room):
+        super().__init__(room, TOP / "examples/hard/knapsack.opb")
+        solver = program("pbcube_task")
+        # it leaves its note and is ended by a signal while it writes its report
+        killed = f'case "$*" in *"--task {self.KILLED} "*) {solver} "$@" | head -n 5; kill -9 $$ ;; esac'
+        self.put_path("a killed task", DIVIDERS, pbcube_task=killed)
+        self.put_path("few decisions", DIVIDERS, pbcube_task='set -- --nodes 1 "$@"')
+        # it writes its report in two parts, so that two that begin together write at the same time
+        slow = f'told=$({solver} "$@"); status=$?; echo "$told" | head -n 2; sleep 1; echo "$told" | tail -n +3'
+        self.put_path("slow", DIVIDERS, pbcube_task=f"{slow}; exit $status")
+        self.other = room / "other.opb"
+        self.other.write_text(self.file.read_text().replace("<= ", "<= 1"))
+        self.note, self.note_of_other = self.note_on(self.file), self.note_on(self.other)
+
+    def note_on(self, file):
+        """The note that a task leaves on an instance."""
+        notes = self.room / f"notes on {file.name}"
+        run("pbcube_task", "--task", 0, "--tasks", 1, "--exchange", notes, file)
+        return (notes / "0.note").read_text()
+
+    def parallel(self, folder, file=None, kind="opb", split=SPLIT, tasks=TASKS, path="all"):
+        """How the recipe for GNU parallel ends."""
+        return self.ran("parallel-tasks.sh", file or self.file, kind, split, tasks, folder, path=path)
+
+    def again(self, numbers):
+        """The line that names tasks that are to be run again."""
+        return f"pbcube_join: run again: tasks {' '.join(map(str, numbers))}\n"
+
+    def of_parallel(self):
+        yield from self.of_lost_tasks()
+        yield from self.of_other_words()
+        yield from self.of_few_decisions()
+        yield from self.of_two_recipes_at_once()
+        yield from self.of_hostile_notes()
+
+    def of_lost_tasks(self):
+        folder = self.room / "parallel"
+        for path, lost in (("no solver", range(self.TASKS)), ("a killed task", [self.KILLED])):
+            ended = self.parallel(folder, path=path)
+            if "OPTIMUM" in ended.out or not ended.err.endswith(self.again(lost)):
+                yield f"parallel-tasks.sh, {path}: {ended}"
+        if reports_in(folder) != ["0.report", "1.report", "3.report"]:
+            yield f"parallel-tasks.sh, a killed task: {reports_in(folder)}"
+        cut = run("pbcube_task", "--split", self.SPLIT, "--nodes", 1, "--task", 0, "--tasks", self.TASKS, self.file).out
+        yield from self.of_lost_report(folder, self.KILLED, None)
+        yield from self.of_lost_report(folder, 1, None)
+        yield from self.of_lost_report(folder, 3, "")
+        yield from self.of_lost_report(folder, 0, cut)
+        if (ended := self.parallel(folder)) != self.answer:
+            yield f"parallel-tasks.sh, all reports are there: {ended}"
+
+    def of_other_words(self):
+        """The folder has reports of all tasks. Then a format is wrong, and there are more tasks than pieces."""
+        for words in ({"file": self.other}, {"split": self.SPLIT - 1}, {"tasks": self.TASKS + 1}):
+            ended = self.parallel(self.room / "parallel", **words)
+            if (ended.out, ended.err.count("\n"), ended.status) != ("", 1, 2):
+                yield f"parallel-tasks.sh, {words} in an old folder: {ended}"
+        folder = self.room / "refused"
+        if (ended := self.parallel(folder, kind="cnf")).out or "c refused: BadHeader" not in ended.err or reports_in(folder):
+            yield f"parallel-tasks.sh, another format: {ended} {reports_in(folder)}"
+        folder = self.room / "one piece"
+        ended = self.parallel(folder, split=0)
+        if ended.out != self.answer.out or ended.err.count("none of the 1 pieces") != self.TASKS - 1:
+            yield f"parallel-tasks.sh, one piece: {ended}"
+        if len(reports_in(folder)) != self.TASKS:
+            yield f"parallel-tasks.sh, one piece: {reports_in(folder)}"
+
+    def of_lost_report(self, folder, number, text):
+        """What is wrong where the report of one task is not there, or has this text, and the same words are run once more."""
+        lost = folder / f"{number}.report"
+        lost.unlink(missing_ok=True)
+        if text is not None:
+            lost.write_text(text)
+        old = times_of(folder, lost.name)
+        if (ended := self.parallel(folder)) != self.answer:
+            yield f"parallel-tasks.sh, {lost.name} is {text!r}: {ended}"
+        if times_of(folder, lost.name) != old:
+            yield f"parallel-tasks.sh, {lost.name} is {text!r}: other tasks were run again"
+
+    def of_few_decisions(self):
+        """A few decisions find the least cost only where the notes tell it."""
+        folder, least = self.room / "few", self.answer.out.splitlines()[0]
+        for is_told in (False, True):
+            ended = self.parallel(folder, path="few decisions")
+            if "OPTIMUM" in ended.out or (least in ended.out) != is_told or "run again" not in ended.err:
+                yield f"parallel-tasks.sh, few decisions, {is_told}: {ended}"
+            if (ended := self.parallel(folder)) != self.answer:
+                yield f"parallel-tasks.sh, after few decisions: {ended}"
+            for report in folder.glob("*.report"):
+                report.unlink()
+
+    def of_two_recipes_at_once(self):
+        folder = self.room / "at once"
+        with ThreadPoolExecutor(2) as pool:
+            for ended in pool.map(lambda _: self.parallel(folder, path="slow"), range(2)):
+                if (ended.out, ended.status) != (self.answer.out, self.answer.status) or self.are_too_many(ended.err):
+                    yield f"parallel-tasks.sh, two at a time: {ended}"
+
+    def are_too_many(self, said):
+        """Whether these are lines on other things than notes, or more than one for each task."""
+        lines = said.splitlines()
+        return len(lines) > self.TASKS or not all("notes" in line for line in lines)
+
+    def hostile(self):
+        """What may lie in the place of a note, and whether each is a fault of the folder. Each is laid to a path."""
+        head, cost, values = self.note.splitlines(keepends=True)
+        ones = values.replace("0", "1")
+        yield "another instance's best", False, lambda it: it.write_text(self.note_of_other)
+        yield "a cost that lies", False, lambda it: it.write_text(f"{head}cost -99999\n{values}")
+        yield "values that are not feasible", False, lambda it: it.write_text(f"{head}cost -99999\n{ones}")
+        yield "the cost of another instance's best", False, lambda it: it.write_text(head + self.note_of_other.split("\n", 1)[1])
+        yield "half of a note", False, lambda it: it.write_text(head + cost + values[:20])
+        yield "zeros", False, lambda it: (it.touch(), os.truncate(it, GIGABYTES << 30))
+        yield "a link to a device", True, lambda it: it.symlink_to("/dev/zero")
+        yield "a link to itself", True, lambda it: it.symlink_to(it.name)
+        yield "a folder", True, lambda it: it.mkdir()
+        yield "a pipe", True, os.mkfifo
+
+    def of_hostile_notes(self):
+        """Each hostile file lies in the place of one task's note and of every task's, and once a file in that of the folder."""
+        cases = [(*it, places) for it in self.hostile() for places in ([1], range(self.TASKS))]
+        yield from (line for lines in side_by_side(lambda it: list(self.of_hostile_note(*it)), cases) for line in lines)
+        folder = self.room / "no folder"
+        folder.mkdir()
+        (folder / "notes").touch()
+        ended = self.parallel(folder)
+        if (ended.out, ended.status, ended.err.count("cannot use notes")) != (self.answer.out, self.answer.status, self.TASKS):
+            yield f"parallel-tasks.sh, the folder of notes is a file: {ended}"
+
+    def of_hostile_note(self, name, is_fault, lay, places):
+        folder = self.room / f"{name} {len(places)}"
+        notes = folder / "notes"
+        notes.mkdir(parents=True)
+        for task in places:
+            lay(notes / f"{task}.note")
+        ended = self.parallel(folder)
+        if (ended.out, ended.status) != (self.answer.out, self.answer.status):
+            yield f"parallel-tasks.sh, {name} in the places {places}: {ended}"
+        if self.are_too_many(ended.err) or (ended.err != "") != is_fault:
+            yield f"parallel-tasks.sh, {name} in the places {places}: {ended.err!r}"
+
+    def slurm(self, folder, number, path="all", kind="opb"):
+        """The status of a task of Slurm, and its log."""
+        words = (self.file, kind, self.SPLIT, self.TASKS, folder)
+        told = {"SLURM_ARRAY_TASK_ID": str(number), "SLURM_CPUS_PER_TASK": str(1 + number % 2)}
+        return self.ran("slurm-tasks.sh", *words, path=path, **told).status, log_of(folder, number)
+
+    def of_slurm(self):
+        folder = self.room / "slurm"
+        failing = [(0, "no solver", "opb", "status 127"), (self.KILLED, "a killed task", "opb", "status 137")]
+        failing += [(1, "all", "cnf", "c refused"), (self.TASKS, "all", "opb", "status 2")]
+        for number, path, kind, told in failing:
+            if (said := self.slurm(folder, number, path, kind))[0] != 1 or told not in said[1] or reports_in(folder):
+                yield f"slurm-tasks.sh, {path}, {kind}, task {number}: {said} {reports_in(folder)}"
+        for number in range(self.TASKS):
+            path = "few decisions" if number == self.KILLED else "all"
+            if (said := self.slurm(folder, number, path)) != (0, ""):
+                yield f"slurm-tasks.sh, {path}, task {number}: {said}"
+        unknown = self.slurm(self.room / "unknown", 0, "few decisions"), reports_in(self.room / "unknown")
+        if unknown != ((0, ""), ["0.report"]):
+            yield f"slurm-tasks.sh, nothing is found: {unknown}"
+        if (said := self.joined(folder, self.TASKS))[0] or "OPTIMUM" in said[1] or said[2] != self.again([self.KILLED]):
+            yield f"slurm-join.sh, a task is missing: {said}"
+        yield from self.of_tasks_again(folder)
+        yield from self.of_two_tasks_at_once(folder)
+
+    def of_tasks_again(self, folder):
+        """In the report of one task a piece was cut. All others are whole."""
+        old = times_of(folder, f"{self.KILLED}.report")
+        for number in range(self.TASKS):
+            if (said := self.slurm(folder, number)) != (0, ""):
+                yield f"slurm-tasks.sh, once more, task {number}: {said}"
+        if times_of(folder, f"{self.KILLED}.report") != old:
+            yield "slurm-tasks.sh, once more: other tasks were run again"
+        if not all((folder / f"notes/{number}.note").exists() for number in range(self.TASKS)):
+            yield "slurm-tasks.sh: a task has left no note"
+        if (logs := [it.name for it in folder.glob("task-*.log")]) != [f"task-{self.TASKS}.log"]:
+            yield f"slurm-tasks.sh, once more: logs {logs}"
+
+    def of_two_tasks_at_once(self, folder):
+        """The reports of all other tasks are there."""
+        (folder / "0.report").unlink()
+        with ThreadPoolExecutor(2) as pool:
+            for status, log in pool.map(lambda _: self.slurm(folder, 0, "slow"), range(2)):
+                if status or self.are_too_many(log):
+                    yield f"slurm-tasks.sh, two at a time: {status} {log!r}"
+        if (said := self.joined(folder, self.TASKS)) != (0, self.answer.out, ""):
+            yield f"slurm-join.sh: {said}"
+
+
+def main():
+    is_here = has_parallel()
+    wrong = [f"{it.name}: {said}" for it in sorted(CLUSTER.iterdir()) if (said := ran(["bash", "-n", it])).status]
+    with tempfile.TemporaryDirectory(prefix="pbcube-recipes-") as folder:
+        kinds = [OfTasks(Path(folder) / "tasks"), OfPieces(Path(folder) / "pieces")]
+        steps = [it.of_slurm for it in kinds] + [it.of_parallel for it in kinds if is_here]
+        wrong += [line for lines in side_by_side(lambda step: list(step()), steps) for line in lines]
+    if not is_here:
+        print("recipes: those for GNU parallel are left out, since it is not here")
+    print(*[f"recipes: {line}" for line in wrong], sep="\n", end="\n" if wrong else "")
+    print(f"recipes: {len(steps)} of 4 kinds were run, {len(wrong)} complaints")
+    return 1 if wrong else 0
+
+
+if __name__ == "__main__":
+    sys.exit(main())
