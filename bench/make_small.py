@@ -19,6 +19,7 @@
     grid        squares of a board of SIZE by SIZE that do not touch, not even at corners, worth most
     garden      plants on a board of SIZE by SIZE, in or beside each square but not crowded, at least cost
     options     SIZE features, one of four options for each, that need one another, under two limits, at least cost
+    features    a product line of SIZE features in a tree, of which some need or exclude others, at least price
     staff       SIZE people for the three shifts of each day of a week, with rest, hours, skills and wishes, at least cost
     pictures    a picture of SIZE by SIZE squares, of which the lengths of the runs in each row and column are known
     clauses     clauses of three literals over SIZE variables, 4.2 for each variable (a text of clauses)
@@ -246,6 +247,30 @@ def options(rng, size):
     return linear(4 * size, weighted(rng, 1, 60, variables), rows)
 
 
+def features(rng, size):
+    parents = {f: rng.randint(max(1, f // 4), f - 1) for f in range(2, size + 1)}
+    children = {p: [f for f in parents if parents[f] == p] for p in range(1, size + 1)}
+    rows, product = [([(1, 1)], ">=", 1)], {1}
+    for parent, below in children.items():
+        kind = rng.choice(("free", "free", "any", "one")) if len(below) > 1 else "free"
+        rows += [counted([parent, -child], ">=", 1) for child in below] if kind != "one" else []
+        least = rng.sample(below, 1) if kind != "free" else [child for child in below if rng.random() < 0.3]
+        if kind == "one":
+            rows.append(([(1, child) for child in below] + [(1, -parent)], "=", 1))
+        elif kind == "any":
+            rows.append(counted([-parent] + below, ">=", 1))
+        else:
+            rows += [counted([-parent, child], ">=", 1) for child in least]
+        if parent in product:
+            product.update(least if kind == "one" else least + [child for child in below if rng.random() < 0.5])
+    # What is bought most, a product drawn from the tree, keeps what features need or exclude.
+    while size > 1 and len(rows) < 2 * size:
+        clause = [rng.choice((-1, 1)) * v for v in rng.sample(range(2, size + 1), min(rng.randint(2, 3), size - 1))]
+        if any((v in product) if v > 0 else (-v not in product) for v in clause):
+            rows.append(counted(clause, ">=", 1))
+    return linear(size, weighted(rng, 1, 60, range(1, size + 1)), rows)
+
+
 def staff(rng, size):
     days, shifts, hours = 7, 3, (8, 8, 10)
     slots = days * shifts
@@ -362,6 +387,7 @@ FAMILIES = {
     "grid": grid,
     "garden": garden,
     "options": options,
+    "features": features,
     "staff": staff,
     "pictures": pictures,
     "clauses": clauses,

@@ -39,6 +39,7 @@ DIGESTS = {
     "make_small.py grid 6": "eb37405d45e4eb6b",
     "make_small.py garden 6": "ce12fcb96fe034d9",
     "make_small.py options 6": "025029934b4f3c45",
+    "make_small.py features 6": "766cccfa6b426265",
     "make_small.py staff 6": "e72ef881d90697b3",
     "make_small.py pictures 6": "d545012e1d92fe3c",
     "make_small.py clauses 6": "32580666a6020947",

@@ -322,7 +322,7 @@ impl<C: Coefficient> EngineAt<C> {
         }
     }
 
-    /// A question of its own begins: whether multipliers pay is counted from here. No more than a hint.
+    /// A question of its own begins: what multipliers cost those before, and did not save, counts no more. No more than a hint.
     pub fn begin_question(&mut self)
         ensures { self.new ≡ self.old }
     {

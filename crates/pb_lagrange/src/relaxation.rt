@@ -229,8 +229,8 @@ impl<C: Coefficient> Relaxation<C> {
         ensures beside { IsBeside slacks.now.form slacks.now.trail self.new }
     {
         self.count_node(slacks.len());
-        if self.passes.is_climb_due() {
-            self.climb(slacks, goal);
+        if self.passes.is_shift_due() {
+            self.shift_all(slacks, goal);
         }
         self.is_used = self.effort.is_open();
         self.was_used = self.is_used;
@@ -238,7 +238,7 @@ impl<C: Coefficient> Relaxation<C> {
             return false;
         }
         if self.passes.is_due(&self.effort) {
-            self.ascend(slacks);
+            self.step_all(slacks);
         }
         self.catch_up(slacks);
         self.improve(slacks.tables(), goal);
@@ -248,7 +248,7 @@ impl<C: Coefficient> Relaxation<C> {
 
     /// Shifts all rows at once beside the root's trail, and counts them as it leaves them. Where the search's place is far below
     /// it, its multipliers are no beginning, and the root's are.
-    fn climb(&mut self, slacks: &TrailView<'_, C>, goal: Number)
+    fn shift_all(&mut self, slacks: &TrailView<'_, C>, goal: Number)
         requires { IsBeside slacks.now.form slacks.now.trail self.old }
         ensures { IsBeside slacks.now.form slacks.now.trail self.new }
     {
@@ -262,17 +262,17 @@ impl<C: Coefficient> Relaxation<C> {
         }
         self.multipliers.saturate();
         self.passes
-            .climb(&mut self.multipliers, &mut self.steps, goal);
+            .shift_all(&mut self.multipliers, &mut self.steps, goal);
     }
 
     /// Steps all rows beside the root's trail.
-    fn ascend(&mut self, slacks: &TrailView<'_, C>)
+    fn step_all(&mut self, slacks: &TrailView<'_, C>)
         requires { IsBeside slacks.now.form slacks.now.trail self.old }
         ensures { IsBeside slacks.now.form slacks.now.trail self.new }
     {
         self.return_to_root(slacks);
         self.passes
-            .ascend(&mut self.multipliers, &mut self.steps, &mut self.effort);
+            .step_all(&mut self.multipliers, &mut self.steps, &mut self.effort);
     }
 
     /// Follows the trail to the end of the root's, and no further.

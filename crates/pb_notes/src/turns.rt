@@ -15,14 +15,16 @@ pub fn next_other(count: u32, this: u32, last: u32) -> u32
     }
 }
 
-/// The one after this one, and the first after the last.
+/// The one before this one, and the last before the first: tasks are begun in the order of their numbers, so of those that have
+/// begun the one just before knows most.
 pub(crate) fn next_in_turn(count: u32, this: u32) -> u32
     ensures another { 1 < count → result ≢ this }
     ensures within { 0 < count → result < count }
 {
-    if this < count.saturating_sub(1) {
-        this + 1
+    let greatest = count.saturating_sub(1);
+    if this == 0 {
+        greatest
     } else {
-        0
+        greatest.min(this - 1)
     }
 }

@@ -113,7 +113,7 @@ impl<C: Coefficient> Deficits<C> {
     {
         let tables = slacks.tables();
         tables.facts();
-        let _length = slacks.len();
+        slacks.facts();
         let lit = slacks.literal(self.counted - 1);
         leave(&mut self.by_row, &mut self.open_rows, tables, lit);
         self.paid -= tables.cost(lit);

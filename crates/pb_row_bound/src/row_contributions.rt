@@ -193,7 +193,7 @@ fn pick<C: Coefficient>(
 {
     let tables = slacks.tables();
     tables.facts();
-    let _length = slacks.len();
+    slacks.facts();
     let terms = tables.terms(row);
     match offer_in(slacks, marks, terms) {
         None => Counter::of(0),

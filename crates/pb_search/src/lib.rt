@@ -5,6 +5,7 @@
 //! numbers once, and search below a cube with `search_under` of `pb_subtree`.
 #![tactic(auto)]
 
+mod facts;
 mod piece_search;
 mod piece_tables;
 mod search;

@@ -7,6 +7,7 @@ ghost use Rattle.pb_subtree.specs.Held.{IsNotAfter};
 ghost use Rattle.pb_search.specs.Layout.{IsCubeState};
 ghost use Rattle.pb_subtree.specs.Left.{IsLeftOf};
 
+use crate::facts::facts_of;
 use crate::piece_tables::PieceTables;
 use pb_cubes::{Piece, Pieces};
 use pb_engine::{Coefficient, clause_laws};
@@ -29,7 +30,7 @@ fn cube_state<'a, C: Coefficient>(
     ensures none { IfOk result (λ made. IfNone made (pieces.now.cubes ≡ [])) }
     ensures some { IfOk result (λ made. IfSome made (IsCubeState instance.now)) }
 {
-    let _vars = instance.vars();
+    facts_of(instance);
     clause_laws();
     if pieces.cubes().is_empty() {
         return Ok(None);
@@ -87,7 +88,7 @@ impl<'a, C: Coefficient> PieceSearch<'a, C> {
         requires pieces { pieces.now.vars ≡ instance.now.vars }
         ensures { IfOk result (λ s. s ≡ record { problem = instance.now; cubes = pieces.now.cubes }) }
     {
-        let _vars = instance.vars();
+        facts_of(instance);
         clause_laws();
         let cube = cube_state(alloc, instance, form, pieces)?;
         let rest = SearchState::new(alloc, form, pieces.cubes())?;

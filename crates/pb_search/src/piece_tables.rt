@@ -4,6 +4,7 @@ ghost use Rattle.std.specs.Prelude.{◌≡◌, [], IfOk, IfNone, IfSome};
 ghost use Rattle.pb_normal.specs.NormalForm.{KeepsCost, KeepsFeasible};
 ghost use Rattle.pb_search.specs.Layout.{AreTables, IsCubeState, IsLaidOut, pieces_of};
 
+use crate::facts::facts_of;
 use pb_cubes::Pieces;
 use pb_engine::{Clauses, Coefficient, Rows, clause_laws, shared_in};
 use pb_inst::{Instance, Memory};
@@ -63,7 +64,7 @@ impl<'a, C: Coefficient> PieceTables<'a, C> {
         requires pieces { pieces.now.vars ≡ instance.now.vars }
         ensures { IfOk result (λ t. t ≡ record { problem = instance.now; cubes = pieces.now.cubes }) }
     {
-        let _vars = instance.vars();
+        facts_of(instance);
         let rows = Rows::new(alloc, form)?;
         let none = Clauses::new(alloc, &rows, &[])?;
         let rest = Clauses::new(alloc, &rows, pieces.cubes())?;

@@ -1,6 +1,7 @@
 -- How the steps of a run make its outcome.
 use Rattle.std.proofs.Common.{◌≡◌, ◌≢◌, ℕ, ℤ, Bool, true, false, List, Option, Some, None, is_some, length, Result, Ok, Err, OnOk, refl, sym, ◌∙◌, ap, subst, inr}
-use Rattle.std.specs.Prelude.{All, IfOk, if◌then◌else◌}
+use Rattle.std.specs.Prelude.{◌↔◌, All, IfErr, IfNone, IfOk, IsErrOf, IsTrue, if◌then◌else◌}
+use Rattle.std.proofs.lemmas.Bool.{false≢true}
 use Rattle.std.specs.Option.{IfSome, option_map}
 use Rattle.std.specs.Io.KnownBytes.{Appends}
 use Rattle.pb_inst.specs.Problem.{Problem}
@@ -9,11 +10,15 @@ use Rattle.pb_inst.specs.Order.{IsLeast}
 use Rattle.pb_inst.specs.Incumbent.{Solution, IsSolution}
 use Rattle.pb_cubes.specs.Pieces.{CubeList}
 use Rattle.pb_solve.specs.declared.prepare.Prepared.{Prepared}
+use Rattle.pb_solve.specs.declared.prepare.PrepareError.{PrepareError}
+use Rattle.pb_solve.specs.declared.prepare.PrepareError.TheVariants as stop
 use Rattle.pb_read.specs.declared.format.Format.{Format}
 use Rattle.pb_solve.specs.declared.options.Ran.{Ran}
 use Rattle.pb_report.specs.declared.statuses.Status.{Status}
 use Rattle.pb_report.specs.declared.statuses.Status.TheVariants.{Satisfiable, Optimum, Unsupported, Unknown}
 use Rattle.pb_report.specs.declared.ends.Refusal.{Refusal}
+use Rattle.pb_report.specs.declared.ends.RunFault.{RunFault}
+use Rattle.pb_report.specs.declared.ends.RunFault.TheVariants as fault
 use Rattle.pb_solve.specs.Solving.{HoldsLeast}
 use Rattle.pb_solve.specs.Outcome.{Refused, Feasible, Optimal, IsOutcome}
 use Rattle.pb_report.specs.Written.{attained_report, satisfiable_report, optimum_report, refusal_report, unknown_report}
@@ -21,7 +26,7 @@ use Rattle.pb_solve.specs.Budgeted as budgeted
 use Rattle.pb_solve.specs.Budgeted.{Found, Nothing, Costing, IsFound, IsFoundIn, found_of, found_report, found_status}
 use Rattle.pb_workers.specs.Parts.{PartView, IsAnswerOf, KeepsBudget}
 use Rattle.pb_workers.specs.declared.solving.Answer.{Answer}
-use Rattle.pb_solve.specs.Run.{WhereTold, Reports, ReportsFound, Answers, AnswersFound, AnswersHeld, IsAccepted}
+use Rattle.pb_solve.specs.Run.{WhereTold, Reports, ReportsFound, Answers, AnswersFound, AnswersHeld, IsAccepted, stops_at_cubes}
 
 -- ---- facts about what readers tell
 
@@ -187,3 +192,29 @@ optimum_answers (Err e) format p held old new a z least is_a is_z some is writte
 pub answers_report : {E : Type 0} (r : Result Ran E) (format : Format) (found : Prepared) (input : Option (List ℕ)) (cubes : Option (Option (List ℕ))) (split : ℕ) (old new : Option (List ℕ)) → WhereTold input cubes (λ text cube_text. IsAccepted format text cube_text split found) → IfOk r (λ ran. ran.cut ≡ false → ran.status ≢ Unknown → Answers format found.instance old new ran.status) → IfOk r (λ ran. ran.cut ≡ false → ran.status ≢ Unknown → Reports format input cubes split old new ran.status)
 answers_report (Ok ran) format found input cubes split old new told h = λ whole known. answer_reported format found input cubes split old new ran.status told (h whole known)
 answers_report (Err e) format found input cubes split old new told h = tt
+
+-- ---- whether the cube file could be read
+
+at_writing : (r : Result Ran RunFault) → IfErr r (λ e. e ≡ fault.Write) → IsErrOf r fault.ReadCubes → ⊥
+at_writing (Ok ran) written failed = let bad : Ok ran ≡ Err fault.ReadCubes = failed in absurd cc
+at_writing (Err error) written failed =
+    let is : error ≡ fault.Write = written in
+    let other : Err error ≡ Err fault.ReadCubes = failed in absurd cc
+
+-- a run that solved its instance has read the cube file
+pub cubes_read : (r : Result Ran RunFault) (found : Result Prepared PrepareError) (prepared : Prepared) → found ≡ Ok prepared → IfErr r (λ e. e ≡ fault.Write) → IsTrue (stops_at_cubes found) ↔ IsErrOf r fault.ReadCubes
+cubes_read r (Ok same) prepared is written = (λ stopped. absurd (false≢true stopped), λ failed. absurd (at_writing r written failed))
+cubes_read r (Err error) prepared is written = let bad : Err error ≡ Ok prepared = is in absurd cc
+
+-- a run that solved nothing tells whether the cube file could not be read
+pub cubes_unread : (r : Result Ran RunFault) (found : Result Prepared PrepareError) (error : PrepareError) → found ≡ Err error → (error ≡ stop.ReadCubes) ↔ IsErrOf r fault.ReadCubes → IsTrue (stops_at_cubes found) ↔ IsErrOf r fault.ReadCubes
+cubes_unread r (Ok prepared) error is told = let bad : Ok prepared ≡ Err error = is in absurd cc
+cubes_unread r (Err stop.ReadCubes) error is told = (λ stopped. told.0 (let same : error ≡ stop.ReadCubes = cc in same), λ failed. refl)
+cubes_unread r (Err stop.ReadInput) error is told = (λ stopped. absurd (false≢true stopped), λ failed. (let other : error ≡ stop.ReadCubes = told.1 failed in absurd cc))
+cubes_unread r (Err stop.Memory) error is told = (λ stopped. absurd (false≢true stopped), λ failed. (let other : error ≡ stop.ReadCubes = told.1 failed in absurd cc))
+cubes_unread r (Err (stop.Refused refusal)) error is told = (λ stopped. absurd (false≢true stopped), λ failed. (let other : error ≡ stop.ReadCubes = told.1 failed in absurd cc))
+
+-- what follows without a budget
+pub where_none : {X : Type 0} (o : Option X) (P Q : Type 0) → (P → Q) → IfNone o P → IfNone o Q
+where_none None P Q h p = h p
+where_none (Some x) P Q h p = tt

@@ -4,7 +4,7 @@
 mod laws;
 mod options;
 mod prepare;
-mod running;
+mod whole_run;
 
 pub use laws::report_laws;
 pub use options::{Options, Ran};
@@ -14,4 +14,4 @@ pub use pb_report::{
     report_satisfiable, report_unknown,
 };
 pub use pb_workers::{Gate, OpenGate, Part, SolveFault, gather, solve, work};
-pub use running::{report_found, run, run_without_threads};
+pub use whole_run::{report_found, run, run_without_threads};

@@ -5,7 +5,7 @@
 //! propagates, `pruning` asks whether the subtree may be left, and `decisions` names the one (`branch`) to make next, by
 //! the order of pb_order. Where there is none, `incumbent` takes the full trail, and `backtrack` goes back to a decision
 //! whose other value is still to be tried. Conflicts, and what decisions did to the bound, are told to the order
-//! (`learning`). `root_work` says when the search takes more decisions back (`step_back`): to try literals at the root
+//! (`feedback`). `root_work` says when the search takes more decisions back (`step_back`): to try literals at the root
 //! (`probing`) and to dive from there (`diving`), or since ties alone are left below them (`ties`).
 #![tactic(auto)]
 
@@ -14,9 +14,9 @@ mod backtrack;
 mod branch;
 mod decisions;
 mod diving;
+mod feedback;
 mod goal;
 mod incumbent;
-mod learning;
 mod node;
 mod outcome;
 mod probing;

@@ -58,6 +58,16 @@ impl<'t, C: Coefficient> TrailView<'t, C> {
         self.trail.len()
     }
 
+    /// What holds of every trail over rows. It does nothing at run time.
+    #[inline(always)]
+    pub fn facts(&self)
+        ensures within { length self.now.trail ≤ self.now.vars }
+        ensures proper { IsProperTrail self.now.vars self.now.trail }
+        ensures rows { AreRowsOver self.now.vars self.now.rows }
+    {
+        let _length = self.len();
+    }
+
     /// What the row can still reach: the coefficients of its literals that are not false.
     pub fn reachable(&self, row: usize) -> Counter<C>
         requires { row < length self.now.rows }

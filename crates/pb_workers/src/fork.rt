@@ -1,5 +1,5 @@
 //! Workers on threads of their own, forked by halves.
-ghost use Rattle.std.specs.Prelude.{◌≡◌, ◌≤◌, ◌+◌, ◌*◌, ◌^◌, ◌<◌, [], length, IfOk};
+ghost use Rattle.std.specs.Prelude.{◌≡◌, ◌≤◌, ◌+◌, ◌*◌, ◌^◌, [], length, IfOk};
 ghost use Rattle.std.specs.Thread.{IsSync};
 ghost use Rattle.pb_inst.specs.declared.limits.TheConstants.{MAX_WORKERS};
 ghost use Rattle.pb_workers.specs.Claims.{AreWholeWork};
@@ -30,7 +30,10 @@ pub(crate) fn fork<'c, R: Threads + Sync, C: WorkerSet + Sync>(
 {
     let parts = seat.parts();
     if parts == 1 {
-        return one_worker(alloc, set, seat, first);
+        let (part, seat) = set.work(alloc, seat, first)?;
+        let mut parts = Vec::new(alloc);
+        parts.push(part)?;
+        return Ok((parts, seat));
     }
     let (low, high) = set.board().split(seat, parts / 2);
     let middle = first + parts / 2;
@@ -49,23 +52,4 @@ pub(crate) fn fork<'c, R: Threads + Sync, C: WorkerSet + Sync>(
     let (mut more, high) = high?;
     parts.append(&mut more)?;
     Ok((parts, set.board().join(low, high)))
-}
-
-/// The whole work of one worker.
-fn one_worker<'c, C: WorkerSet>(
-    alloc: Global,
-    set: &'c C,
-    seat: Seat,
-    worker: u32,
-) -> Result<(Vec<Part<'c>>, Seat), Memory>
-    requires seat { (seat.board ≡ (C.meets_on set.now).id) × (seat.claimed ≡ []) }
-    requires worker { worker < (C.meets_on set.now).workers }
-    ensures whole { IfOk result (λ done. AreWholeWork (C.problem set.now) (C.pieces set.now) (C.task set.now) (C.nodes set.now) done.0.items done.1.claimed) }
-    ensures seat { IfOk result (λ done. (done.1.board ≡ (C.meets_on set.now).id) × (done.1.parts ≡ seat.parts)) }
-    ensures claims { IfOk result (λ done. length done.1.claimed ≤ 2 ^ 32) }
-{
-    let (part, seat) = set.work(alloc, seat, worker)?;
-    let mut parts = Vec::new(alloc);
-    parts.push(part)?;
-    Ok((parts, seat))
 }

@@ -3,6 +3,8 @@
 mod boards;
 mod joining;
 mod part_joining;
+mod random_sessions;
 mod row_sets;
 mod sessions;
 mod shares;
+mod statements;

@@ -90,7 +90,7 @@ impl Passes {
     }
 
     /// Goes through all rows until that was done as often as it is to be by now. The multipliers are kept for good.
-    pub fn ascend<C: Coefficient>(
+    pub fn step_all<C: Coefficient>(
         &mut self,
         multipliers: &mut Multipliers<C>,
         steps: &mut Steps<C>,
@@ -112,14 +112,14 @@ impl Passes {
     }
 
     /// Whether all rows are to be shifted at once: when the search has gone on for long enough, and whenever that is asked for.
-    pub fn is_climb_due(&self) -> bool {
+    pub fn is_shift_due(&self) -> bool {
         self.is_renewed || self.nodes == LONG_PATIENCE
     }
 
     /// Shifts all rows at once, to what the first-order method finds, and steps them twice after that. The multipliers are kept
     /// for good. That is done seldom, so the count of effort leaves it out: with it, multipliers would be closed on the very
     /// instances that it serves.
-    pub fn climb<C: Coefficient>(
+    pub fn shift_all<C: Coefficient>(
         &mut self,
         multipliers: &mut Multipliers<C>,
         steps: &mut Steps<C>,

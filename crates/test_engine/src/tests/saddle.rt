@@ -29,7 +29,7 @@ fn multipliers<C: Coefficient>(rt: &impl Abort, alloc: Global, form: &Form<C>) -
 }
 
 /// Looks whether the bound comes to 3 units within a part of one.
-fn climbs<C: Coefficient>(rt: &impl Abort, alloc: Global, unit: Number) {
+fn rises<C: Coefficient>(rt: &impl Abort, alloc: Global, unit: Number) {
     let form: Form<C> = triangle(rt, alloc, unit);
     let mut multipliers = multipliers(rt, alloc, &form);
     let mut saddle = Saddle::new(alloc, &form).expect(rt, "memory");
@@ -42,9 +42,9 @@ fn climbs<C: Coefficient>(rt: &impl Abort, alloc: Global, unit: Number) {
 
 #[test]
 fn the_bound_comes_to_that_of_the_relaxation(rt: HostRuntime) {
-    climbs::<u64>(&rt, rt.alloc(), 1);
-    climbs::<u64>(&rt, rt.alloc(), 1_000);
-    climbs::<Magnitude>(&rt, rt.alloc(), 1 << 90);
+    rises::<u64>(&rt, rt.alloc(), 1);
+    rises::<u64>(&rt, rt.alloc(), 1_000);
+    rises::<Magnitude>(&rt, rt.alloc(), 1 << 90);
 }
 
 /// Where one variable is true the two others have one row left, which costs 2 more.

@@ -17,7 +17,7 @@ leave-requires-clause-enough g c = λ r h.
     let s = c.args.slacks.now in
     let l = c.literal-lit.result in
     let tables = c.tables-tables.result.now in
-    let here = at_place s.vars s.trail (old.counted - 1) l c.len-length.ensures.proper (omega (arith, c.requires.some, c.requires.deficits.within)) c.literal-lit.ensures.value in
+    let here = at_place s.vars s.trail (old.counted - 1) l c.facts-2.ensures.proper (omega (arith, c.requires.some, c.requires.deficits.within)) c.literal-lit.ensures.value in
     let P : Tracked → Type 0 = λ k. AreCounters g.C.Coefficient.limit k.form k.rows (take old.counted s.trail) old.paid old.by_row.items old.open_rows in
     let front = take (old.counted - 1) s.trail in
     let whole : take old.counted s.trail ≡ front ++ l ∷ [] = ap (λ (n : ℕ). take n s.trail) (let back : old.counted ≡ old.counted - 1 + 1 = omega (arith, c.requires.some) in back) ∙ here.1 in
@@ -30,7 +30,7 @@ leave-requires-clause-fits g c = λ r h.
     let s = c.args.slacks.now in
     let l = c.literal-lit.result in
     let tables = c.tables-tables.result.now in
-    let here = at_place s.vars s.trail (old.counted - 1) l c.len-length.ensures.proper (omega (arith, c.requires.some, c.requires.deficits.within)) c.literal-lit.ensures.value in
+    let here = at_place s.vars s.trail (old.counted - 1) l c.facts-2.ensures.proper (omega (arith, c.requires.some, c.requires.deficits.within)) c.literal-lit.ensures.value in
     let P : Tracked → Type 0 = λ k. AreCounters g.C.Coefficient.limit k.form k.rows (take old.counted s.trail) old.paid old.by_row.items old.open_rows in
     let front = take (old.counted - 1) s.trail in
     let whole : take old.counted s.trail ≡ front ++ l ∷ [] = ap (λ (n : ℕ). take n s.trail) (let back : old.counted ≡ old.counted - 1 + 1 = omega (arith, c.requires.some) in back) ∙ here.1 in
@@ -43,7 +43,7 @@ sub_assign-requires g c =
     let s = c.args.slacks.now in
     let l = c.literal-lit.result in
     let tables = c.tables-tables.result.now in
-    let here = at_place s.vars s.trail (old.counted - 1) l c.len-length.ensures.proper (omega (arith, c.requires.some, c.requires.deficits.within)) c.literal-lit.ensures.value in
+    let here = at_place s.vars s.trail (old.counted - 1) l c.facts-2.ensures.proper (omega (arith, c.requires.some, c.requires.deficits.within)) c.literal-lit.ensures.value in
     let P : Tracked → Type 0 = λ k. AreCounters g.C.Coefficient.limit k.form k.rows (take old.counted s.trail) old.paid old.by_row.items old.open_rows in
     let front = take (old.counted - 1) s.trail in
     let whole : take old.counted s.trail ≡ front ++ l ∷ [] = ap (λ (n : ℕ). take n s.trail) (let back : old.counted ≡ old.counted - 1 + 1 = omega (arith, c.requires.some) in back) ∙ here.1 in
@@ -56,7 +56,7 @@ returns-clause-deficits g c =
     let s = c.args.slacks.now in
     let l = c.literal-lit.result in
     let tables = c.tables-tables.result.now in
-    let here = at_place s.vars s.trail (old.counted - 1) l c.len-length.ensures.proper (omega (arith, c.requires.some, c.requires.deficits.within)) c.literal-lit.ensures.value in
+    let here = at_place s.vars s.trail (old.counted - 1) l c.facts-2.ensures.proper (omega (arith, c.requires.some, c.requires.deficits.within)) c.literal-lit.ensures.value in
     let P : Tracked → Type 0 = λ k. AreCounters g.C.Coefficient.limit k.form k.rows (take old.counted s.trail) old.paid old.by_row.items old.open_rows in
     let front = take (old.counted - 1) s.trail in
     let whole : take old.counted s.trail ≡ front ++ l ∷ [] = ap (λ (n : ℕ). take n s.trail) (let back : old.counted ≡ old.counted - 1 + 1 = omega (arith, c.requires.some) in back) ∙ here.1 in

@@ -7,7 +7,7 @@ use Rattle.pb_search.proofs.piece_tables.PieceTables.new.Goals as goal
 pub of_parts-requires : goal.of_parts-requires
 of_parts-requires g c = record {
   vars = ap (λ (f : NormalForm). f.vars) c.in_ok-rows.ensures ∙ c.requires.vars;
-  few_variables = c.vars-vars.ensures.proper.variable_count;
+  few_variables = c.facts_of.ensures.variable_count;
   feasible = subst (λ (f : NormalForm). KeepsFeasible c.args.instance.now f) (sym c.in_ok-rows.ensures) c.requires.feasible;
   costs = subst (λ (f : NormalForm). KeepsCost c.args.instance.now f) (sym c.in_ok-rows.ensures) c.requires.costs;
   piece_vars = c.requires.pieces;

@@ -7,11 +7,11 @@ ghost use Rattle.pb_report.specs.Written.{memory_report};
 ghost use Rattle.pb_read.specs.Format.{text_refusal};
 ghost use Rattle.pb_cubes.specs.Pieces.{CubeList};
 ghost use Rattle.pb_workers.specs.Parts.{IsAnswerOf, PartView};
-ghost use Rattle.pb_solve.specs.Run.{Reports, ReportsFound, Answers, AnswersFound, AnswersHeld, IsPrepared, IsUnfailed, IsUnread, ReportsRefusal, StopsAtFault, failed_after, stops_at_cubes, stops_at_input, text_left};
+ghost use Rattle.pb_solve.specs.Run.{Reports, ReportsFound, Answers, AnswersFound, AnswersHeld, IsPrepared, IsUnfailed, IsUnread, ReportsRefusal, StopsAtFault, failed_after, text_left};
 
 use crate::options::{Options, Ran};
 use crate::prepare::reading::NoCubeFile;
-use crate::prepare::{PrepareError, Prepared, prepare};
+use crate::prepare::{PrepareError, prepare};
 use pb_inst::{Best, Instance};
 use pb_read::Format;
 use pb_report::{
@@ -76,7 +76,15 @@ pub fn run<R: Threads + Sync, I: Read, C: Read, W: Write>(
         None => prepare(alloc, input, &mut NoCubeFile, options.format, options.split),
         Some(cubes) => prepare(alloc, input, cubes, options.format, options.split),
     };
-    conclude(rt, alloc, found, options, out)
+    match found {
+        Ok(found) => {
+            let (instance, pieces) = (&found.instance, &found.pieces);
+            let (workers, nodes) = (options.workers, options.nodes);
+            let answered = solve(rt, alloc, instance, pieces, workers, &OpenGate, nodes);
+            report_answered(out, options.format, instance, answered)
+        }
+        Err(error) => report_prepare_error(out, error),
+    }
 }
 
 /// The same with no cube file and no split, by one search on the caller's own thread: it asks for no leave to start others.
@@ -117,37 +125,6 @@ pub fn run_without_threads<I: Read, W: Write>(
     }
 }
 
-/// Ends a run that has read its texts: with the report of the answer on what was found, or of why there is none.
-fn conclude<R: Threads + Sync, W: Write>(
-    rt: &R,
-    alloc: Global,
-    found: Result<Prepared, PrepareError>,
-    options: Options,
-    out: &mut Device<W>,
-) -> Result<Ran, RunFault>
-    requires out { out.old.failed ≡ false }
-    requires same_variables { IfOk found (λ found. found.pieces.vars ≡ found.instance.vars) }
-    ensures reports { (input : Option (List ℕ)) (cubes : Option (Option (List ℕ))) → IsPrepared options.format input cubes options.split found
-        → IfOk result (λ ran. ran.cut ≡ false → ran.status ≢ Status.Unknown
-        → Reports options.format input cubes options.split (W.contents out.old.held) (W.contents out.new.held) ran.status) }
-    ensures budgeted { (input : Option (List ℕ)) (cubes : Option (Option (List ℕ))) → IsPrepared options.format input cubes options.split found
-        → IfOk result (λ ran. ran.cut ≡ true
-        → ReportsFound options.format input cubes options.split (W.contents out.old.held) (W.contents out.new.held) ran.status) }
-    ensures no_budget { IfNone options.nodes (IfOk result (λ ran. ran.cut ≡ false)) }
-    ensures refused_input { (fault : ReadFault) → StopsAtFault fault found → IfOk result (λ ran. (ran.cut ≡ false) × (ran.status ≢ Status.Unknown
-        → ReportsRefusal fault (W.contents out.old.held) (W.contents out.new.held) ran.status)) }
-    ensures memory { IfOk result (λ ran. ran.cut ≡ false → ran.status ≡ Status.Unknown → Appends (W.contents out.old.held) (W.contents out.new.held) memory_report) }
-    ensures read_input { IsTrue (stops_at_input found) ↔ IsErrOf result RunFault.ReadInput }
-    ensures read_cubes { IsTrue (stops_at_cubes found) ↔ IsErrOf result RunFault.ReadCubes }
-    ensures write { IsTrue out.new.failed ↔ IsErrOf result RunFault.Write }
-    ensures unwritten { IfErr result (λ fault. fault ≢ RunFault.Write → out.new ≡ out.old) }
-{
-    match found {
-        Ok(found) => answer(rt, alloc, &found, options, out),
-        Err(error) => report_prepare_error(out, error),
-    }
-}
-
 /// Ends a run in which nothing is solved.
 fn report_prepare_error<W: Write>(out: &mut Device<W>, error: PrepareError) -> Result<Ran, RunFault>
     requires out { out.old.failed ≡ false }
@@ -169,31 +146,6 @@ fn report_prepare_error<W: Write>(out: &mut Device<W>, error: PrepareError) -> R
         PrepareError::ReadInput => Err(RunFault::ReadInput),
         PrepareError::ReadCubes => Err(RunFault::ReadCubes),
     }
-}
-
-/// Solves the instance by its pieces, and reports the answer, or where a piece was cut the best that was found.
-fn answer<R: Threads + Sync, W: Write>(
-    rt: &R,
-    alloc: Global,
-    found: &Prepared,
-    options: Options,
-    out: &mut Device<W>,
-) -> Result<Ran, RunFault>
-    requires out { out.old.failed ≡ false }
-    requires same_variables { found.now.pieces.vars ≡ found.now.instance.vars }
-    ensures answers { IfOk result (λ ran. ran.cut ≡ false → ran.status ≢ Status.Unknown
-        → Answers options.format found.now.instance (W.contents out.old.held) (W.contents out.new.held) ran.status) }
-    ensures budgeted { IfOk result (λ ran. ran.cut ≡ true
-        → AnswersFound options.format found.now.instance found.now.pieces (W.contents out.old.held) (W.contents out.new.held) ran.status) }
-    ensures no_budget { IfNone options.nodes (IfOk result (λ ran. ran.cut ≡ false)) }
-    ensures memory { IfOk result (λ ran. ran.cut ≡ false → ran.status ≡ Status.Unknown → Appends (W.contents out.old.held) (W.contents out.new.held) memory_report) }
-    ensures fault { IfErr result (λ fault. fault ≡ RunFault.Write) }
-    ensures failed { out.new.failed ≡ is_err result }
-{
-    let (instance, pieces) = (&found.instance, &found.pieces);
-    let (workers, nodes) = (options.workers, options.nodes);
-    let answered = solve(rt, alloc, instance, pieces, workers, &OpenGate, nodes);
-    report_answered(out, options.format, instance, answered)
 }
 
 /// Reports the answer on the instance, or where a piece was cut the best that was found, or that memory was refused.

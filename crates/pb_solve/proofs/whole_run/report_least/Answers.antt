@@ -3,7 +3,7 @@ use Rattle.std.proofs.lemmas.Int.{ints, to_z-of_z}
 use Rattle.std.specs.Io.KnownBytes.{Appends}
 use Rattle.pb_report.specs.Written.{optimum_report}
 use Rattle.pb_solve.proofs.OutcomeLaws.{optimum_answers, satisfiable_answers}
-use Rattle.pb_solve.proofs.running.report_least.Goals as goal
+use Rattle.pb_solve.proofs.whole_run.report_least.Goals as goal
 
 pub returns-then-has_objective-clause-answers : goal.returns-then-has_objective-clause-answers
 returns-then-has_objective-clause-answers g c =

@@ -1,7 +1,7 @@
 use Rattle.std.proofs.Common.{None, subst}
 use Rattle.pb_solve.specs.Run.{IsPrepared}
 use Rattle.pb_solve.proofs.OutcomeLaws.{answered_by_parts, answers_report, found_report_of}
-use Rattle.pb_solve.proofs.running.run_without_threads.Goals as goal
+use Rattle.pb_solve.proofs.whole_run.run_without_threads.Goals as goal
 
 pub returns-in-Ok-clause-headline : goal.returns-in-Ok-clause-headline
 returns-in-Ok-clause-headline g c =

@@ -6,7 +6,7 @@ use Rattle.pb_inst.specs.Problem.{Problem}
 use Rattle.pb_inst.specs.Incumbent.{IsSolution}
 use Rattle.pb_report.specs.Written.{attained_report}
 use Rattle.pb_solve.proofs.OutcomeLaws.{attained_found, satisfiable_found}
-use Rattle.pb_solve.proofs.running.report_found.Goals as goal
+use Rattle.pb_solve.proofs.whole_run.report_found.Goals as goal
 
 pub returns-then-has_objective-clause-answers : goal.returns-then-has_objective-clause-answers
 returns-then-has_objective-clause-answers g c =
