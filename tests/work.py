@@ -64,6 +64,7 @@ TODAY = {
     "one_of_many": Today(8_886, 110),
     "packages": Today(99_300, 123),
     "short_knapsack": Today(36_300, 109),
+    "ties": Today(31_109, 108),
     "two_sides": Today(108_900, 124),
     "unconstrained": Today(56_665, 85),
     "wide_knapsack": Today(0, 107),

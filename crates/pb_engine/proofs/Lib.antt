@@ -1,2 +1,3 @@
 pub mod ClauseLemmas
+pub mod LongerLemmas
 pub mod RelaxedLemmas

@@ -9,6 +9,7 @@ use Rattle.pb_normal.specs.NormalForm.{PositiveRow, NormalForm, MeetsRow}
 use Rattle.pb_trail.specs.Completion.{HasNoCompletion, IsCompletion, IsLowerBound}
 use Rattle.pb_trail.specs.EngineState.{EngineState}
 use Rattle.pb_trail.specs.Propagation.{AddsForced}
+use Rattle.pb_trail.specs.Tracked.{Tracked}
 use Rattle.pb_engine.specs.Fixing.{IsBelowCompletions, IsForcedWithin}
 use Rattle.pb_trail.proofs.EngineLemmas.{kept_front}
 use Rattle.pb_lagrange.specs.Multipliers.{MultipliersState, IsBelowCosts, IsFixed}
@@ -56,6 +57,12 @@ pub raised-bound : (form : NormalForm) (rows : List PositiveRow) (trail : List L
 raised-bound form rows trail own followed bound raised first same_form same_trail lower (inl same) = subst (λ (z : ℤ). IsLowerBound form rows trail z) (sym same) lower
 raised-bound form rows trail own followed bound raised first same_form same_trail lower (inr more) =
     greater-bound form rows trail bound raised first lower (subst (λ (f : NormalForm). IsBelowCosts f trail raised) same_form (subst (λ (t : List Literal). IsBelowCosts own t raised) same_trail more.1)) more.0
+
+-- the same beside an engine
+pub raised-in : (e : EngineState) (s : Tracked) (bound raised : ℤ) → take (length s.form.rows) s.rows ≡ s.form.rows → s.form ≡ e.form → s.rows ≡ e.rows → s.trail ≡ e.trail → IsLowerBound e.form e.rows e.trail bound → (raised ≡ bound) ⊎ ((bound ≤ℤ raised) × IsBelowCosts s.form s.trail raised) → IsLowerBound e.form e.rows e.trail raised
+raised-in e s bound raised first form rows trail lower answer =
+    let here : take (length e.form.rows) e.rows ≡ e.form.rows = subst (λ (rs : List PositiveRow). take (length e.form.rows) rs ≡ e.form.rows) rows (subst (λ (f : NormalForm). take (length f.rows) s.rows ≡ f.rows) form first) in
+    raised-bound e.form e.rows e.trail s.form s.trail bound raised here form trail lower answer
 
 -- a literal that the multipliers fix
 pub fixed-in : (e : EngineState) (own : NormalForm) (followed : List Literal) (limit : ℤ) (l : Literal) → take (length e.form.rows) e.rows ≡ e.form.rows → e.vars ≡ e.form.vars → own ≡ e.form → followed ≡ e.trail → IsFixed own followed limit l → IsForcedWithin e limit l

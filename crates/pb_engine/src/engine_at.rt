@@ -34,6 +34,8 @@ pub struct EngineAt<C: Coefficient = u64> {
     marks: Marks,
     /// Multipliers for a second lower bound, where its costs have a scale and not all is clauses. The view leaves them out.
     relaxation: Option<Relaxation<C>>,
+    /// The last bound of the trail or of its beginning, if one was taken since literals were last taken back.
+    standing: Option<Number>,
 }
 
 // By hand, so that whoever lets go of an engine sees one call, and not each of its parts.
@@ -44,6 +46,7 @@ impl<C: Coefficient> Drop for EngineAt<C> {
             deficits: _,
             marks: _,
             relaxation: _,
+            standing: _,
         } = self;
     }
 }
@@ -53,12 +56,13 @@ impl<C: Coefficient> Model for EngineAt<C> {
     ghost use Rattle.pb_trail.specs.EngineState.{EngineState};
     ghost use Rattle.pb_lagrange.specs.Relaxation.{IsBeside};
     ghost use Rattle.pb_row_bound.specs.Deficits.{HasCounters};
+    ghost use Rattle.pb_engine.specs.Fixing.{IsBelowCompletions};
 
     ghost Value = { EngineState };
 
     ghost view = { λ e. e.propagator };
 
-    ghost invariant = { λ e. (HasCounters C.limit e.propagator e.deficits e.marks) × IfSome e.relaxation (λ r. IsBeside e.propagator.form e.propagator.trail r) };
+    ghost invariant = { λ e. (HasCounters C.limit e.propagator e.deficits e.marks) × IfSome e.relaxation (λ r. IsBeside e.propagator.form e.propagator.trail r) × IfSome e.standing (IsBelowCompletions e.propagator) };
 }
 
 impl<C: Coefficient> EngineAt<C> {
@@ -88,6 +92,7 @@ impl<C: Coefficient> EngineAt<C> {
             deficits,
             marks,
             relaxation,
+            standing: None,
         })
     }
 
@@ -156,10 +161,17 @@ impl<C: Coefficient> EngineAt<C> {
         ensures fixed { result ≡ Step.Fixed }
         ensures sound { IsSoundTrail self.new }
     {
+        self.begin_level();
+        self.propagator.assume(lit)
+    }
+
+    /// Tells the multipliers that a level begins here.
+    fn begin_level(&mut self)
+        ensures { self.new ≡ self.old }
+    {
         if let Some(relaxation) = &mut self.relaxation {
             relaxation.begin_level(self.propagator.trail_len());
         }
-        self.propagator.assume(lit)
     }
 
     /// Tells that nothing is left to try in place of the last assumption: its negation was tried, or has nothing to give. Where
@@ -197,7 +209,17 @@ impl<C: Coefficient> EngineAt<C> {
     {
         let slacks = self.propagator.slacks();
         let payment = payment(&slacks, &mut self.deficits, &mut self.marks);
-        bound_with(&slacks, payment)
+        let bound = bound_with(&slacks, payment);
+        self.standing = Some(bound);
+        bound
+    }
+
+    /// The last bound that was taken of the trail or of its beginning, unless literals were taken back since: no completion
+    /// costs less, since each completes the beginning too. It looks at no row.
+    pub fn standing_bound(&self) -> Option<Number>
+        ensures { IfSome result (IsBelowCompletions self.now) }
+    {
+        self.standing
     }
 
     /// Takes back every assumption above the level, and what was added since.
@@ -206,6 +228,7 @@ impl<C: Coefficient> EngineAt<C> {
         ensures undone { self.new ≡ record self.old { trail = trail_before self.old level; levels = take level self.old.levels; conflict = false } }
         ensures sound { IsSoundTrail self.new }
     {
+        self.standing = None;
         let start = self.propagator.start_of(level);
         self.deficits.take_back(&self.propagator.slacks(), start);
         self.propagator.undo_to(level);
@@ -227,7 +250,9 @@ impl<C: Coefficient> EngineAt<C> {
         let Some(relaxation) = &mut self.relaxation else {
             return bound;
         };
-        relaxation.raise(&slacks, bound, goal)
+        let raised = relaxation.raise(&slacks, bound, goal);
+        self.standing = Some(raised);
+        raised
     }
 
     /// The bound of the multipliers as they are, where there are any and they were used at the node that was judged last: at most

@@ -31,6 +31,8 @@ pub struct Hints {
     pub left: u32,
     /// How many variables, from the first on, were found to have values.
     pub settled: u32,
+    /// How many literals were decided one after another because of ties alone.
+    pub ties: u32,
 }
 
 impl Hints {
@@ -39,7 +41,15 @@ impl Hints {
         Hints {
             left: u32::MAX,
             settled: 0,
+            ties: 0,
         }
+    }
+
+    /// Whether a bound is to be taken here. Where ties alone are settled, the one that was taken above tells of the next tie
+    /// too. So it is taken anew each time twice as many literals were decided: rows as long as the instance are not looked at
+    /// for each of its variables, and what a bound would have closed is decided no more than twice as far.
+    pub fn is_bound_due(&self) -> bool {
+        self.ties == 0 || self.ties.is_power_of_two()
     }
 }
 

@@ -7,6 +7,9 @@ use pb_engine::{Coefficient, EngineAt};
 use pb_inst::{Best, Lit};
 use pb_order::{Gain, Order};
 
+/// Of how many ties one after another a bound is taken at each.
+const MOST_TIES: u32 = 2;
+
 /// Learns from the conflict that the engine found.
 pub fn learn_conflict<C: Coefficient>(order: &mut Order, engine: &EngineAt<C>) {
     order.bump_conflict(engine.propagator());
@@ -34,6 +37,10 @@ pub fn last_decided<C: Coefficient>(state: &SearchState<C>, best: &Best<'_>) -> 
         return None;
     }
     let branch = state.branches.last()?;
+    // Nor is that of a node where an older bound told of a tie.
+    if branch.hints.ties > MOST_TIES {
+        return None;
+    }
     let gap = state.engine.gap(best.cost()?)?;
     Some(Decided {
         lit: branch.lit,

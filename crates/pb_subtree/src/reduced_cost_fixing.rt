@@ -1,8 +1,8 @@
 //! Decisions that have one side alone.
 
-ghost use Rattle.std.specs.Prelude.{◌≡◌, true, IfSome};
+ghost use Rattle.std.specs.Prelude.{◌≡◌, true, IfSome, ℕ};
 ghost use Rattle.pb_engine.specs.Fixing.{IsBelowCompletions};
-ghost use Rattle.pb_subtree.specs.SearchState.{IsClosed, IsEngineOf, IsOpenOnOneSide};
+ghost use Rattle.pb_subtree.specs.SearchState.{IsClosed, IsEngineOf, IsOpenOnOneSide, IsTied};
 ghost use Rattle.pb_subtree.specs.AgreedPrefix.{KnowsHeldPrefix};
 
 use crate::agreed_prefix::AgreedPrefix;
@@ -38,6 +38,12 @@ pub fn classify_node<C: Coefficient>(
         let pruning = classify_bound(engine, fixed.bound, best, agreed);
         return (pruning, None, Some(fixed.lit));
     }
+    if !hints.is_bound_due() {
+        let (pruning, lit) = standing_tie(engine, best, agreed, hints);
+        if pruning == Pruning::Closed || lit.is_some() {
+            return (pruning, None, lit);
+        }
+    }
     let (pruning, bound) = check_rows(engine, best, agreed);
     if pruning != Pruning::Closed
         && engine.is_fixing()
@@ -50,8 +56,7 @@ pub fn classify_node<C: Coefficient>(
     if pruning == Pruning::Closed {
         return (pruning, bound, None);
     }
-    if let Some(lit) = tied_literal(engine, best, pruning, hints.settled) {
-        hints.settled = lit.var() - 1;
+    if let Some(lit) = next_tied(engine, best, pruning, hints) {
         return (pruning, bound, Some(lit));
     }
     let fixed = fixed_literal(engine, best);
@@ -59,6 +64,47 @@ pub fn classify_node<C: Coefficient>(
         Some(fixed) => (pruning, bound, Some(fixed.lit)),
         None => (pruning, bound, None),
     }
+}
+
+/// What a bound that was taken above says of the subtree below the trail, and the next literal at a tie, if it is one.
+fn standing_tie<C: Coefficient>(
+    engine: &EngineAt<C>,
+    best: &Best<'_>,
+    agreed: &mut AgreedPrefix,
+    hints: &mut Hints,
+) -> (Pruning, Option<Lit>)
+    requires engine { IsEngineOf best.now.problem engine.now }
+    requires known { KnowsHeldPrefix engine.now.trail best.now.held agreed.old }
+    ensures closed { result.0 ≡ Pruning.Closed → IsClosed best.now.problem engine.now best.now.held }
+    ensures fixed { IfSome result.1 (IsOpenOnOneSide best.now.problem engine.now best.now.held) }
+    ensures known { KnowsHeldPrefix engine.now.trail best.now.held agreed.new }
+{
+    let Some(bound) = engine.standing_bound() else {
+        return (Pruning::Open, None);
+    };
+    let pruning = classify_bound(engine, bound, best, agreed);
+    let lit = next_tied(engine, best, pruning, hints);
+    (pruning, lit)
+}
+
+/// The next literal at a tie, and where to look on below it. None where it is no tie, or its lowest variables have values.
+fn next_tied<C: Coefficient>(
+    engine: &EngineAt<C>,
+    best: &Best<'_>,
+    pruning: Pruning,
+    hints: &mut Hints,
+) -> Option<Lit>
+    requires engine { IsEngineOf best.now.problem engine.now }
+    requires tied { (var : ℕ) → pruning ≡ Pruning.Tied var → IsTied best.now.problem engine.now best.now.held var }
+    ensures { IfSome result (IsOpenOnOneSide best.now.problem engine.now best.now.held) }
+{
+    let Some(lit) = tied_literal(engine, best, pruning, hints.settled) else {
+        hints.ties = 0;
+        return None;
+    };
+    hints.settled = lit.var() - 1;
+    hints.ties = hints.ties.saturating_add(1);
+    Some(lit)
 }
 
 /// A literal without a value whose negation costs too much to come before the best assignment, with a bound that is at hand;

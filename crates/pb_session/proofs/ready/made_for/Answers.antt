@@ -1,5 +1,4 @@
-use Rattle.pb_normal.specs.NormalForm.{NormalForm}
-use Rattle.std.proofs.Common.{rules, ◌≡◌, subst, sym}
+use Rattle.std.proofs.Common.{rules, subst, sym}
 use Rattle.pb_questions.specs.Form.{IsFormOf}
 use Rattle.pb_session.proofs.ready.made_for.Goals as goal
 

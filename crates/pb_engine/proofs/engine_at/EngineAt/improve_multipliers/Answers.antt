@@ -1,4 +1,4 @@
-use Rattle.std.proofs.Common.{◌≡◌, List, ap, sym, subst, ◌∙◌, take, length}
+use Rattle.std.proofs.Common.{◌≡◌, List, ap, subst, ◌∙◌, take, length}
 use Rattle.pb_normal.specs.NormalForm.{PositiveRow, NormalForm}
 use Rattle.pb_trail.specs.EngineState.{EngineState}
 use Rattle.pb_trail.specs.Tracked.{Tracked}
