@@ -168,14 +168,20 @@ def mean(numbers):
     return sum(numbers) / max(len(numbers), 1)
 
 
+class Refused(Exception):
+    """A peer does not read the text, as where numbers do not fit its 32 bits."""
+
+
 def clasp(text, assumed, room, limit):
     """The least cost that clasp tells, or none. Writing the text is part of what a caller pays."""
     file = room / "question.opb"
     rows = "".join("1 x%d >= 1 ;\n" % v if v > 0 else "-1 x%d >= 0 ;\n" % -v for v in assumed)
     file.write_text(text + rows)
-    said = subprocess.run(["clasp", file], stdout=subprocess.PIPE, text=True, timeout=limit).stdout
+    said = subprocess.run(["clasp", file], stdout=subprocess.PIPE, stderr=subprocess.DEVNULL, text=True, timeout=limit).stdout
     if "s UNSATISFIABLE" in said:
         return None
+    if "s OPTIMUM FOUND" not in said and "s SATISFIABLE" not in said:
+        raise Refused
     costs = re.findall(r"^o (-?\d+)", said, re.M)
     return int(costs[-1]) if costs else 0
 
@@ -197,6 +203,8 @@ def row(library, name, options, room):
             others.append(timed(lambda asked: clasp(text, asked, room, options.limit), some))
         except subprocess.TimeoutExpired:
             over = "over %g seconds" % options.limit
+        except Refused:
+            over = "not read"
     agree = all(told == answers[: len(some)] for told, _ in others)
     first = mean(kept[: len(some)])
     cells = ["%.0f" % mean(kept), "%.0f" % first] + ["%.0f (%.1f)" % (mean(took), mean(took) / first) for _, took in others]
