@@ -502,13 +502,21 @@ def make_files(room):
     os.mknod(room / SOCKET, stat.S_IFSOCK | 0o600)
 
 
-def opened(name):
-    """The file of this name, to be written."""
-    if name != CLOSED:
-        return open(name or os.devnull, "w")
+def unread_pipe():
+    """The end to write to of a pipe whose other end is closed."""
     read, write = os.pipe()
     os.close(read)
-    return open(write, "w")
+    return write
+
+
+# Made once, before any thread starts a program: a process that is started while the other end is open holds it for a moment, and
+# what is written then is taken.
+UNREAD = unread_pipe()
+
+
+def opened(name):
+    """The file of this name, to be written."""
+    return open(os.dup(UNREAD) if name == CLOSED else name or os.devnull, "w")
 
 
 def run(program, row, room):
