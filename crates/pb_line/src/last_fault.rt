@@ -1,4 +1,6 @@
 //! Why a call to the system failed, for the line that tells of it.
+ghost use Rattle.std.specs.Prelude.{◌≡◌};
+
 use std::cell::Cell;
 use std::io::{self, Error, Read, Write};
 
@@ -36,7 +38,9 @@ pub struct Noting<'a, T> {
 
 impl<'a, T> Noting<'a, T> {
     /// This reader or writer, whose faults are noted here.
-    pub fn new(inner: T, faults: &'a LastFault) -> Noting<'a, T> {
+    pub fn new(inner: T, faults: &'a LastFault) -> Noting<'a, T>
+        ensures { result.inner ≡ inner }
+    {
         Noting { inner, faults }
     }
 }

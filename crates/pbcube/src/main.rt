@@ -1,7 +1,7 @@
 //! `pbcube`: the least assignment of a pseudo-Boolean instance, from the command line.
 #![tactic(auto)]
 
-ghost use Rattle.std.specs.Prelude.{◌≡◌};
+ghost use Rattle.std.specs.Prelude.{◌≡◌, ⊤};
 
 mod diagnose;
 mod faults;
@@ -27,6 +27,9 @@ impl Files for SystemFiles<'_> {
     type Input = File;
 
     ghost fetches = { λ files name opened after. after ≡ files };
+
+    // No contract tells what the system's files hold.
+    ghost has = { λ files name text. ⊤ };
 
     fn fetch(&mut self, name: &str) -> Option<File> {
         match fs::open(self.rt, name) {

@@ -1,10 +1,13 @@
 //! The program over any files and any outputs.
-ghost use Rattle.std.specs.Prelude.{◌≡◌, false, map};
-ghost use Rattle.pbcube.specs.Fetching.{FetchesFor, FetchesInOrder};
+ghost use Rattle.std.specs.Prelude.{◌≡◌, ◌≢◌, false, true, map, option_map, IfNone, IfOk};
+ghost use Rattle.std.specs.Io.KnownBytes.{Appends};
+ghost use Rattle.pbcube.specs.Fetching.{FetchesFor, FetchesInOrder, HaveTexts};
 ghost use Rattle.clap.specs.Words.{kind_of};
 ghost use Rattle.pb_line.specs.Ends.{EndsBy};
 ghost use Rattle.pb_report.specs.Statuses.{IsExitStatus, exit_status};
-ghost use Rattle.pbcube.specs.Ending.{Ends, EndsWithoutMemory};
+ghost use Rattle.pb_report.specs.Written.{memory_report};
+ghost use Rattle.pb_solve.specs.Run.{Reports, ReportsFound};
+ghost use Rattle.pbcube.specs.Ending.{Ends, EndsWithoutMemory, IsRunOn};
 
 use crate::diagnose::diagnose;
 use crate::faults::ProgramFault;
@@ -18,7 +21,9 @@ use std::io::{self, Empty, Read, Seek, Write};
 use std::thread::Threads;
 
 /// Runs the program on its words, its own name first, and answers its exit status. The input is fetched first, and where it
-/// can be opened the cube file, if there is one. Where the files and the output note their faults, these tell why something failed.
+/// can be opened the cube file, if there is one. After a run the output has the report on the texts of these files, in the format
+/// and with the split of the words; without a budget no piece was cut. Where the files and the output note their faults, these tell
+/// why something failed.
 pub fn program<'a, R: Threads + Sync, F: Files, W: Write, E: Write>(
     rt: &R,
     alloc: Global,
@@ -30,7 +35,7 @@ pub fn program<'a, R: Threads + Sync, F: Files, W: Write, E: Write>(
 ) -> u8
     requires { out.old.failed ≡ false }
     ensures status { IsExitStatus result }
-    ensures ended { Ends (W.contents out.old.held) (W.contents out.new.held) (map (λ word. word.now) words.now) result }
+    ensures ended { Ends F.fetches F.has files.old (W.contents out.old.held) (W.contents out.new.held) (map (λ word. word.now) words.now) result }
     ensures fetched { FetchesInOrder F.fetches (map (λ word. word.now) words.now) files.old files.new }
 {
     let line = match line(alloc, words) {
@@ -64,29 +69,54 @@ fn run_on_files<'a, R: Threads + Sync, F: Files, W: Write>(
     out: &mut Device<W>,
 ) -> Result<(Ran, F::Input), ProgramFault<'a>>
     requires { out.old.failed ≡ false }
-    ensures { FetchesFor F.fetches line.now files.old files.new }
+    ensures fetched { FetchesFor F.fetches line.now files.old files.new }
+    ensures reported { IfOk result (λ r. IsRunOn F.fetches F.has line.now files.old (W.contents out.old.held) (W.contents out.new.held) r.0) }
 {
     let (mut input, cubes) = fetch_files(line, files)?;
+    match run_on_readers(rt, alloc, line, &mut input, cubes, faults, out) {
+        Ok(ran) => Ok((ran, input)),
+        Err(fault) => Err(fault_on(line, fault)),
+    }
+}
+
+/// Runs on the input, and on the cube file, if there is one, as the line asks. Their faults are noted, and those of the output by
+/// the output itself.
+fn run_on_readers<R: Threads + Sync, I: Read + Drop, W: Write>(
+    rt: &R,
+    alloc: Global,
+    line: &Line<'_>,
+    input: &mut I,
+    cubes: Option<I>,
+    faults: &LastFault,
+    out: &mut Device<W>,
+) -> Result<Ran, RunFault>
+    requires { out.old.failed ≡ false }
+    ensures headline { IfOk result (λ ran. ran.cut ≡ false → ran.status ≢ Status.Unknown
+        → Reports line.now.format (I.remaining input.old) (option_map (λ file. I.remaining file) cubes) line.now.split
+        (W.contents out.old.held) (W.contents out.new.held) ran.status) }
+    ensures budgeted { IfOk result (λ ran. ran.cut ≡ true
+        → ReportsFound line.now.format (I.remaining input.old) (option_map (λ file. I.remaining file) cubes) line.now.split
+        (W.contents out.old.held) (W.contents out.new.held) ran.status) }
+    ensures no_budget { IfNone line.now.nodes (IfOk result (λ ran. ran.cut ≡ false)) }
+    ensures memory { IfOk result (λ ran. ran.cut ≡ false → ran.status ≡ Status.Unknown
+        → Appends (W.contents out.old.held) (W.contents out.new.held) memory_report) }
+{
     let options = Options {
         format: line.format,
         workers: line.workers,
         split: line.split,
         nodes: line.nodes,
     };
-    let mut read = Device::new(Noting::new(&mut input, faults));
-    let ran = match cubes {
+    let mut input = Device::new(Noting::new(input, faults));
+    match cubes {
         Some(cubes) => {
             let mut cubes = Device::new(Noting::new(cubes, faults));
-            run(rt, alloc, &mut read, Some(&mut cubes), options, out)
+            run(rt, alloc, &mut input, Some(&mut cubes), options, out)
         }
         None => {
             let none = None::<&mut Device<Empty>>;
-            run(rt, alloc, &mut read, none, options, out)
+            run(rt, alloc, &mut input, none, options, out)
         }
-    };
-    match ran {
-        Ok(ran) => Ok((ran, input)),
-        Err(fault) => Err(fault_on(line, fault)),
     }
 }
 
@@ -95,7 +125,8 @@ fn fetch_files<'a, F: Files>(
     line: &Line<'a>,
     files: &mut F,
 ) -> Result<(F::Input, Option<F::Input>), ProgramFault<'a>>
-    ensures { FetchesFor F.fetches line.now files.old files.new }
+    ensures fetched { FetchesFor F.fetches line.now files.old files.new }
+    ensures texts { IfOk result (λ r. HaveTexts F.fetches F.has line.now files.old (F.Input.remaining r.0) (option_map (λ cubes. F.Input.remaining cubes) r.1)) }
 {
     let Some(input) = files.fetch(line.file) else {
         return Err(ProgramFault::CannotRead(line.file));
