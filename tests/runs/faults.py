@@ -85,6 +85,8 @@ TIE_REPORT = "o 3\ns OPTIMUM FOUND\nv -x1 x2 -x3\n"
 UNSUPPORTED = "s UNSUPPORTED\n"
 PRODUCT = "pbcube: line 1, column 6: 'x2': no product is read: write a variable of its own for it\n"
 CASES = [
+    Case("tie.opb", Ended(TIE_REPORT, "", 30)),
+    Case("--format icnf cube.icnf", Ended("s SATISFIABLE\nv -1 2 0\n", "", 10)),
     solved("tie.opb", TIE_REPORT, 30),
     solved("negative.opb", "o -2\ns OPTIMUM FOUND\nv -x1 x2\n", 30),
     solved("wide.opb", "o 55340232221128654848\ns OPTIMUM FOUND\nv -x1 x2 -x3\n", 30),

@@ -1,6 +1,7 @@
 //! One run over readers and a writer, and what the tests expect of it.
 
 mod alone;
+mod ample_memory;
 mod budgets;
 mod cases;
 mod devices;

@@ -15,6 +15,8 @@ pub struct Rule {
     pub first: Option<u32>,
     /// Of each pair the pass of the first piece is held until that of the second one has begun.
     pub order: &'static [(u32, u32)],
+    /// The very first pass is held until so many have begun.
+    pub crowd: u64,
 }
 
 /// How many passes each of four workers and each of five pieces had, and whether one was held in vain.
@@ -23,6 +25,7 @@ pub struct Passes {
     rule: Rule,
     workers: [AtomicU64; 4],
     pieces: [AtomicU64; 5],
+    begun: AtomicU64,
     late: AtomicBool,
 }
 
@@ -43,6 +46,7 @@ impl Passes {
                 AtomicU64::new(0),
                 AtomicU64::new(0),
             ],
+            begun: AtomicU64::new(0),
             late: AtomicBool::new(false),
         }
     }
@@ -78,11 +82,15 @@ impl Passes {
 
     /// Waits until the counter is no longer 0.
     fn wait(&self, counter: Option<&AtomicU64>) {
-        let Some(counter) = counter else {
-            return;
-        };
+        if let Some(counter) = counter {
+            self.wait_for(counter, 1);
+        }
+    }
+
+    /// Waits until the counter is at least this.
+    fn wait_for(&self, counter: &AtomicU64, count: u64) {
         for _ in 0..MOST_TURNS {
-            if counter.load(Ordering::SeqCst) > 0 {
+            if counter.load(Ordering::SeqCst) >= count {
                 return;
             }
         }
@@ -113,6 +121,9 @@ impl Gate for Passes {
         }
         count(self.workers.get(worker as usize));
         count(self.pieces.get(piece as usize));
+        if self.begun.fetch_add(1, Ordering::SeqCst) == 0 {
+            self.wait_for(&self.begun, self.rule.crowd);
+        }
         self.wait_for_workers();
         self.wait_for_pieces(piece);
     }

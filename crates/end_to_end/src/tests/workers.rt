@@ -165,6 +165,7 @@ const TWO: Together = Together {
         meeting: 2,
         first: None,
         order: &[],
+        crowd: 0,
     },
     pieces: 3,
     held: (0, 2),
@@ -178,19 +179,20 @@ fn two_workers_meet(rt: HostRuntime) {
     }
 }
 
-/// The pass of piece 0 is held until that of the last one has begun.
+/// The very first pass is held until all five have begun.
 const CROWD: Together = Together {
     cubes: b"a 0\na 0\na 0\na 0\n",
     rule: Rule {
         meeting: 0,
         first: None,
-        order: &[(0, 4)],
+        order: &[],
+        crowd: 5,
     },
     pieces: 5,
     ..TWO
 };
 
-// While one worker is held at its first piece the other one gets all others.
+// While one worker is held at its first piece the other one gets all others: with fixed shares they would wait in vain.
 #[test]
 fn pieces_are_claimed(rt: HostRuntime) {
     let shares = assert_together(&rt, rt.alloc(), &CROWD);
@@ -207,13 +209,14 @@ const BORROWED: Together = Together {
         meeting: 0,
         first: None,
         order: &[(0, 1), (1, 2)],
+        crowd: 0,
     },
     held: (1, 2),
     ..TWO
 };
 
 #[test]
-fn a_borrowed_bound_closes_a_piece(rt: HostRuntime) {
+fn borrowed_bound(rt: HostRuntime) {
     assert_together(&rt, rt.alloc(), &BORROWED);
 }
 
@@ -225,6 +228,7 @@ const FOUR: Together = Together {
         meeting: 4,
         first: None,
         order: &[],
+        crowd: 0,
     },
     pieces: 4,
     ..TWO

@@ -92,6 +92,14 @@ const CASES: &[Case] = &[
         rows: &[(1, &[])],
     },
     Case {
+        name: "great opposite literals are merged",
+        text: b"4611686018427387903 x1 4611686018427387903 ~x1 >= 1 ;",
+        width: Bits::Of64Bits,
+        base: 0,
+        objective: &[],
+        rows: &[],
+    },
+    Case {
         name: "opposite literals are merged at the bound on sums",
         text: b"42535295865117307932921825928971026431 x1 42535295865117307932921825928971026431 ~x1 >= 1 ;",
         width: Bits::Of64Bits,

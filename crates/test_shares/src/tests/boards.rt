@@ -50,9 +50,10 @@ fn each_seat_sees_the_least_offer(rt: HostRuntime) -> Result<(), Fail> {
 
 #[test]
 fn a_new_board_has_no_offer(rt: HostRuntime) -> Result<(), Fail> {
-    let (board, whole) = Board::new(rt.alloc(), Workers::new(2)?, 3)?;
+    let (board, mut whole) = Board::new(rt.alloc(), Workers::new(2)?, 3)?;
+    let least = board.least(&mut whole);
     let totals = board.close(whole);
-    assert!(rt; totals.claims == 0 && totals.least == u64::MAX);
+    assert!(rt; least == u64::MAX && totals.claims == 0 && totals.least == u64::MAX);
     Ok(())
 }
 
