@@ -8,7 +8,7 @@ ghost use Rattle.pb_board.specs.Numbers.{IsEachOnceBelow, IsLeast};
 ghost use Rattle.pb_board.specs.Rule.{most_claims, top_key};
 ghost use Rattle.pb_board.specs.declared.board.TheConstants.{ROWS};
 
-use crate::plays::{Both, Claim, Coefficient, Cut, Keep, Offer, Read, Rule, Stay};
+use crate::plays::{Both, Claim, Count, Cut, Keep, Offer, Read, Rule, Stay};
 use crate::seat::Seat;
 use crate::view::View;
 use atomic_table::Table;
@@ -160,7 +160,7 @@ impl Board {
             // No run comes here, so each run makes the one load of `join_seat` alone. All seats together have no more
             // parts than there are workers, but of two seats only the board's rule knows that, and the rule speaks
             // through a step of the joined seat.
-            self.table.shared.load::<Coefficient>(&mut both, COUNTER);
+            self.table.shared.load::<Count>(&mut both, COUNTER);
             unreachable!()
         }
         Seat {

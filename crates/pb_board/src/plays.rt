@@ -47,9 +47,9 @@ impl Play<(), View> for Stay {
 }
 
 /// Nothing changes, and the seat is shown to have no more parts than there may be workers.
-pub struct Coefficient;
+pub struct Count;
 
-impl Play<(), View> for Coefficient {
+impl Play<(), View> for Count {
     ghost then = { Counts };
 }
 

@@ -13,5 +13,5 @@ pub use pb_report::{
     Device, RunFault, Status, report_attained, report_infeasible, report_memory, report_optimum,
     report_satisfiable, report_unknown,
 };
-pub use pb_workers::{Gate, OpenGate, Part, SolveFault, gather, solve, work};
+pub use pb_workers::{Answer, Gate, OpenGate, Part, SolveFault, gather, solve, work};
 pub use whole_run::{report_found, run, run_without_threads};

@@ -164,6 +164,7 @@ fn report_answered<W: Write>(
         → IfOk result (λ ran. ran.cut ≡ true
         → AnswersFound format instance.now pieces (W.contents out.old.held) (W.contents out.new.held) ran.status) }
     ensures uncut { IfOk answered.entry (λ answer. answer.cut ≡ false) → IfOk result (λ ran. ran.cut ≡ false) }
+    ensures known { IfOk answered.entry (λ answer. answer.cut ≡ false → IfOk result (λ ran. ran.status ≢ Status.Unknown)) }
     ensures memory { IfOk result (λ ran. ran.cut ≡ false → ran.status ≡ Status.Unknown → Appends (W.contents out.old.held) (W.contents out.new.held) memory_report) }
     ensures fault { IfErr result (λ fault. fault ≡ RunFault.Write) }
     ensures failed { out.new.failed ≡ is_err result }

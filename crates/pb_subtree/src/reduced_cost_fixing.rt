@@ -13,7 +13,8 @@ use pb_inst::{Best, Lit, Number};
 
 /// What the bound says of the subtree below the trail, the bound itself, and a literal without a value whose negation has
 /// nothing to give: none where none is known. At a tie the lowest variables come first. Once something is held a bound is
-/// compared in each call; where decisions are counted that of disjoint rows is among them.
+/// compared in each call, at a tie also one that was taken above; where decisions are counted each new one has that of disjoint
+/// rows.
 pub fn classify_node<C: Coefficient>(
     engine: &mut EngineAt<C>,
     best: &Best<'_>,
