@@ -280,9 +280,17 @@ class OfTasks(Recipes):
         yield "a folder", True, lambda it: it.mkdir()
         yield "a pipe", True, os.mkfifo
 
+    def hostile_drafts(self):
+        """The same in the place of the file to which a note is written before it gets its name."""
+        yield "a draft that was left", False, lambda it: it.write_text(self.note_of_other)
+        yield "a link to a draft elsewhere", False, lambda it: (it.with_name("kept").write_text("kept\n"), it.symlink_to("kept"))
+        yield "a folder for a draft", True, lambda it: it.mkdir()
+        yield "a pipe for a draft", False, os.mkfifo
+
     def of_hostile_notes(self):
         """Each hostile file lies in the place of one task's note and of every task's, and once a file in that of the folder."""
-        cases = [(*it, places) for it in self.hostile() for places in ([1], range(self.TASKS))]
+        cases = [(*it, places, "note") for it in self.hostile() for places in ([1], range(self.TASKS))]
+        cases += [(*it, places, "0.new") for it in self.hostile_drafts() for places in ([1], range(self.TASKS))]
         yield from (line for lines in side_by_side(lambda it: list(self.of_hostile_note(*it)), cases) for line in lines)
         folder = self.room / "no folder"
         folder.mkdir()
@@ -291,17 +299,19 @@ class OfTasks(Recipes):
         if (ended.out, ended.status, ended.err.count("cannot use notes")) != (self.answer.out, self.answer.status, self.TASKS):
             yield f"parallel-tasks.sh, the folder of notes is a file: {ended}"
 
-    def of_hostile_note(self, name, is_fault, lay, places):
+    def of_hostile_note(self, name, is_fault, lay, places, ending):
         folder = self.room / f"{name} {len(places)}"
         notes = folder / "notes"
         notes.mkdir(parents=True)
         for task in places:
-            lay(notes / f"{task}.note")
+            lay(notes / f"{task}.{ending}")
         ended = self.parallel(folder)
         if (ended.out, ended.status) != (self.answer.out, self.answer.status):
             yield f"parallel-tasks.sh, {name} in the places {places}: {ended}"
         if self.are_too_many(ended.err) or (ended.err != "") != is_fault:
             yield f"parallel-tasks.sh, {name} in the places {places}: {ended.err!r}"
+        if (kept := notes / "kept").exists() and kept.read_text() != "kept\n":
+            yield f"parallel-tasks.sh, {name} in the places {places}: another file was written"
 
     def slurm(self, folder, number, path="all", kind="opb"):
         """The status of a task of Slurm, and its log."""

@@ -86,7 +86,7 @@ impl<R: Files + Eprint> Notes for Folder<'_, R> {
         ) else {
             return Err(Error::from(ErrorKind::InvalidInput));
         };
-        let mut file = File::create(self.rt, draft.as_str())?;
+        let mut file = create_anew(self.rt, draft.as_str())?;
         file.write_all(text)?;
         drop(file);
         fs::rename(self.rt, draft.as_str(), note.as_str())
@@ -98,6 +98,18 @@ impl<R: Files + Eprint> Notes for Folder<'_, R> {
             let folder = &self.folder;
             let _ = eprintln!(self.rt; "cannot exchange notes in {folder}: {fault}");
         }
+    }
+}
+
+/// Makes a file of this name. What has the name already, as a draft that was left there, is taken away and never opened: a pipe
+/// might wait for ever, and a link lead to another file.
+fn create_anew<R: Files>(rt: &R, path: &str) -> io::Result<R::File> {
+    match File::create_new(rt, path) {
+        Err(fault) if fault.kind() == ErrorKind::AlreadyExists => {
+            fs::remove_file(rt, path)?;
+            File::create_new(rt, path)
+        }
+        made => made,
     }
 }
 

@@ -1,5 +1,6 @@
 -- The heading of a part, and then what was found, are its report.
-use Rattle.std.proofs.Common.{ℕ, ◌+◌, List, length, Option, Err, IfOk, Ok, Result}
+use Rattle.std.proofs.Common.{◌≡◌, ℕ, ◌+◌, List, [], length, Option, Err, IfOk, Ok, Result}
+use Rattle.std.specs.Option.{IfNone}
 use Rattle.std.proofs.KnownBytes.{Appends-trans}
 use Rattle.std.specs.Io.KnownBytes.{Appends}
 use Rattle.pb_cubes.specs.Pieces.{CubeList}
@@ -14,15 +15,17 @@ use Rattle.pbcube_task.specs.Reporting.{ReportsPart}
 
 pub part_reported : {E : Type 0} (r : Result Status E) (line : Line) (p : Problem) (pieces : CubeList) (digest : List ℕ) (cubes_digest : Option (List ℕ)) (done cut : List ℕ) (held : Option Solution) (before between after : Option (List ℕ))
     → IsAnswerOfTask p pieces (record { number = line.task; tasks = line.tasks }) done cut held
+    → IfNone line.nodes (cut ≡ [])
     → Appends before between (part_heading (record { instance = digest; pieces = length pieces.cubes + 1; split = line.split; cubes = cubes_digest; tasks = line.tasks }) line.task done cut)
     → IfOk r (AnswersHeld line.format p held between after)
     → IfOk r (ReportsPart line p pieces.cubes digest cubes_digest before after)
-part_reported (Ok status) line p pieces digest cubes_digest done cut held before between after answer heading found = record {
+part_reported (Ok status) line p pieces digest cubes_digest done cut held before between after answer no_budget heading found = record {
   done = done;
   cut = cut;
   held = held;
   answer = record { each_once = answer.each_once; solution = answer.solution; are_done = answer.are_done };
+  no_budget = no_budget;
   ends = found.ends;
   writes = Appends-trans before between after _ _ heading found.writes;
 }
-part_reported (Err e) line p pieces digest cubes_digest done cut held before between after answer heading found = tt
+part_reported (Err e) line p pieces digest cubes_digest done cut held before between after answer no_budget heading found = tt

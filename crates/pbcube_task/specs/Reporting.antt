@@ -1,5 +1,6 @@
 -- What the program reports.
-use Rattle.std.specs.Prelude.{◌≡◌, ◌⊎◌, ℕ, ◌+◌, List, ◌++◌, length, Option, option_map}
+use Rattle.std.specs.Prelude.{◌≡◌, ◌⊎◌, ℕ, ◌+◌, List, [], ◌++◌, length, Option, option_map}
+use Rattle.std.specs.Option.{IfNone}
 use Rattle.std.specs.Io.KnownBytes.{Appends}
 use Rattle.pb_inst.specs.Incumbent.{Solution}
 use Rattle.pb_inst.specs.Literal.{Literal}
@@ -17,12 +18,13 @@ use Rattle.pb_workers.specs.Dealing.{IsAnswerOfTask}
 
 -- What is held, and the pieces that are named as done and as cut, are the answer of the line's task on the instance and the pieces
 -- of these cubes. All that is written is the heading that names these pieces, and then the report of what is held, as what was
--- found.
+-- found. Without a budget no piece is named as cut.
 pub record ReportsPart (line : Line) (p : Problem) (cubes : List (List Literal)) (digest : List ℕ) (cubes_digest : Option (List ℕ)) (before after : Option (List ℕ)) (ended : Status) : Type 0 where
   pub done : List ℕ
   pub cut : List ℕ
   pub held : Option Solution
   pub answer : IsAnswerOfTask p (record { vars = p.vars; cubes = cubes }) (record { number = line.task; tasks = line.tasks }) done cut held
+  pub no_budget : IfNone line.nodes (cut ≡ [])
   pub ends : ended ≡ found_status (found_of p held)
   pub writes : Appends before after (part_heading (record { instance = digest; pieces = length cubes + 1; split = line.split; cubes = cubes_digest; tasks = line.tasks }) line.task done cut ++ found_report line.format (found_of p held))
 

@@ -1,5 +1,5 @@
 //! The search of the pieces of a task.
-ghost use Rattle.std.specs.Prelude.{◌≡◌, ◌<◌, IfOk};
+ghost use Rattle.std.specs.Prelude.{◌≡◌, ◌<◌, [], IfNone, IfOk};
 ghost use Rattle.pb_workers.specs.Dealing.{IsAnswerOfTask};
 
 use crate::places::Places;
@@ -25,6 +25,7 @@ pub fn search<'i, R: Threads + Sync, N: Notes + Sync + Drop, P: Places<N>, E: Wr
     requires same_variables { prepared.now.pieces.vars ≡ prepared.now.instance.vars }
     ensures same_instance { IfOk result (λ answer. answer.best.problem ≡ prepared.now.instance) }
     ensures answer { IfOk result (λ answer. IsAnswerOfTask prepared.now.instance prepared.now.pieces (record { number = line.now.task; tasks = line.now.tasks }) answer.done.items answer.cut.items answer.best.held) }
+    ensures no_budget { IfNone line.now.nodes (IfOk result (λ answer. answer.cut.items ≡ [])) }
 {
     match place_of(alloc, line, prepared.pieces.len(), places, err)? {
         Some(notes) => search_with_notes(rt, alloc, line, prepared, &notes),
@@ -88,6 +89,7 @@ fn search_with_notes<'i, R: Threads + Sync, N: Notes + Sync>(
     requires same_variables { prepared.now.pieces.vars ≡ prepared.now.instance.vars }
     ensures same_instance { IfOk result (λ answer. answer.best.problem ≡ prepared.now.instance) }
     ensures answer { IfOk result (λ answer. IsAnswerOfTask prepared.now.instance prepared.now.pieces (record { number = line.now.task; tasks = line.now.tasks }) answer.done.items answer.cut.items answer.best.held) }
+    ensures no_budget { IfNone line.now.nodes (IfOk result (λ answer. answer.cut.items ≡ [])) }
 {
     let with = Correspondence {
         notes,
@@ -114,6 +116,7 @@ fn search_with<'i, R: Threads + Sync, N: Notes + Sync>(
     requires same_variables { prepared.now.pieces.vars ≡ prepared.now.instance.vars }
     ensures same_instance { IfOk result (λ answer. answer.best.problem ≡ prepared.now.instance) }
     ensures answer { IfOk result (λ answer. IsAnswerOfTask prepared.now.instance prepared.now.pieces (record { number = line.now.task; tasks = line.now.tasks }) answer.done.items answer.cut.items answer.best.held) }
+    ensures no_budget { IfNone line.now.nodes (IfOk result (λ answer. answer.cut.items ≡ [])) }
 {
     let Some(task) = Task::new(line.task, line.tasks) else {
         unreachable!()

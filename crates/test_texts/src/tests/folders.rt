@@ -136,6 +136,20 @@ fn notes_in_a_folder(rt: HostRuntime) -> Result<(), Fail> {
     Ok(())
 }
 
+// What lies in the place of a draft is not opened: nothing is written through a link.
+#[test]
+fn drafts_are_made_anew(rt: HostRuntime) -> Result<(), Fail> {
+    let name = new_folder(&rt)?;
+    let folder = Folder::new(rt.alloc(), &rt, &name, 1, 2, 1)?;
+    let draft = format!(in rt.alloc(); "{name}/1.0.new")?;
+    symlink(&rt, "outside", draft.as_str())?;
+    assert!(rt; folder.write(0, b"text").is_ok() && reads(&folder, 1, b"text"));
+    let outside = format!(in rt.alloc(); "{name}/outside")?;
+    assert!(rt; fs::metadata(&rt, outside.as_str()).is_err());
+    fs::remove_dir_all(&rt, name.as_str())?;
+    Ok(())
+}
+
 #[test]
 fn faults_of_a_folder(rt: HostRuntime) -> Result<(), Fail> {
     let name = new_folder(&rt)?;

@@ -20,4 +20,4 @@ returns g c =
     let counted = subst (λ (pieces : ℕ). Appends before between (heading pieces c.deref.result.now c.deref-2.result.now)) count written in
     let with_done = subst (λ (done : List ℕ). Appends before between (heading (length prepared.pieces.cubes + 1) done c.deref-2.result.now)) done counted in
     let with_cut = subst (λ (cut : List ℕ). Appends before between (heading (length prepared.pieces.cubes + 1) answer.done.items cut)) cut with_done in
-    record { reports = part_reported c.report_found.result line prepared.instance prepared.pieces prepared.digest prepared.cubes_digest answer.done.items answer.cut.items answer.best.held before between after c.requires.answer with_cut c.report_found.ensures.answers }
+    record { reports = part_reported c.report_found.result line prepared.instance prepared.pieces prepared.digest prepared.cubes_digest answer.done.items answer.cut.items answer.best.held before between after c.requires.answer c.requires.no_budget with_cut c.report_found.ensures.answers }
