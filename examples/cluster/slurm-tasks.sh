@@ -9,7 +9,8 @@
 #
 # All nodes see FILE and FOLDER, which gets the reports, and FOLDER/notes the notes of the tasks. What was lost or killed has no
 # report: the same lines once more run those tasks, and those whose reports have a piece that was cut, and pass over all others.
-# What a task says on standard error is FOLDER/task-NUMBER.log, where it says anything.
+# FOLDER/joined.log names them as --array takes them. FOLDER/division tells the file, split and number of tasks: a task of another
+# one ends with status 2. What a task says on standard error is FOLDER/task-NUMBER.log, where it says anything.
 set -euo pipefail
 file=$(realpath "$1") format=$2 split=$3 tasks=$4 task=$SLURM_ARRAY_TASK_ID status=0
 mkdir -p "$5"
@@ -17,11 +18,23 @@ cd "$5"
 log=task-$task.log
 exec 2> "$log"
 trap '[ -s "$log" ] || rm -f "$log"' EXIT
+
+# The task that comes first says what the folder is of. It has the name only once it is whole, and is never written over.
+part=$task.$(uname -n).$$.part
+division="instance $(sha256sum < "$file" | cut -d ' ' -f 1) split $split tasks $tasks"
+if [ ! -e division ]; then
+  echo "$division" > "$part"
+  mv -n "$part" division || true
+  rm -f "$part"
+fi
+if [ "$(cat division)" != "$division" ]; then
+  echo "slurm-tasks.sh: $PWD is of another file, split or number of tasks" >&2
+  exit 2
+fi
 ! grep -qsx 'c cut' "$task.report" || exit 0
 
 # With the statuses 0 and 10 what begins as a part is one. It has the report's name only once it is whole, and another name before
 # in each process, so that the same task may be run twice at a time. What else a task writes is told.
-part=$task.$(uname -n).$$.part
 pbcube_task --format "$format" --split "$split" --workers "${SLURM_CPUS_PER_TASK:-1}" --task "$task" --tasks "$tasks" \
   --exchange notes "$file" > "$part" || status=$?
 if [[ $status =~ ^(0|10)$ ]] && grep -q '^c part ' "$part"; then

@@ -12,7 +12,8 @@
 #
 #   job=$(sbatch --parsable --array=0-341 slurm.sh FOLDER 3)
 #
-# What was lost or killed has no report: the same line once more solves those pieces and passes over all others.
+# What was lost or killed has no report: the same line once more solves those pieces and passes over all others. The last line of
+# FOLDER/joined.log names them as --array takes them, with one piece for each task: `run again: pieces 3,5-7`.
 # What a task says on standard error is FOLDER/task-NUMBER.log, where it says anything.
 set -euo pipefail
 cd "$1"

@@ -25,6 +25,22 @@ def part(of, text, pieces, done, cut=""):
 HEADING = 4  # lines of such a heading
 
 
+def array_of(numbers):
+    """Numbers that rise, as the option --array of Slurm takes them."""
+    runs = []
+    for number in numbers:
+        if runs and runs[-1][-1] == number - 1:
+            runs[-1] = (runs[-1][0], number)
+        else:
+            runs.append((number, number))
+    return ",".join(str(first) if first == last else f"{first}-{last}" for first, last in runs)
+
+
+def run_again(of, numbers):
+    """The line in which pbcube_join names the pieces or tasks that have to be run again."""
+    return f"pbcube_join: run again: {of} {array_of(numbers)}\n"
+
+
 def values_line(values, is_clausal):
     """The `v` line of these values."""
     letter, end = ("", " 0") if is_clausal else ("x", "")

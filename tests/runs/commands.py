@@ -19,7 +19,7 @@ from pathlib import Path
 sys.dont_write_bytecode = True
 sys.path.insert(0, str(Path(__file__).resolve().parents[1]))
 from lib import PROGRAMS, built, name_of, ran, reason, side_by_side, version
-from lib.reports import TIE, digest, index_of, part
+from lib.reports import TIE, digest, index_of, part, run_again
 
 FULL = "/dev/full"  # takes no byte
 CLOSED = "|"  # a pipe that nobody reads
@@ -392,12 +392,12 @@ TASK = [
 def states(pieces, cut=()):
     """What is said of so many pieces of which these were cut and no other has a report."""
     said = {number: "was not solved to its end" if number in cut else "has no report" for number in pieces}
-    return "".join(f"pbcube_join: piece {number} {it}\n" for number, it in said.items())
+    return "".join(f"pbcube_join: piece {number} {it}\n" for number, it in said.items()) + run_again("pieces", pieces)
 
 
 def again(*tasks):
     """What is said of tasks that have to be run again."""
-    return f"pbcube_join: run again: tasks {' '.join(map(str, tasks))}\n"
+    return run_again("tasks", tasks)
 
 
 def number_row(name, number):

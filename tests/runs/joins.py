@@ -19,7 +19,7 @@ sys.path.insert(0, str(Path(__file__).resolve().parents[1]))
 from lib import FORMATS, Ended, run, side_by_side
 from lib.draws import instances
 from lib.examples import divisions, examples, variables_of
-from lib.reports import HEADING
+from lib.reports import HEADING, run_again
 
 RANDOM = 50
 TASKS = (1, 2, 3, 5)
@@ -103,7 +103,8 @@ def spoiled(name, joined, reports):
     said = run(*joined, *(it for it in reports if it != chosen))
     chosen.write_text("s UNKNOWN\n")
     for said in (said, run(*joined, *reports)):
-        if "OPTIMUM" in said.out or "UNSATISFIABLE" in said.out or said.err.count("\n") != 1 or said.status not in (0, 10):
+        is_named = said.err.count("\n") == 2 and said.err.endswith(run_again("pieces", [int(chosen.stem)]))
+        if "OPTIMUM" in said.out or "UNSATISFIABLE" in said.out or not is_named or said.status not in (0, 10):
             yield f"{name}: without {chosen.name}: {said}"
     chosen.write_text(text)
     changes = [text.replace("s ", "r ", 1), text + "s UNKNOWN\n"]
@@ -159,7 +160,7 @@ def lost_task(name, joined, reports, whole):
         else:
             is_known = "SATISFIABLE" in said.out and "UNSATISFIABLE" not in said.out and said.status == 10
             is_unknown = said.out == "s UNKNOWN\n" and said.status == 0
-            is_right = (is_known or is_unknown) and said.err == f"pbcube_join: run again: tasks {task}\n"
+            is_right = (is_known or is_unknown) and said.err == run_again("tasks", [task])
         if not is_right:
             yield f"{name}: without {report.name}: {said}"
 

@@ -18,6 +18,7 @@ from pathlib import Path
 sys.dont_write_bytecode = True
 sys.path.insert(0, str(Path(__file__).resolve().parents[1]))
 from lib import PROGRAMS, SECONDS, TOP, Ended, program, ran, run, side_by_side
+from lib.reports import run_again
 
 CLUSTER = TOP / "examples/cluster"
 DIVIDERS = ("pbcube_pieces", "pbcube_join")
@@ -151,6 +152,20 @@ class OfPieces(Recipes):
                 yield f"slurm.sh, task {number}: {said}"
         if (said := self.joined(folder)) != (0, self.answer.out, ""):
             yield f"slurm-join.sh: {said}"
+        yield from self.of_slurm_again(folder, task)
+
+    def of_slurm_again(self, folder, task):
+        """Some pieces have lost their reports, and then all. The join names them as an array."""
+        for lost in ((0, 2, 3, 4, 8), range(9)):
+            for number in lost:
+                (folder / f"{number}.report").unlink()
+            said = self.joined(folder)
+            if "OPTIMUM" in said[1] or not said[2].endswith(run_again("pieces", lost)):
+                yield f"slurm-join.sh, without the reports {list(lost)}: {said}"
+            for number in lost:
+                task(number)
+            if (said := self.joined(folder)) != (0, self.answer.out, ""):
+                yield f"slurm-join.sh, the pieces {list(lost)} were solved again: {said}"
         for file in folder.glob("*.report"):
             file.unlink()
         if (said := self.joined(folder))[:2] != (1, "s UNKNOWN\n"):
@@ -186,10 +201,6 @@ class OfTasks(Recipes):
         """How the recipe for GNU parallel ends."""
         return self.ran("parallel-tasks.sh", file or self.file, kind, split, tasks, folder, path=path)
 
-    def again(self, numbers):
-        """The line that names tasks that are to be run again."""
-        return f"pbcube_join: run again: tasks {' '.join(map(str, numbers))}\n"
-
     def of_parallel(self):
         yield from self.of_lost_tasks()
         yield from self.of_other_words()
@@ -201,7 +212,7 @@ class OfTasks(Recipes):
         folder = self.room / "parallel"
         for path, lost in (("no solver", range(self.TASKS)), ("a killed task", [self.KILLED])):
             ended = self.parallel(folder, path=path)
-            if "OPTIMUM" in ended.out or not ended.err.endswith(self.again(lost)):
+            if "OPTIMUM" in ended.out or not ended.err.endswith(run_again("tasks", lost)):
                 yield f"parallel-tasks.sh, {path}: {ended}"
         if reports_in(folder) != ["0.report", "1.report", "3.report"]:
             yield f"parallel-tasks.sh, a killed task: {reports_in(folder)}"
@@ -313,9 +324,9 @@ class OfTasks(Recipes):
         if (kept := notes / "kept").exists() and kept.read_text() != "kept\n":
             yield f"parallel-tasks.sh, {name} in the places {places}: another file was written"
 
-    def slurm(self, folder, number, path="all", kind="opb"):
+    def slurm(self, folder, number, path="all", kind="opb", file=None, split=SPLIT, tasks=TASKS):
         """The status of a task of Slurm, and its log."""
-        words = (self.file, kind, self.SPLIT, self.TASKS, folder)
+        words = (file or self.file, kind, split, tasks, folder)
         told = {"SLURM_ARRAY_TASK_ID": str(number), "SLURM_CPUS_PER_TASK": str(1 + number % 2)}
         return self.ran("slurm-tasks.sh", *words, path=path, **told).status, log_of(folder, number)
 
@@ -333,10 +344,16 @@ class OfTasks(Recipes):
         unknown = self.slurm(self.room / "unknown", 0, "few decisions"), reports_in(self.room / "unknown")
         if unknown != ((0, ""), ["0.report"]):
             yield f"slurm-tasks.sh, nothing is found: {unknown}"
-        if (said := self.joined(folder, self.TASKS))[0] or "OPTIMUM" in said[1] or said[2] != self.again([self.KILLED]):
+        if (said := self.joined(folder, self.TASKS))[0] or "OPTIMUM" in said[1] or said[2] != run_again("tasks", [self.KILLED]):
             yield f"slurm-join.sh, a task is missing: {said}"
         yield from self.of_tasks_again(folder)
         yield from self.of_two_tasks_at_once(folder)
+        old = times_of(folder)
+        for words in ({"file": self.other}, {"split": self.SPLIT - 1}, {"tasks": self.TASKS + 1}):
+            if (said := self.slurm(folder, 0, **words))[0] != 2 or "of another file, split or number of tasks" not in said[1]:
+                yield f"slurm-tasks.sh, {words} in an old folder: {said}"
+        if times_of(folder) != old:
+            yield "slurm-tasks.sh, in an old folder: tasks were run again"
 
     def of_tasks_again(self, folder):
         """In the report of one task a piece was cut. All others are whole."""

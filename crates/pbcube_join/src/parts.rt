@@ -6,14 +6,15 @@ ghost use Rattle.pb_join.specs.declared.parts.faults.PartRejection.{PartRejectio
 ghost use Rattle.pb_parts.specs.declared.parts.PartReport.{PartReport as Part};
 ghost use Rattle.pbcube_join.specs.Joining.{JoinsParts, TellsOfParts};
 
+use crate::again::name_open;
 use pb_files::{Files, Refusal, ReportsFault, Whole, named_files, read_instance, read_parts};
-use pb_join::{JoinedParts, PartsFault, TaskState, join_parts};
+use pb_join::{JoinedParts, PartsFault, join_parts};
 use pb_line::joining::Line;
 use pb_parts::PartReport;
 use pb_read::Format;
 use pb_report::Device;
 use std::alloc::Global;
-use std::io::{self, Write};
+use std::io::Write;
 
 /// What was joined of parts.
 #[derive(Drop)]
@@ -88,21 +89,12 @@ fn fault_of<'a>(fault: PartsFault, mut names: Vec<String>) -> ReportsFault<'a>
     }
 }
 
-/// One line to the standard error with the tasks that have to be run again, unless every piece is done.
+/// One line to the standard error with the tasks that have to be run again, those that are not finished and have a piece, unless
+/// every piece is done.
 pub(crate) fn name_tasks<E: Write>(end: &PartsEnd, err: &mut E) {
     if !end.joined.whole {
-        let _ = write_tasks(&end.joined.states, end.pieces, err);
+        let with_pieces = end.pieces.unwrap_or(u32::MAX) as usize;
+        let states = &end.joined.states;
+        name_open("tasks", &states[..states.len().min(with_pieces)], err);
     }
-}
-
-/// The line of the tasks that are not finished and have a piece, by what became of each.
-fn write_tasks<E: Write>(states: &[TaskState], pieces: Option<u32>, err: &mut E) -> io::Result<()> {
-    write!(err, "pbcube_join: run again: tasks")?;
-    let with_pieces = pieces.unwrap_or(u32::MAX) as usize;
-    for (task, state) in states.iter().take(with_pieces).enumerate() {
-        if *state != TaskState::Finished {
-            write!(err, " {task}")?;
-        }
-    }
-    writeln!(err)
 }

@@ -12,6 +12,7 @@ ghost use Rattle.pb_files.specs.Reading.{ReadsReports};
 ghost use Rattle.pb_files.specs.Texts.{texts};
 ghost use Rattle.pb_report.specs.Statuses.{IsExitStatus};
 
+use crate::again::name_open;
 use crate::parts::{join_tasks, name_tasks};
 use clap::Error;
 use pb_files::{
@@ -84,7 +85,7 @@ fn join_asked<'a, F: Files, W: Write, E: Write>(
         }
         None => {
             let joined = join_line(alloc, line, files, out)?;
-            name_pieces(&joined.states, err);
+            name_pieces(&joined, err);
             Ok(joined.status)
         }
     }
@@ -151,10 +152,14 @@ fn fault_of<'a>(fault: JoinFault, mut names: Vec<String>) -> ReportsFault<'a>
     }
 }
 
-/// One line to the standard error for each piece that is missing or was cut.
-fn name_pieces<E: Write>(states: &[PieceState], err: &mut E) {
-    for (number, state) in states.iter().enumerate() {
+/// One line to the standard error for each piece that is missing or was cut, and one that names them all, unless every piece is
+/// done.
+fn name_pieces<E: Write>(joined: &Joined, err: &mut E) {
+    for (number, state) in joined.states.iter().enumerate() {
         let _ = name_piece(number, *state, err);
+    }
+    if !joined.whole {
+        name_open("pieces", &joined.states, err);
     }
 }
 
