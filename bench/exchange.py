@@ -1,13 +1,14 @@
 #!/usr/bin/env python3
-"""Counts the decisions of tasks that exchange notes, beside those of as many workers of one run on the same pieces, and bounds the
+"""Counts the decisions of tasks that exchange notes, beside those of as many workers of one run on the same pieces, and measures the
 share of time that the exchange takes.
 
     exchange.py CRATES [--splits 4,6,8] [--cores 4] FILE...
 
 CRATES is the folder crates/ whose programs are built. As many tasks as cores run at a time, each with one worker. A search asks for a
-better assignment as a piece begins and after each 256th decision, which gdb counts: so up to 255 decisions of a piece are not seen. The
-share is that of all calls on files, those on the instance and the report too, in the seconds (wall clock) of the tasks, by the library
-files.c, which is compiled by cc and preloaded. Beside other work these calls wait for a processor too.
+better assignment as a piece begins and after each 256th decision, which gdb counts: so up to 255 decisions of a piece are not seen.
+Behind the decisions the table has the share of the task that makes most of them. The last column is the share of all calls on files,
+those on the instance and the report too, in the seconds (wall clock) of the tasks. It is measured by the library files.c, which is
+compiled by cc and preloaded; beside other work these calls wait for a processor too.
 """
 import argparse
 import os
@@ -59,8 +60,7 @@ def on_files(library, words):
 
 
 def row(programs, name, cores, split):
-    kind, decisions = ["--format", format_of(name), "--split", split], {}
-    pieces = (1 << split) + 1 if split else 1
+    kind, questions = ["--format", format_of(name), "--split", split], {}
     with tempfile.TemporaryDirectory() as room:
 
         def tasks(notes):
@@ -69,13 +69,16 @@ def row(programs, name, cores, split):
 
         whole = [[programs.whole, *kind, "--workers", cores, name]]
         for way, commands in (("workers", whole), ("tasks", tasks("counted"))):
-            decisions[way] = INTERVAL * (sum(side_by_side(asked, commands)) - pieces)
+            questions[way] = side_by_side(asked, commands)
         library = Path(room) / "files.so"
         run(["cc", "-O1", "-shared", "-fPIC", "-o", library, Path(__file__).with_name("files.c"), "-ldl"], check=True)
         spent = side_by_side(lambda words: on_files(library, words), tasks("timed"))
+    pieces = (1 << split) + 1 if split else 1
+    workers, of_tasks = (INTERVAL * (sum(questions[way]) - pieces) for way in ("workers", "tasks"))
+    most = max(questions["tasks"]) / sum(questions["tasks"])
     share = sum(calls for calls, _ in spent) / sum(seconds for _, seconds in spent)
-    times = decisions["tasks"] / decisions["workers"] if decisions["workers"] else float("nan")
-    return [f"{decisions['workers']:,}", f"{decisions['tasks']:,}", f"{times:.2f}", f"{100 * share:.2f} %"]
+    more = f"{of_tasks / workers:.2f}" if workers else ""
+    return [f"{workers:,}", f"{of_tasks:,}", more, f"{most:.2f}", f"{100 * share:.2f} %"]
 
 
 def main():
@@ -85,7 +88,8 @@ def main():
     parser.add_argument("--splits", type=numbers, default=[4, 6, 8])
     parser.add_argument("--cores", type=int, default=4)
     options = parser.parse_args()
-    print(f"| instance | split | decisions of {options.cores} workers | of {options.cores} tasks | times | calls on files |\n|{'---|' * 6}")
+    heads = [f"decisions of {options.cores} workers", f"of {options.cores} tasks", "times", "of the task with most", "calls on files"]
+    print(f"| instance | split | {' | '.join(heads)} |\n|{'---|' * 7}")
     for name in options.files:
         for split in options.splits:
             cells = row(Programs(options.crates), name, options.cores, split)

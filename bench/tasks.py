@@ -7,13 +7,11 @@ as many workers of one run on the same pieces.
 CRATES is the folder crates/ whose programs are built. A file whose first line begins with `p cnf` is read as CNF, any other as
 OPB. For each split the table has seconds (wall clock, from the start to the report of the whole): one run with one worker, one run
 with a worker for each core, tasks with notes, for each number of tasks, and as many tasks as cores without notes, each from their start
-to the joined report. In one column more, as many tasks as cores find the answer in their notes as they begin: no exchange could tell
-them more. As many tasks as there are cores run at a time, in the order of their numbers. Of each the table has the median of so many
-runs (of one worker, and of tasks without notes, one run), and behind it the seconds of all processors in that run. The reports must be
-those of one run; where they are not, the table says so.
+to the joined report. As many tasks as there are cores run at a time, in the order of their numbers. Of each the table has the median of
+so many runs (of one worker, and of tasks without notes, one run), and behind it the seconds of all processors in that run. The reports
+must be those of one run; where they are not, the table says so.
 """
 import argparse
-import hashlib
 import os
 import subprocess
 import sys
@@ -71,21 +69,8 @@ def of_one_run(programs, name, workers, split, room, limit):
     return measured([[([programs.whole, *words, name], room / "report")]], 1, room / "report", limit)
 
 
-def leave_notes(folder, name, report, tasks):
-    """Leaves the assignment of a report on an instance, where it has one, as the notes of so many tasks."""
-    lines = {line[0]: line.split()[1:] for line in report.decode().splitlines()}
-    if "v" in lines:
-        digest = hashlib.sha256(Path(name).read_bytes()).hexdigest()
-        values = "".join("01"[not word.startswith("-")] for word in lines["v"] if word != "0")
-        folder.mkdir()
-        for task in range(tasks):
-            (folder / f"{task}.note").write_text(f"pbcube note of instance {digest}\ncost {lines.get('o', ['0'])[0]}\nvalues {values}\n")
-
-
-def of_tasks(programs, name, tasks, cores, split, notes, room, limit, known=b""):
-    """What so many tasks take, each with one worker and one for each core at a time, and their join. Where a report is known, its
-    assignment stands in the notes at their start."""
-    leave_notes(room / "notes", name, known, tasks)
+def of_tasks(programs, name, tasks, cores, split, notes, room, limit):
+    """What so many tasks take, each with one worker and one for each core at a time, and their join."""
     kind = ["--format", format_of(name)]
     words = [*kind, "--split", split, "--tasks", tasks, *(["--exchange", room / "notes"] if notes else [])]
     reports = [room / f"{task}.report" for task in range(tasks)]
@@ -123,7 +108,7 @@ def main():
     parser.add_argument("--limit", type=float, default=60)
     options = parser.parse_args()
     programs, cores, runs, limit = Programs(options.crates), options.cores, options.runs, options.limit
-    heads = [f"{cores} workers", *(f"{tasks} tasks with notes" for tasks in options.tasks), f"{cores} that know", f"{cores} without"]
+    heads = [f"{cores} workers", *(f"{tasks} tasks with notes" for tasks in options.tasks), f"{cores} tasks without"]
     print(f"| instance | split | one worker | {' | '.join(heads)} |\n|---|---|---|{'---|' * len(heads)}")
     for name in options.files:
         alone = median(lambda room: of_one_run(programs, name, 1, 0, room, 10 * limit), 1)
@@ -132,7 +117,6 @@ def main():
                 alone,
                 median(lambda room: of_one_run(programs, name, cores, split, room, limit), runs),
                 *(median(lambda room: of_tasks(programs, name, tasks, cores, split, True, room, limit), runs) for tasks in options.tasks),
-                median(lambda room: of_tasks(programs, name, cores, cores, split, True, room, limit, alone[2]), runs),
                 median(lambda room: of_tasks(programs, name, cores, cores, split, False, room, limit), 1),
             ]
             cells = [cell(result, alone[2], limit) for result in results]
