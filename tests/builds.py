@@ -1,7 +1,7 @@
 #!/usr/bin/env python3
-"""Runs ./pbcube and ./prove in a small repository, with stand-ins for rt, nice and the compiler without proof, and prints what is
-wrong: which program is run, what is built in which order and with how many jobs, what is left as it is, that a build that was
-stopped goes on, and that two calls do not build one thing twice. Nothing is proved here."""
+"""Runs ./pbcube, ./prove and ./test in a small repository, with stand-ins for rt, nice, the compiler without proof and tests/all.py,
+and prints what is wrong: which program is run, what is built in which order and with how many jobs, what is left as it is, that a
+build that was stopped goes on, that two calls do not build one thing twice, and what the words of ./test run. Nothing is proved here."""
 import os
 import shutil
 import subprocess
@@ -16,6 +16,7 @@ CRATES = "# a comment\nlow: itoa\nlong: low\nshort: low itoa # another\nhigh: lo
 # Tells its crate, its jobs and its priority; leaves its work in out/incremental; waits where a file says so, fails where one does.
 RT = """#!/bin/sh
 if [ "$1" = version ]; then echo "a stand-in"; exit; fi
+if [ "$1" = ci ]; then echo "7 passed, 0 failed (by rt)"; exit; fi
 name=${PWD##*/}
 echo "$name $1 $3 $PRIORITY $(ls out/incremental 2> /dev/null)" >> "$ROOM/calls"
 echo "so far: 1 of 2 functions checked"
@@ -37,6 +38,10 @@ program=${0%/*}/out/unproved/$1
 printf '#!/bin/sh\\necho unproved "$@"\\n' > "$program"
 chmod +x "$program"
 """
+ALL = """#!/bin/sh
+echo "all.py: $*"
+echo "2 passed, 0 failed"
+"""
 
 
 class Repository:
@@ -45,10 +50,11 @@ class Repository:
     def __init__(self, room):
         self.room, self.top = room, room / "repository"
         self.top.mkdir()
-        for name in ("crates.sh", "pbcube", "prove"):
+        for name in ("crates.sh", "pbcube", "prove", "test"):
             shutil.copy(TOP / name, self.top)
         (self.top / "crates.txt").write_text(CRATES)
-        for path, text in ((room / "bin/rt", RT), (room / "bin/nice", NICE), (self.top / "build", UNPROVED)):
+        stand_ins = ((room / "bin/rt", RT), (room / "bin/nice", NICE), (self.top / "build", UNPROVED), (self.top / "tests/all.py", ALL))
+        for path, text in stand_ins:
             path.parent.mkdir(exist_ok=True)
             path.write_text(text)
             path.chmod(0o755)
@@ -139,16 +145,29 @@ def broken_builds(tree):
     yield "a name that is none is refused", tree.run("prove", "none")[0] == 2
 
 
+def judgements(tree):
+    of_rt = "7 passed, 0 failed (by rt)\n"
+    status, said, _ = tree.run("test")
+    yield "the gate ends with what rt ci says", (status, said) == (0, f"a stand-in\n{of_rt}all.py: \n2 passed, 0 failed\n{of_rt}")
+    status, said, _ = tree.run("test", "quick")
+    first, _, rest = said.partition("\n")
+    yield "./test quick first says that nothing is proved", first.startswith("nothing is proved by this")
+    yield "it has programs without proof judged", (status, rest) == (0, "all.py: --unproved\n2 passed, 0 failed\n")
+    yield "help tells of both", all(f" {it}  " in tree.run("test", "--help")[1] for it in ("./test", "./test quick"))
+    others = (["fast"], ["--quick"], [""], ["quick", "quick"], ["--help", "quick"])
+    yield "other words are refused", all(tree.run("test", *it)[:2] == (2, "") for it in others)
+
+
 def main():
     wrong = []
     count = 0
     with tempfile.TemporaryDirectory(prefix="pbcube-builds-") as room:
         tree = Repository(Path(room))
-        for part in (unproved_runs, whole_builds, broken_builds):
+        for part in (unproved_runs, whole_builds, broken_builds, judgements):
             for what, holds in part(tree):
                 count += 1
                 wrong += [] if holds else [what]
-    print("\n".join(f"builds: not so: {it}" for it in wrong) or f"builds: {count} facts of ./pbcube and ./prove, with a stand-in for rt")
+    print("\n".join(f"builds: not so: {it}" for it in wrong) or f"builds: {count} facts of ./pbcube, ./prove and ./test, with a stand-in for rt")
     return 1 if wrong else 0
 
 

@@ -9,6 +9,8 @@ from pathlib import Path
 
 TOP = Path(__file__).resolve().parents[2]
 PROGRAMS = ("pbcube", "pbcube_pieces", "pbcube_task", "pbcube_join")
+UNPROVED = TOP / "out/unproved"  # where ./build leaves a program
+FOLDER = os.environ.get("PBCUBE_PROGRAMS")  # where all programs are, in place of those that the merge gate built
 FORMATS = ("opb", "cnf", "icnf")
 STATUSES = {"s SATISFIABLE": 10, "s UNSATISFIABLE": 20, "s OPTIMUM FOUND": 30}
 PROCESSORS = len(os.sched_getaffinity(0))
@@ -47,8 +49,8 @@ def say(text):
 
 
 def program(name):
-    """The program of that crate, as the merge gate built it by LLVM."""
-    return TOP / f"crates/{name}/out/{name}"
+    """The program of that crate, as the merge gate built it by LLVM; the one in FOLDER, where a folder is named."""
+    return (Path(FOLDER).absolute() if FOLDER else TOP / f"crates/{name}/out") / name
 
 
 def run(name, *words):
@@ -57,7 +59,8 @@ def run(name, *words):
 
 
 def built(names=("pbcube",)):
-    """The programs of these crates, as the merge gate built them: by LLVM, and by Rattle's own compiler where that compiles them."""
+    """The programs of these crates, as the merge gate built them: by LLVM, and by Rattle's own compiler where that compiles them.
+    FOLDER has one of each."""
     return [it for name in names for it in (program(name), *program(name).parent.glob(f"{name}.by-rattle"))]
 
 

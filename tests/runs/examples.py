@@ -1,7 +1,8 @@
 #!/usr/bin/env python3
 """Runs the built program on the examples, on the commands that README.md and docs/COMMANDS.md show, on words that are no text and on
 those that ask for its version, and pbcube_task on its commands there, and prints what differs, which manifest or page has another
-version than the file VERSION, and which manual page other options than the help of its program.
+version than the file VERSION, which manual page other options than the help of its program, and which commands for a fresh clone
+README.md does not name.
 
     tests/runs/examples.py [PROGRAM ..]
 
@@ -21,6 +22,7 @@ from lib import PROGRAMS, STATUSES, TOP, built, name_of, program, ran, side_by_s
 from lib.examples import divisions_of, examples, with_workers
 
 SPLITS = (0, 1, 6)  # of six variables: more pieces than workers
+FRESH = ["./pbcube examples/tie.opb", "./test quick", "./test"]  # a newcomer's first commands: the program, and its tests
 
 
 def example_rows():
@@ -64,6 +66,14 @@ def version_rows():
     """The same for the words that ask for the version."""
     for word in ("--version", "-V"):
         yield [word], f"pbcube {version()}\n", "", 0
+
+
+def other_first_commands():
+    """What README.md names in place of the first commands, beside each other in one table."""
+    tables = re.findall(r"(?:^\| `\./.+\n)+", (TOP / "README.md").read_text(), re.M)
+    named = [re.findall(r"^\| `(\./.+?)` \|", it, re.M) for it in tables]
+    if FRESH not in named:
+        yield f"README.md: no table of {', '.join(FRESH)}, but {named}"
 
 
 def other_versions():
@@ -117,7 +127,7 @@ def main(words):
     programs = [Path(it).resolve() for it in words]
     commands = command_rows("pbcube", ("README.md", "docs/COMMANDS.md"))
     rows = [*example_rows(), *commands, *word_rows(), *version_rows(), *piped_rows()]
-    stale = [*other_versions(), *other_options(programs or map(program, PROGRAMS))]
+    stale = [*other_versions(), *other_first_commands(), *other_options(programs or map(program, PROGRAMS))]
     of_task = [] if programs else itertools.product(built(["pbcube_task"]), command_rows("pbcube_task", ["docs/COMMANDS.md"]))
     runs = [*itertools.product(programs or built(), rows), *of_task]
     found = side_by_side(lambda run: differences(run[0], *run[1]), runs)
