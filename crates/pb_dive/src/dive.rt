@@ -1,19 +1,20 @@
 //! The way down.
 
-ghost use Rattle.std.specs.Prelude.{◌≡◌, ◌≢◌, ◌≤◌, ◌+◌, false, true, length, Some};
+ghost use Rattle.std.specs.Prelude.{◌≡◌, ◌≢◌, ◌≤◌, ◌+◌, false, length, Some, IfSome};
 ghost use Rattle.pb_inst.specs.declared.limits.TheConstants.{MAX_VARS};
 ghost use Rattle.pb_engine.specs.EngineState.{EngineState};
 ghost use Rattle.pb_engine.specs.Free.{IsFree};
-ghost use Rattle.pb_engine.specs.Soundness.{IsFull, IsSolved, IsSoundTrail};
+ghost use Rattle.pb_engine.specs.Soundness.{IsSoundTrail};
 ghost use Rattle.pb_dive.specs.Budget.{one_more, with_more};
 ghost use Rattle.pb_dive.specs.Dives.{LeadsBack, IsGoingOn};
 
 use crate::path::{DiveBranch, DivePath};
-use crate::steps::{free_variables, next_planned, plan_again, plunge, turn};
+use crate::steps::{free_variables, next_planned, next_within, plan_again, plunge, turn};
 use pb_engine::{Coefficient, EngineAt, Step};
+use pb_inst::Number;
 
 /// How many decisions a dive makes at most. Below some 60,000 variables conflicts and work end it sooner.
-const MAX_DECISIONS: u64 = 4_000_000;
+pub const MAX_DECISIONS: u64 = 4_000_000;
 
 /// How many steps the method makes for the first plan of a dive.
 const FIRST_STEPS: u32 = 50;
@@ -29,61 +30,79 @@ pub enum Progress {
     Stuck,
 }
 
-/// What a dive came to.
+/// What a part of a dive came to.
 #[derive(Clone, Copy)]
 pub struct Descent {
-    /// Whether the trail is full, and all constraints are met.
-    pub is_full: bool,
+    pub progress: Progress,
     /// How many decisions were made.
     pub decisions: u64,
 }
 
-/// Goes down to a full trail by so many decisions at most: the planned literals are assumed in their order, a variable that is
-/// not planned as 0, and where that ends in a conflict the last decision is turned. What was assumed is left on the trail. Each
-/// decision is taken off what is left of a budget; where none is left the dive is over.
+/// A dive begins: the method plans it. Gives the first decision, or none where every variable has a value.
+pub fn begin_descent<C: Coefficient>(
+    engine: &mut EngineAt<C>,
+    path: &mut DivePath,
+) -> Option<DiveBranch>
+    requires few { engine.old.vars ≤ MAX_VARS }
+    requires no_conflict { engine.old.conflict ≡ false }
+    ensures unchanged { engine.new ≡ engine.old }
+    ensures free { IfSome result (λ b. IsFree engine.old b.lit) }
+{
+    path.begin(engine.vars(), free_variables(engine));
+    engine.plan(FIRST_STEPS);
+    next_planned(engine, path, 0)
+}
+
+/// Goes down towards a full trail by at most `most` decisions, of which `first` is the next one: the planned literals are assumed in
+/// their order, a variable that is not planned as 0, and where that ends in a conflict the last decision is turned. No decision is
+/// turned below the level `floor`. Where there is a limit, the bound is compared with it before each decision: nothing that costs
+/// as much is looked for. What was assumed is left on the trail. Each decision is taken off what is left of a budget; where none is
+/// left the dive is over. A dive that was not over goes on with the decision that it answers.
 pub fn descend<C: Coefficient>(
     engine: &mut EngineAt<C>,
     path: &mut DivePath,
+    first: DiveBranch,
+    floor: u32,
     most: u64,
+    limit: Option<Number>,
     left: &mut Option<u64>,
 ) -> Descent
     requires few { engine.old.vars ≤ MAX_VARS }
     requires sound { IsSoundTrail engine.old }
-    requires no_conflict { engine.old.conflict ≡ false }
-    ensures back { LeadsBack engine.old engine.new }
+    requires free { IsFree engine.old first.lit }
+    ensures back { (start : EngineState) → length start.levels ≡ floor → LeadsBack start engine.old → LeadsBack start engine.new }
     ensures sound { IsSoundTrail engine.new }
-    ensures full { result.is_full ≡ true → IsFull engine.new }
-    ensures solved { result.is_full ≡ true → IsSolved engine.new }
+    ensures next { IsGoingOn engine.new result.progress }
     ensures within { result.decisions ≤ most }
     ensures counted { left.old ≡ with_more result.decisions left.new }
     ensures assumed { length engine.new.levels ≤ length engine.old.levels + result.decisions }
 {
-    let floor = engine.level();
-    path.begin(engine.vars(), free_variables(engine));
-    engine.plan(FIRST_STEPS);
-    let Some(mut branch) = next_planned(engine, path, 0) else {
-        return ended(false, 0);
-    };
-    let allowance = most.min(MAX_DECISIONS);
-    for made in 0..allowance {
+    let mut branch = first;
+    for made in 0..most {
         if *left == Some(0) {
-            return ended(false, made);
+            return ended(Progress::Stuck, made);
         }
-        match advance(engine, path, branch, floor, left) {
+        let Some(within) = next_within(engine, path, branch, floor, limit) else {
+            return ended(Progress::Stuck, made);
+        };
+        match advance(engine, path, within, floor, left) {
             Progress::Next(next) => branch = next,
-            Progress::Full => return ended(true, made + 1),
-            Progress::Stuck => return ended(false, made + 1),
+            Progress::Full => return ended(Progress::Full, made + 1),
+            Progress::Stuck => return ended(Progress::Stuck, made + 1),
         }
     }
-    ended(false, allowance)
+    ended(Progress::Next(branch), most)
 }
 
-/// The dive is over.
-fn ended(is_full: bool, decisions: u64) -> Descent
-    ensures full { result.is_full ≡ is_full }
+/// So far the dive came.
+fn ended(progress: Progress, decisions: u64) -> Descent
+    ensures progress { result.progress ≡ progress }
     ensures decisions { result.decisions ≡ decisions }
 {
-    Descent { is_full, decisions }
+    Descent {
+        progress,
+        decisions,
+    }
 }
 
 /// Makes the decision, and takes it off what is left. Answers how the dive goes on: by the next one, or after a conflict by
@@ -104,6 +123,7 @@ fn advance<C: Coefficient>(
     ensures next { IsGoingOn engine.new result }
     ensures counted { left.old ≡ one_more left.new }
     ensures assumed { length engine.new.levels ≤ length engine.old.levels + 1 }
+    ensures same_variables { engine.new.vars ≡ engine.old.vars }
 {
     let (lit, plan, next) = (branch.lit, branch.plan, branch.next);
     let before = engine.trail_len();
@@ -131,6 +151,7 @@ fn turned_back<C: Coefficient>(
     ensures sound { IsSoundTrail engine.new }
     ensures next { IsGoingOn engine.new result }
     ensures no_deeper { length engine.new.levels ≤ length engine.old.levels }
+    ensures same_variables { engine.new.vars ≡ engine.old.vars }
 {
     match turn(engine, path, floor) {
         Some(next) => Progress::Next(next),

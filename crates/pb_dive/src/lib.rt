@@ -2,8 +2,9 @@
 //! a full trail. It closes nothing, and whoever dives takes all of it back; what it reaches is an assignment that meets all
 //! constraints, and early a good one.
 //!
-//! `descend` goes down step by step (`steps`) along a `path`, which holds what is left to turn where a conflict comes. Each step
-//! is a decision, and taken off the `budget` that the search has.
+//! `begin_descent` plans a dive, and `descend` goes down step by step (`steps`) along a `path`, which holds what is left to turn where
+//! a conflict comes. Each step is a decision, and taken off the `budget` that the search has. After as many steps as were allowed the
+//! dive can go on: so a search that has to do something else from time to time dives in parts.
 #![tactic(auto)]
 
 mod budget;
@@ -12,5 +13,5 @@ mod path;
 mod steps;
 
 pub use budget::count_down;
-pub use dive::{Descent, descend};
-pub use path::DivePath;
+pub use dive::{Descent, MAX_DECISIONS, Progress, begin_descent, descend};
+pub use path::{DiveBranch, DivePath};

@@ -1,6 +1,6 @@
 //! The decisions of a dive. No answer depends on them, so nothing is promised.
 
-ghost use Rattle.std.specs.Prelude.{◌<◌, IfSome, vec_len};
+ghost use Rattle.std.specs.Prelude.{◌≡◌, ◌<◌, IfSome, vec_len};
 
 use pb_inst::{Lit, Memory};
 use std::alloc::Global;
@@ -103,7 +103,9 @@ impl DivePath {
     }
 
     /// A conflict came. Answers whether the dive goes on.
-    pub fn outlasts_conflict(&mut self) -> bool {
+    pub fn outlasts_conflict(&mut self) -> bool
+        ensures { vec_len self.new.decisions ≡ vec_len self.old.decisions }
+    {
         self.conflicts = self.conflicts.saturating_add(1);
         self.conflicts <= MAX_CONFLICTS && self.work <= self.most_work
     }

@@ -1,6 +1,6 @@
 //! The steps of a dive: down by a decision, and back to one that can be turned.
 
-ghost use Rattle.std.specs.Prelude.{◌≡◌, ◌≢◌, ◌≤◌, ◌+◌, false, true, length, Some, IfSome, IfNone};
+ghost use Rattle.std.specs.Prelude.{◌≡◌, ◌≢◌, ◌<◌, ◌≤◌, ◌+◌, false, true, length, Some, IfSome, IfNone, vec_len};
 ghost use Rattle.pb_inst.specs.declared.limits.TheConstants.{MAX_VARS};
 ghost use Rattle.pb_engine.specs.EngineState.{EngineState};
 ghost use Rattle.pb_engine.specs.Free.{IsFree};
@@ -11,7 +11,7 @@ ghost use Rattle.pb_dive.specs.Dives.{LeadsBack};
 use crate::budget::count_down;
 use crate::path::{DiveBranch, DivePath};
 use pb_engine::{Coefficient, EngineAt, Step, is_free, lowest_free};
-use pb_inst::Lit;
+use pb_inst::{Lit, Number};
 
 /// How many steps the method makes for each plan after the first one.
 const STEPS: u32 = 50;
@@ -46,6 +46,8 @@ pub fn turn<C: Coefficient>(
     ensures sound { IsSoundTrail engine.new }
     ensures free { IfSome result (λ b. IsFree engine.new b.lit) }
     ensures no_deeper { length engine.new.levels ≤ length engine.old.levels }
+    ensures same_variables { engine.new.vars ≡ engine.old.vars }
+    ensures fewer { IfSome result (λ _. vec_len path.new.decisions < vec_len path.old.decisions) }
 {
     if !path.outlasts_conflict() {
         return None;
@@ -60,6 +62,40 @@ pub fn turn<C: Coefficient>(
         }
     }
     None
+}
+
+/// The decision to make next where the bound is below the limit, if there is one: this one, or after a bound that is not the other
+/// value of an earlier one, as after a conflict. None where nothing is left to try.
+pub fn next_within<C: Coefficient>(
+    engine: &mut EngineAt<C>,
+    path: &mut DivePath,
+    branch: DiveBranch,
+    floor: u32,
+    limit: Option<Number>,
+) -> Option<DiveBranch>
+    requires sound { IsSoundTrail engine.old }
+    requires free { IsFree engine.old branch.lit }
+    ensures back { (start : EngineState) → length start.levels ≡ floor → LeadsBack start engine.old → LeadsBack start engine.new }
+    ensures sound { IsSoundTrail engine.new }
+    ensures free { IfSome result (λ b. IsFree engine.new b.lit) }
+    ensures no_deeper { length engine.new.levels ≤ length engine.old.levels }
+    ensures same_variables { engine.new.vars ≡ engine.old.vars }
+{
+    let mut branch = branch;
+    while is_beyond(engine, limit) {
+        branch = turn(engine, path, floor)?;
+    }
+    Some(branch)
+}
+
+/// Whether every completion of the trail costs as much as the limit, if there is one, by the bound of disjoint rows.
+fn is_beyond<C: Coefficient>(engine: &mut EngineAt<C>, limit: Option<Number>) -> bool
+    ensures { engine.new ≡ engine.old }
+{
+    match limit {
+        Some(cost) => engine.bound() >= cost,
+        None => false,
+    }
 }
 
 /// The decision for the other value.

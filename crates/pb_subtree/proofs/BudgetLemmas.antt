@@ -1,7 +1,9 @@
 -- What is left of a budget of decisions.
-use Rattle.std.proofs.Common.{◌≡◌, ◌<◌, ℕ, ◌+◌, refl, arith, Option, None, Some}
+use Rattle.std.proofs.Common.{◌≡◌, ◌<◌, ◌≤◌, ℕ, ◌+◌, refl, sym, subst, arith, length, Option, None, Some}
 use Rattle.pb_dive.specs.Budget.{with_more}
-use Rattle.pb_subtree.specs.Left.{IsLeftOf, IsPaidFrom}
+use Rattle.pb_dive.proofs.BudgetLemmas.{none_counted, counted_onward}
+use Rattle.pb_engine.specs.EngineState.{EngineState}
+use Rattle.pb_subtree.specs.Left.{IsDescentPaid, IsLeftOf, IsPaidFrom}
 
 pub left_itself : (budget : Option ℕ) → IsLeftOf budget budget
 left_itself None = refl
@@ -27,3 +29,15 @@ paid_of_more count None None some e = refl
 paid_of_more count None (Some n) some e = let bad : ⊥ = cc in absurd bad
 paid_of_more count (Some b) None some e = let bad : ⊥ = cc in absurd bad
 paid_of_more count (Some b) (Some n) some e = let same : b ≡ n + count = cc in omega arith
+
+-- before the first decision
+pub descent_begun : (s : EngineState) (budget : Option ℕ) → IsDescentPaid s s budget budget
+descent_begun s budget = record { decisions = 0; counted = none_counted budget; assumed = omega arith }
+
+-- after so many decisions more, and where the engine is the same then
+pub descent_goes_on : (s e f g : EngineState) (more : ℕ) (budget left less : Option ℕ) → IsDescentPaid s e budget left → length f.levels ≤ length e.levels + more → left ≡ with_more more less → g ≡ f → IsDescentPaid s g budget less
+descent_goes_on s e f g more budget left less h assumed counted same = record {
+  decisions = h.decisions + more;
+  counted = counted_onward h.decisions more budget left less h.counted counted;
+  assumed = subst (λ (x : EngineState). length x.levels ≤ length s.levels + (h.decisions + more)) (sym same) (omega (arith, h.assumed, assumed));
+}

@@ -1,5 +1,5 @@
 -- What a dive leaves of the search, and what it found.
-use Rattle.std.proofs.Common.{◌≡◌, ◌≢◌, ◌∙◌, ◌+◌, ◌≤◌, ℕ, refl, List, length, get_or, take, ap, subst, sym, arith, Bool, inl, inr, ◌⊎◌, Option, None, Some}
+use Rattle.std.proofs.Common.{◌≡◌, ◌≢◌, ◌∙◌, ◌≤◌, ℕ, refl, List, length, get_or, take, ap, subst, sym, arith, Bool, inl, inr, ◌⊎◌, Option, None, Some}
 use Rattle.std.specs.Prelude.{IsSomeAnd}
 use Rattle.std.proofs.lemmas.Bool.{cases_lt}
 use Rattle.std.proofs.Math.ListN.{get_or-eq_default}
@@ -9,13 +9,12 @@ use Rattle.pb_inst.specs.Cubes.{MakesTrue}
 use Rattle.pb_inst.specs.Incumbent.{Incumbent, Solution}
 use Rattle.pb_engine.specs.EngineState.{EngineState}
 use Rattle.pb_engine.specs.Trail.{value_on}
-use Rattle.pb_engine.specs.Soundness.{IsFull, IsSoundTrail}
-use Rattle.pb_dive.specs.Budget.{with_more}
+use Rattle.pb_engine.specs.Soundness.{assumptions, IsFull, IsSoundTrail}
 use Rattle.pb_dive.specs.Dives.{LeadsBack}
-use Rattle.pb_subtree.specs.Left.{IsPaidFrom}
+use Rattle.pb_subtree.specs.Left.{IsDescentPaid, IsPaidFrom}
 use Rattle.pb_subtree.specs.declared.search_state.SearchState.{SearchState}
 use Rattle.pb_subtree.specs.Solutions.{SameConstraints, Completes}
-use Rattle.pb_subtree.specs.SearchState.{SameBranches}
+use Rattle.pb_subtree.specs.SearchState.{IsSameBeside, SameBranches}
 use Rattle.pb_subtree.specs.Nodes.{IsFoundAt}
 use Rattle.pb_subtree.proofs.BudgetLemmas.{paid_of_more}
 use Rattle.pb_subtree.proofs.Engines.{same_constraints_itself, same_constraints_onward}
@@ -48,15 +47,25 @@ full_at_start s e h none full var one most =
     subst (λ (x : List Literal). value_on x var ≢ None) (sym whole ∙ h.trail) (full var one (subst (λ (n : ℕ). var ≤ n) (sym h.vars) most))
 
 -- a dive to a full trail made decisions, unless the trail was full before
-pub dive_is_paid : (s e : EngineState) (count : ℕ) (budget left : Option ℕ) → LeadsBack s e → length e.levels ≤ length s.levels + count → budget ≡ with_more count left → IsFull e → IsFull s ⊎ IsPaidFrom budget left
-dive_is_paid s e count budget left h assumed counted full = elim (cases_lt 0 count) [
-  | inl some ↦ inr (paid_of_more count budget left some counted)
-  | inr none ↦ inl (full_at_start s e h (omega arith) full)
+pub dive_is_paid : (s e : EngineState) (budget left : Option ℕ) → LeadsBack s e → IsDescentPaid s e budget left → IsFull e → IsFull s ⊎ IsPaidFrom budget left
+dive_is_paid s e budget left h paid full = elim (cases_lt 0 paid.decisions) [
+  | inl some ↦ inr (paid_of_more paid.decisions budget left some paid.counted)
+  | inr none ↦ inl (full_at_start s e h (omega (arith, paid.assumed)) full)
 ]
 
 -- the place is the same as itself, and after more of such steps
 pub same_branches_itself : {C : Type 0} (t : SearchState C) → SameBranches t t
 same_branches_itself t = record { constraints = same_constraints_itself t.engine; assumptions = refl; branches = refl; room = refl; returns = refl }
+
+-- where the engine is the same again
+pub same_branches_back : {C : Type 0} (t u : SearchState C) → u.engine ≡ t.engine → IsSameBeside t u → SameBranches t u
+same_branches_back t u same beside = record {
+  constraints = subst (λ (e : EngineState). SameConstraints t.engine e) (sym same) (same_constraints_itself t.engine);
+  assumptions = ap (λ (e : EngineState). assumptions e) same;
+  branches = beside.branches;
+  room = beside.room;
+  returns = beside.returns;
+}
 
 pub same_branches_onward : {C : Type 0} (t u v : SearchState C) → SameBranches t u → SameBranches u v → SameBranches t v
 same_branches_onward t u v h k = record {

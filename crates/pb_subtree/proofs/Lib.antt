@@ -9,3 +9,4 @@ pub mod RootLemmas
 pub mod BudgetLemmas
 pub mod DivingLemmas
 pub mod ProbingLemmas
+pub mod ExpandLemmas

@@ -1,21 +1,17 @@
 -- Assuming the literals of a cube.
-use Rattle.std.proofs.Common.{◌≡◌, ◌≢◌, ℕ, ◌+◌, ◌-◌, ◌<◌, List, [], ◌∷◌, ◌++◌, length, take, refl, sym, ◌∙◌, ap, subst, arith, suc, zero, Bool, true, false, All, inl, inr, ◌⊎◌, Option, None, Some, ◌↔◌}
-use Rattle.std.specs.Prelude.{map, slice_index_or, slice_get, IsSomeAnd}
-use Rattle.std.specs.Option.{IfSome}
+use Rattle.std.proofs.Common.{◌≡◌, ◌≢◌, ℕ, ◌+◌, ◌-◌, ◌<◌, List, [], ◌∷◌, ◌++◌, length, take, refl, sym, ◌∙◌, ap, subst, arith, suc, zero, Bool, true, false, inl, inr, ◌⊎◌, Option, None, Some, ◌↔◌}
+use Rattle.std.specs.Prelude.{map, slice_index_or, IsSomeAnd}
 use Rattle.std.proofs.lemmas.List.Elements.{All-nil, All-cons, All-append}
 use Rattle.std.proofs.lemmas.List.{take_more}
 use mathlib.Core.Bool.{beq}
 use Rattle.pb_inst.specs.Literal.{Literal}
-use Rattle.pb_inst.specs.Problem.{Problem}
-use Rattle.pb_inst.specs.Meaning.{literal_value, IsFeasible}
-use Rattle.pb_inst.specs.Cubes.{MakesTrue, MakesFalse}
-use Rattle.pb_inst.specs.Incumbent.{Incumbent, Solution, IsSolution, IsSound}
-use Rattle.pb_normal.specs.NormalForm.{MeetsRows}
+use Rattle.pb_inst.specs.Meaning.{literal_value}
+use Rattle.pb_inst.specs.Cubes.{MakesTrue}
+use Rattle.pb_inst.specs.Incumbent.{Incumbent, Solution}
 use Rattle.pb_engine.specs.Trail.{value_on}
 use Rattle.pb_engine.specs.Completion.{HasNoCompletion}
 use Rattle.pb_engine.specs.EngineState.{EngineState}
 use Rattle.pb_engine.specs.Soundness.{assumptions, literal_at, IsSoundTrail}
-use Rattle.pb_subtree.specs.Held.{IsImprovement}
 use Rattle.pb_subtree.specs.Solutions.{SameConstraints, Satisfies, SatisfiesUnder}
 use Rattle.pb_subtree.specs.SearchState.{IsOwn}
 use Rattle.pb_subtree.proofs.Engines.{value_on-true}

@@ -1,12 +1,12 @@
 -- The invariant of the search: how it starts, goes on and ends.
 use Rattle.std.proofs.Common.{◌≡◌, ℕ, ◌+◌, ◌<◌, length-append, ◌≤◌, List, [], ◌∷◌, ◌++◌, length, refl, sym, ◌∙◌, ap, subst, arith, Bool, true, false, All, inl, inr, ◌⊎◌, Option, None, Some}
-use Rattle.std.specs.Prelude.{IsSomeAnd, IfSome, IfNone, vec_capacity, ◌↔◌}
+use Rattle.std.specs.Prelude.{IsSomeAnd, IfSome, IfNone, vec_capacity}
 use Rattle.std.proofs.lemmas.List.Elements.{All-nil, All-append}
 use Rattle.std.proofs.lemmas.List.{append-nil, get_or-map, length-map}
 use Rattle.pb_inst.specs.Literal.{Literal}
 use Rattle.pb_inst.specs.Problem.{Problem}
-use Rattle.pb_inst.specs.Meaning.{literal_value, IsFeasible}
-use Rattle.pb_inst.specs.Cubes.{MakesTrue, MakesFalse}
+use Rattle.pb_inst.specs.Meaning.{literal_value}
+use Rattle.pb_inst.specs.Cubes.{MakesTrue}
 use Rattle.pb_inst.specs.Incumbent.{Incumbent, Solution}
 use Rattle.pb_normal.specs.NormalForm.{PositiveRow, NormalForm, MeetsRows, KeepsCost}
 use Rattle.pb_engine.specs.EngineState.{EngineState}

@@ -50,6 +50,12 @@ pub record SameBranches {C : Type 0} (old new : SearchState C) : Type 0 where
   pub room : length new.candidate ≡ length old.candidate
   pub returns : new.root_work.returns ≡ old.root_work.returns
 
+-- beside the engine all is the same that a search goes by: decisions, room, and as many steps back to the root
+pub record IsSameBeside {C : Type 0} (old new : SearchState C) : Type 0 where
+  pub branches : new.branches ≡ old.branches
+  pub room : length new.candidate ≡ length old.candidate
+  pub returns : new.root_work.returns ≡ old.root_work.returns
+
 -- the value of a variable on the trail, with zeros elsewhere
 abbrev pub bit_on : List Literal → ℕ → Bool
 bit_on trail place = unwrap_or (value_on trail (place + 1)) false

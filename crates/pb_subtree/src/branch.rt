@@ -45,11 +45,12 @@ impl Hints {
         }
     }
 
-    /// Whether a bound is to be taken here. Where ties alone are settled, the one that was taken above tells of the next tie
-    /// too. So it is taken anew each time twice as many literals were decided: rows as long as the instance are not looked at
-    /// for each of its variables, and what a bound would have closed is decided no more than twice as far.
-    pub fn is_bound_due(&self) -> bool {
-        self.ties == 0 || self.ties.is_power_of_two()
+    /// Whether a bound is to be taken here: where decisions are counted, before each one. Else, where ties alone are settled, the
+    /// one that was taken above tells of the next tie too. So it is taken anew each time twice as many literals were decided: rows
+    /// as long as the instance are not looked at for each of its variables, and what a bound would have closed is decided no more
+    /// than twice as far.
+    pub fn is_bound_due(&self, is_counted: bool) -> bool {
+        is_counted || self.ties == 0 || self.ties.is_power_of_two()
     }
 }
 

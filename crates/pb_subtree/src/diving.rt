@@ -6,17 +6,18 @@ ghost use Rattle.pb_inst.specs.Literal.{Literal};
 ghost use Rattle.pb_engine.specs.Soundness.{IsFull, IsSolved, IsSoundTrail};
 ghost use Rattle.pb_subtree.specs.Held.{MovesOn};
 ghost use Rattle.pb_subtree.specs.AgreedPrefix.{KnowsHeldPrefix};
-ghost use Rattle.pb_subtree.specs.Left.{IsLeftOf, IsPaidFrom};
-ghost use Rattle.pb_subtree.specs.SearchState.{IsStateOf, IsEngineOf, SameBranches};
+ghost use Rattle.pb_dive.specs.Dives.{LeadsBack};
+ghost use Rattle.pb_subtree.specs.Left.{IsDescentPaid, IsLeftOf, IsPaidFrom};
+ghost use Rattle.pb_subtree.specs.SearchState.{IsStateOf, IsEngineOf, IsSameBeside, SameBranches};
 ghost use Rattle.pb_subtree.specs.Nodes.{IsFoundAt, IsBackFromDive};
 
 use crate::Share;
 use crate::agreed_prefix::AgreedPrefix;
-use crate::incumbent::take_leaf;
+use crate::incumbent::{borrow_where_due, take_leaf};
 use crate::search_state::SearchState;
-use pb_dive::descend;
+use pb_dive::{MAX_DECISIONS, Progress, begin_descent, descend};
 use pb_engine::{Coefficient, EngineAt};
-use pb_inst::{Assignment, Best};
+use pb_inst::{Assignment, Best, Number};
 
 /// Dives from where the search stands, if that is its root and a dive is due. Answers whether it led to a better assignment;
 /// then more may be fixed at the root. The decisions of a dive count like those of the search.
@@ -31,7 +32,7 @@ pub fn dive_from_root<C: Coefficient, S: Share>(
     requires sound { IsSoundTrail state.old.engine }
     requires no_conflict { state.old.engine.conflict ≡ false }
     requires known { KnowsHeldPrefix state.old.engine.trail best.old.held agreed.old }
-    ensures back { IsBackFromDive state.old state.new best.old best.new }
+    ensures back { IsBackFromDive (S.lends share.old) state.old state.new best.old best.new }
     ensures kept { S.keeps share.old share.new }
     ensures same_lending { S.lends share.new ≡ S.lends share.old }
     ensures known { KnowsHeldPrefix state.new.engine.trail best.new.held agreed.new }
@@ -79,7 +80,7 @@ fn dive<C: Coefficient, S: Share>(
     requires sound { IsSoundTrail state.old.engine }
     requires no_conflict { state.old.engine.conflict ≡ false }
     requires known { KnowsHeldPrefix state.old.engine.trail best.old.held agreed.old }
-    ensures back { IsBackFromDive state.old state.new best.old best.new }
+    ensures back { IsBackFromDive (S.lends share.old) state.old state.new best.old best.new }
     ensures kept { S.keeps share.old share.new }
     ensures same_lending { S.lends share.new ≡ S.lends share.old }
     ensures known { KnowsHeldPrefix state.new.engine.trail best.new.held agreed.new }
@@ -87,18 +88,95 @@ fn dive<C: Coefficient, S: Share>(
     ensures paid { result ≡ true → IsFull state.old.engine ⊎ IsPaidFrom left.old left.new }
 {
     let level = state.engine.level();
-    let path = &mut state.root_work.dive;
-    let descent = descend(&mut state.engine, path, most, left);
+    let is_full = go_down(state, best, share, agreed, left, most);
     let is_better = take_where_full(
         &state.engine,
         &mut state.candidate,
         best,
         share,
         agreed,
-        descent.is_full,
+        is_full,
     );
     state.engine.undo_to(level);
     is_better
+}
+
+/// Goes down from where the search stands, by at most `most` decisions, each of which is taken off what is left. Between two of them
+/// the share is asked where that is due. Answers whether the trail is full.
+fn go_down<C: Coefficient, S: Share>(
+    state: &mut SearchState<C>,
+    best: &mut Best<'_>,
+    share: &mut S,
+    agreed: &mut AgreedPrefix,
+    left: &mut Option<u64>,
+    most: u64,
+) -> bool
+    requires state { IsStateOf best.old.problem state.old }
+    requires sound { IsSoundTrail state.old.engine }
+    requires no_conflict { state.old.engine.conflict ≡ false }
+    ensures back { LeadsBack state.old.engine state.new.engine }
+    ensures sound { IsSoundTrail state.new.engine }
+    ensures full { result ≡ true → IsFull state.new.engine }
+    ensures solved { result ≡ true → IsSolved state.new.engine }
+    ensures beside { IsSameBeside state.old state.new }
+    ensures moves_on { MovesOn best.old best.new }
+    ensures own { S.lends share.old ≡ false → best.new ≡ best.old }
+    ensures kept { S.keeps share.old share.new }
+    ensures same_lending { S.lends share.new ≡ S.lends share.old }
+    ensures known { (trail : List Literal) → KnowsHeldPrefix trail best.old.held agreed.old → KnowsHeldPrefix trail best.new.held agreed.new }
+    ensures paid { IsDescentPaid state.old.engine state.new.engine left.old left.new }
+{
+    let floor = state.engine.level();
+    let first = begin_descent(&mut state.engine, &mut state.root_work.dive);
+    let Some(mut branch) = first else {
+        return false;
+    };
+    let mut rest = most.min(MAX_DECISIONS);
+    for _ in 0..MAX_DECISIONS {
+        let part = rest.min(state.root_work.looks.until_due());
+        let limit = limit_below(best, *left);
+        let path = &mut state.root_work.dive;
+        let descent = descend(&mut state.engine, path, branch, floor, part, limit, left);
+        rest = rest.saturating_sub(descent.decisions);
+        ask_on_the_way(state, best, share, agreed, descent.decisions);
+        match descent.progress {
+            Progress::Next(next) => branch = next,
+            Progress::Full => return true,
+            Progress::Stuck => return false,
+        }
+        if rest == 0 {
+            return false;
+        }
+    }
+    false
+}
+
+/// The cost below which a dive looks for an assignment. With a budget each decision that is counted has a bound before it.
+fn limit_below(best: &Best<'_>, left: Option<u64>) -> Option<Number> {
+    if left.is_some() { best.cost() } else { None }
+}
+
+/// A dive made so many decisions: asks the share where that is due by now.
+fn ask_on_the_way<C: Coefficient, S: Share>(
+    state: &mut SearchState<C>,
+    best: &mut Best<'_>,
+    share: &mut S,
+    agreed: &mut AgreedPrefix,
+    decisions: u64,
+)
+    requires room { length state.old.candidate ≡ best.old.problem.vars }
+    ensures engine { state.new.engine ≡ state.old.engine }
+    ensures beside { IsSameBeside state.old state.new }
+    ensures moves_on { MovesOn best.old best.new }
+    ensures own { S.lends share.old ≡ false → best.new ≡ best.old }
+    ensures kept { S.keeps share.old share.new }
+    ensures same_lending { S.lends share.new ≡ S.lends share.old }
+    ensures known { (trail : List Literal) → KnowsHeldPrefix trail best.old.held agreed.old → KnowsHeldPrefix trail best.new.held agreed.new }
+{
+    let looks = &mut state.root_work.looks;
+    looks.count(decisions);
+    let has_borrowed = borrow_where_due(&mut state.candidate, best, share, agreed, looks);
+    looks.note_borrowed(has_borrowed);
 }
 
 /// Hands the trail to the incumbent where it is full. Answers whether that was an improvement.

@@ -11,6 +11,7 @@ ghost use Rattle.pb_subtree.specs.Nodes.{IsFoundAt};
 
 use crate::Share;
 use crate::agreed_prefix::AgreedPrefix;
+use crate::looks::Looks;
 use pb_engine::{Coefficient, EngineAt};
 use pb_inst::{Assignment, Best, Number, SUM_BOUND};
 
@@ -75,23 +76,31 @@ pub fn borrow<S: Share>(scratch: &mut Assignment, best: &mut Best<'_>, share: &m
     best.take(scratch)
 }
 
-/// The same on the way: where the best assignment changes, so does the prefix that the trail is known to agree with.
-pub fn borrow_on_the_way<S: Share>(
+/// The same on the way, where a look at the share is due. Where the best assignment changes, so does the prefix that the trail is
+/// known to agree with.
+pub fn borrow_where_due<S: Share>(
     scratch: &mut Assignment,
     best: &mut Best<'_>,
     share: &mut S,
     agreed: &mut AgreedPrefix,
-)
+    looks: &mut Looks,
+) -> bool
     requires room { length scratch.old ≡ best.old.problem.vars }
     ensures same_length { length scratch.new ≡ length scratch.old }
     ensures moves_on { MovesOn best.old best.new }
-    ensures sound { IsSound best.new }
     ensures own { S.lends share.old ≡ false → best.new ≡ best.old }
     ensures kept { S.keeps share.old share.new }
     ensures same_lending { S.lends share.new ≡ S.lends share.old }
+    ensures refused { result ≡ false → best.new.held ≡ best.old.held }
     ensures known { (trail : List Literal) → KnowsHeldPrefix trail best.old.held agreed.old → KnowsHeldPrefix trail best.new.held agreed.new }
 {
-    if borrow(scratch, best, share) {
+    if !looks.is_due() {
+        return false;
+    }
+    looks.begin_again();
+    let has_borrowed = borrow(scratch, best, share);
+    if has_borrowed {
         agreed.begin_with_borrowed(best);
     }
+    has_borrowed
 }

@@ -6,7 +6,8 @@
 //! the order of pb_order. Where there is none, `incumbent` takes the full trail, and `backtrack` goes back to a decision
 //! whose other value is still to be tried. Conflicts, and what decisions did to the bound, are told to the order
 //! (`feedback`). `root_work` says when the search takes more decisions back (`step_back`): to try literals at the root
-//! (`probing`) and to dive from there (`diving`), or since ties alone are left below them (`ties`).
+//! (`probing`) and to dive from there (`diving`), or since ties alone are left below them (`ties`). Now and then it asks its share
+//! for what another search found (`looks`).
 #![tactic(auto)]
 
 mod agreed_prefix;
@@ -17,6 +18,7 @@ mod diving;
 mod feedback;
 mod goal;
 mod incumbent;
+mod looks;
 mod node;
 mod outcome;
 mod probing;

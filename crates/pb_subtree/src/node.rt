@@ -19,7 +19,7 @@ use crate::decisions::next_decision;
 use crate::diving::{dive_from_root, renew_at_root};
 use crate::feedback::{gap_left, last_decided, learn, learn_conflict, learn_values};
 use crate::goal::Goal;
-use crate::incumbent::{borrow_on_the_way, take_leaf};
+use crate::incumbent::{borrow_where_due, take_leaf};
 use crate::outcome::Outcome;
 use crate::pruning::Pruning;
 use crate::reduced_cost_fixing::{classify_node, one_sided};
@@ -29,8 +29,8 @@ use crate::step_back::step_back;
 use pb_engine::{Coefficient, Step};
 use pb_inst::Best;
 
-/// After how many decisions the search asks its share for an assignment.
-const BORROW_INTERVAL: u32 = 256;
+/// How often the share is asked at one node at most: more often than a round of trials comes to.
+const MOST_LOOKS: u32 = u32::MAX;
 
 /// Expands the node where the trail stands: propagates, compares the bound, tries literals at the root, and takes a full
 /// trail. Gives the decision to make next, or none where no completion of the trail is before what is held.
@@ -44,7 +44,7 @@ fn expand_node<C: Coefficient, S: Share>(
     requires state { IsStateOf best.old.problem state.old }
     requires sound { IsSoundTrail state.old.engine }
     requires known { KnowsHeldPrefix state.old.engine.trail best.old.held agreed.old }
-    ensures expanded { IsExpanded state.old state.new best.old best.new result }
+    ensures expanded { IsExpanded (S.lends share.old) state.old state.new best.old best.new result }
     ensures kept { S.keeps share.old share.new }
     ensures same_lending { S.lends share.new ≡ S.lends share.old }
     ensures known { KnowsHeldPrefix state.new.engine.trail best.new.held agreed.new }
@@ -122,19 +122,56 @@ fn expand<C: Coefficient, S: Share>(
     requires state { IsStateOf best.old.problem state.old }
     requires sound { IsSoundTrail state.old.engine }
     requires known { KnowsHeldPrefix state.old.engine.trail best.old.held agreed.old }
-    ensures expanded { IsExpanded state.old state.new best.old best.new result }
+    ensures expanded { IsExpanded (S.lends share.old) state.old state.new best.old best.new result }
     ensures kept { S.keeps share.old share.new }
     ensures same_lending { S.lends share.new ≡ S.lends share.old }
     ensures known { KnowsHeldPrefix state.new.engine.trail best.new.held agreed.new }
     ensures budget { IsLeftOf left.old left.new }
 {
     renew_at_root(state, best);
-    let branch = expand_node(state, best, share, agreed, left)?;
+    let branch = expand_with_looks(state, best, share, agreed, left)?;
     if branch.flipped {
         return Some(branch);
     }
-    if !dive_from_root(state, best, share, agreed, left) {
+    let is_better = dive_from_root(state, best, share, agreed, left);
+    if !state.root_work.looks.take_borrowed() && !is_better {
         return Some(branch);
+    }
+    expand_with_looks(state, best, share, agreed, left)
+}
+
+/// Expands the node where the trail stands. Where trials at the root made a look at the share due, the share is asked; the trials go on
+/// after it, at the node as it is then. Gives the decision to make next, or none where no completion of the trail is before what is
+/// held.
+fn expand_with_looks<C: Coefficient, S: Share>(
+    state: &mut SearchState<C>,
+    best: &mut Best<'_>,
+    share: &mut S,
+    agreed: &mut AgreedPrefix,
+    left: &mut Option<u64>,
+) -> Option<Branch>
+    requires state { IsStateOf best.old.problem state.old }
+    requires sound { IsSoundTrail state.old.engine }
+    requires known { KnowsHeldPrefix state.old.engine.trail best.old.held agreed.old }
+    ensures expanded { IsExpanded (S.lends share.old) state.old state.new best.old best.new result }
+    ensures kept { S.keeps share.old share.new }
+    ensures same_lending { S.lends share.new ≡ S.lends share.old }
+    ensures known { KnowsHeldPrefix state.new.engine.trail best.new.held agreed.new }
+    ensures budget { IsLeftOf left.old left.new }
+{
+    for _ in 0..MOST_LOOKS {
+        let Some(branch) = expand_node(state, best, share, agreed, left) else {
+            return None;
+        };
+        if !state.root_work.looks.is_due() {
+            return Some(branch);
+        }
+        let looks = &mut state.root_work.looks;
+        let has_borrowed = borrow_where_due(&mut state.candidate, best, share, agreed, looks);
+        // A literal that failed stays failed.
+        if branch.flipped && !has_borrowed {
+            return Some(branch);
+        }
     }
     expand_node(state, best, share, agreed, left)
 }
@@ -151,7 +188,7 @@ fn next_branch<C: Coefficient, S: Share>(
     requires state { IsStateOf best.old.problem state.old }
     requires at_path { IsAtSomePath state.old.engine state.old.branches.items }
     requires known { KnowsHeldPrefix state.old.engine.trail best.old.held agreed.old }
-    ensures further { IsFurther state.old state.new best.old best.new result }
+    ensures further { IsFurther (S.lends share.old) state.old state.new best.old best.new result }
     ensures fewer { IfSome result (λ b. LeavesFewer best.old.problem state.old state.new b) }
     ensures kept { S.keeps share.old share.new }
     ensures same_lending { S.lends share.new ≡ S.lends share.old }
@@ -184,7 +221,7 @@ fn expand_above<C: Coefficient, S: Share>(
     requires state { IsStateOf best.old.problem state.old }
     requires at_path { IsAtSomePath state.old.engine state.old.branches.items }
     requires known { KnowsHeldPrefix state.old.engine.trail best.old.held agreed.old }
-    ensures further { IsFurther state.old state.new best.old best.new result }
+    ensures further { IsFurther (S.lends share.old) state.old state.new best.old best.new result }
     ensures returns { state.new.root_work.returns ≡ state.old.root_work.returns }
     ensures kept { S.keeps share.old share.new }
     ensures same_lending { S.lends share.new ≡ S.lends share.old }
@@ -223,19 +260,15 @@ pub fn search_subtree<C: Coefficient, S: Share>(
     ensures constraints { SameConstraints state.old.engine state.new.engine }
 {
     state.root_work.begin(goal, *left);
-    let mut decisions = 0;
     let mut agreed = AgreedPrefix::of(best);
     while let Some(branch) = next_branch(state, best, share, &mut agreed, left) {
         if goal.is_reached(best, *left) {
             return Outcome::Cut;
         }
         decide(&mut state.engine, &mut state.branches, branch, left);
-        // Any moment would do. Asked this seldom, the share costs next to nothing, and the bound is still soon compared with
-        // what another search found.
-        decisions = (decisions + 1) % BORROW_INTERVAL;
-        if decisions == 0 {
-            borrow_on_the_way(&mut state.candidate, best, share, &mut agreed);
-        }
+        let looks = &mut state.root_work.looks;
+        looks.count(1);
+        borrow_where_due(&mut state.candidate, best, share, &mut agreed, looks);
     }
     Outcome::Whole
 }

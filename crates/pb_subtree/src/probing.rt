@@ -11,6 +11,7 @@ ghost use Rattle.pb_subtree.specs.Left.{IsLeftOf};
 ghost use Rattle.pb_engine.specs.Free.{IsFree};
 ghost use Rattle.pb_subtree.specs.SearchState.{IsClosed, IsEngineOf, IsOpenOnOneSide};
 
+use crate::looks::Looks;
 use pb_dive::count_down;
 use pb_engine::{Coefficient, EngineAt, Step, is_free};
 use pb_inst::{Best, Lit};
@@ -119,10 +120,11 @@ impl Probing {
 }
 
 /// A literal without a value whose negation has nothing to give, since it failed when it was tried; or none, where none of a
-/// round fails or no more may be tried. Each trial is a decision.
+/// round fails or no more may be tried. Each trial is a decision. Where the share is to be asked before the next one, the round waits.
 pub fn find_failed<C: Coefficient>(
     engine: &mut EngineAt<C>,
     probing: &mut Probing,
+    looks: &mut Looks,
     best: &Best<'_>,
     left: &mut Option<u64>,
 ) -> Option<Lit>
@@ -138,13 +140,15 @@ pub fn find_failed<C: Coefficient>(
     }
     let vars = engine.vars();
     for _ in probing.passed..vars.saturating_mul(2) {
-        if probing.credit == 0 || probing.trials == 0 || *left == Some(0) {
+        let is_over = probing.credit == 0 || probing.trials == 0 || *left == Some(0);
+        if is_over || looks.is_due() {
             return None;
         }
         if let Some(lit) = probing.next_literal(vars)
             && is_free(engine, vars, lit)
         {
             count_down(left);
+            looks.count(1);
             if fails(engine, lit, probing, best) {
                 probing.passed = 0;
                 probing.credit = probing.credit.saturating_add(CREDIT_OF_A_FAILURE);

@@ -13,8 +13,8 @@ use pb_inst::{Best, Lit, Number};
 
 /// What the bound says of the subtree below the trail, the bound itself, and a literal without a value whose negation has
 /// nothing to give: none where none is known. At a tie the lowest variables come first. Once something is held a bound is
-/// compared in each call, at a tie also one that was taken above; where decisions are counted each new one has that of disjoint
-/// rows.
+/// compared in each call, without a budget at a tie also one that was taken above. Where decisions are counted each one has that of
+/// disjoint rows before it.
 pub fn classify_node<C: Coefficient>(
     engine: &mut EngineAt<C>,
     best: &Best<'_>,
@@ -39,7 +39,7 @@ pub fn classify_node<C: Coefficient>(
         let pruning = classify_bound(engine, fixed.bound, best, agreed);
         return (pruning, None, Some(fixed.lit));
     }
-    if !hints.is_bound_due() {
+    if !hints.is_bound_due(is_counted) {
         let (pruning, lit) = standing_tie(engine, best, agreed, hints);
         if pruning == Pruning::Closed || lit.is_some() {
             return (pruning, None, lit);

@@ -8,6 +8,7 @@ ghost use Rattle.pb_subtree.specs.SearchState.{IsEngineOf, IsOpenOnOneSide};
 
 use crate::branch::Branch;
 use crate::goal::Goal;
+use crate::looks::Looks;
 use crate::probing::{Probing, find_failed};
 use crate::pruning::Pruning;
 use crate::search_state::SearchState;
@@ -79,6 +80,7 @@ pub struct RootWork {
     /// The trail's length and the best cost where the last dive began.
     dived: Option<(usize, Option<Number>)>,
     pub dive: DivePath,
+    pub looks: Looks,
     /// How often multipliers may still be improved anew at the root.
     renewals: u32,
     /// The length of the root's trail when that was done last.
@@ -105,6 +107,7 @@ impl RootWork {
             dived: None,
             renewals: 0,
             renewed: 0,
+            looks: Looks::new(),
             dive: DivePath::new(alloc, if is_decision { 0 } else { vars })?,
         })
     }
@@ -133,6 +136,7 @@ impl RootWork {
         self.dived = None;
         self.renewals = if self.is_decision { 0 } else { MOST_RENEWALS };
         self.renewed = 0;
+        self.looks = Looks::new();
     }
 
     /// Nothing is left below the path, after a conflict or not, where the best cost is this one. Answers how many decisions are
@@ -310,8 +314,10 @@ pub fn work_at_root<C: Coefficient>(
     if work.done == round {
         return None;
     }
-    let found = find_failed(&mut state.engine, &mut work.probing, best, left);
-    if found.is_none() {
+    let (probing, looks) = (&mut work.probing, &mut work.looks);
+    let found = find_failed(&mut state.engine, probing, looks, best, left);
+    // A round that waits for a look at the share goes on after it.
+    if found.is_none() && !work.looks.is_due() {
         work.done = round;
         work.probing.passed = 0;
     }

@@ -185,6 +185,38 @@ fn fixed_literals_wait_for_the_multipliers(rt: HostRuntime) {
     }
 }
 
+/// What is held costs 2, and so does x9 with one of the variables of either row, by the bound that both rows have together. At such a
+/// tie x1, x2 and x3 come first, as 0. Then either row wants a variable of its own, so that x4 is not decided.
+#[test]
+fn ties_wait_for_the_bound(rt: HostRuntime) {
+    let alloc = rt.alloc();
+    let costs: &[(Number, i32)] = &[
+        (1, 1),
+        (1, 2),
+        (1, 3),
+        (1, 5),
+        (1, 6),
+        (1, 7),
+        (2, 8),
+        (1, 9),
+    ];
+    let rows: &[Row<'_>] = &[
+        (&[(1, 8), (1, 9)], Relation::AtLeast, 1),
+        (
+            &[(1, -9), (1, 1), (1, 2), (1, 3), (1, 5)],
+            Relation::AtLeast,
+            1,
+        ),
+        (&[(1, -9), (1, 3), (1, 6), (1, 7)], Relation::AtLeast, 1),
+    ];
+    let tied = instance(&rt, alloc, 9, costs, rows);
+    let moves: &[(u64, &str)] = &[(2, "Cut 2, 2: x8"), (1000, "Whole 3, 2: x8")];
+    for (budget, want) in moves {
+        let got = run_after(&rt, alloc, &tied, &[&[9]], &[8], *budget);
+        assert!(rt; got.as_str() == *want, "{got}");
+    }
+}
+
 /// Five things find no place among four. Nothing is ever held, and the multipliers tell of trails that the rows promise more
 /// than all costs together: with them it takes 38 decisions, and 98 without.
 #[test]

@@ -10,7 +10,7 @@ use super::listing::Random;
 use pb_cubes::{Pieces, split};
 use pb_inst::{Cube, Instance, Number, Relation};
 use pb_normal::normalise;
-use pb_search::{Alone, Search};
+use pb_search::{Alone, Search, Share};
 use std::alloc::Global;
 use std::process::Abort;
 
@@ -29,14 +29,39 @@ fn asked(rt: &impl Abort, alloc: Global, instance: &Instance, cubes: Vec<Cube>) 
 
 /// How many decisions the search of the whole instance makes.
 fn decisions(rt: &impl Abort, alloc: Global, instance: &Instance) -> u64 {
+    decisions_beside(rt, alloc, instance, &mut Alone)
+}
+
+/// The same beside this share.
+fn decisions_beside<S: Share>(
+    rt: &impl Abort,
+    alloc: Global,
+    instance: &Instance,
+    share: &mut S,
+) -> u64 {
     let vars = instance.vars();
     let pieces = Pieces::new(vars, Vec::new(alloc)).expect(rt, "pieces");
     assert!(rt; pieces.vars() == vars);
     let normal = normalise(alloc, instance).expect(rt, "memory");
     let mut search = Search::new(alloc, instance, &normal, &pieces).expect(rt, "memory");
     let mut best = nothing(rt, alloc, instance);
-    search.run(0, &mut best, &mut Alone, Some(u64::MAX));
+    search.run(0, &mut best, share, Some(u64::MAX));
     search.decisions()
+}
+
+/// The share is asked at the beginning and after every 256th decision. On a long ring most decisions are those of dives, and some are
+/// trials.
+#[test]
+fn the_share_is_asked_after_every_256th_decision(rt: HostRuntime) {
+    let alloc = rt.alloc();
+    let ring = ring_cover(&rt, alloc, 390);
+    let mut share = InTurn::new(Vec::new(alloc));
+    let count = decisions_beside(&rt, alloc, &ring, &mut share);
+    let asked = share.asked;
+    assert!(rt;
+        asked == count / 256 + 1,
+        "{count} decisions, asked {asked} times"
+    );
 }
 
 /// Pigeons without room behind a ring whose variables occur more often. After the first conflicts the pigeons come before
@@ -80,6 +105,14 @@ fn multipliers_keep_long_rings_short(rt: HostRuntime) {
 fn dives_find_the_least_cost_early(rt: HostRuntime) {
     let count = decisions_on_rings(&rt, rt.alloc(), &[390, 500]);
     assert!(rt; count <= 2_880, "{count} decisions");
+}
+
+/// With a budget a dive turns where the bound tells that nothing below costs less than what is held; else a ring takes seven decisions
+/// more.
+#[test]
+fn dives_wait_for_the_bound(rt: HostRuntime) {
+    let count = decisions_on_rings(&rt, rt.alloc(), &[420]);
+    assert!(rt; count <= 1_141, "{count} decisions");
 }
 
 /// How many decisions covers of these sizes with so many gates take together.

@@ -1,4 +1,5 @@
 use Rattle.std.proofs.Common.{◌≡◌, ◌≤◌, ◌+◌, length}
+use Rattle.pb_engine.specs.EngineState.{EngineState}
 use Rattle.pb_engine.specs.Soundness.{IsSoundTrail}
 use Rattle.pb_engine.specs.Free.{IsFree}
 use Rattle.pb_dive.specs.Budget.{with_more}
@@ -7,9 +8,10 @@ use Rattle.pb_dive.proofs.dive.descend.Given as goal
 
 abbrev pub invariant-loop-made : goal.invariant-loop-made
 invariant-loop-made g l = record {
-  back : LeadsBack l.fn.engine l.engine;
+  back : (start : EngineState) → length start.levels ≡ l.fn.floor → LeadsBack start l.fn.engine → LeadsBack start l.engine;
   sound : IsSoundTrail l.engine;
   free : IsFree l.engine l.branch.lit;
+  same_variables : l.engine.vars ≡ l.fn.engine.vars;
   counted : l.fn.left ≡ with_more l.made l.left;
   assumed : length l.engine.levels ≤ length l.fn.engine.levels + l.made;
 }

@@ -10,6 +10,7 @@ invariant-loop-last g l = record {
   sound : IsSoundTrail l.engine;
   same_variables : l.engine.vars ≡ l.initial.engine.vars;
   no_deeper : length l.engine.levels ≤ length l.initial.engine.levels;
+  fewer : vec_len l.path.decisions ≤ vec_len l.initial.path.decisions;
 }
 
 abbrev pub decreases-loop-last : goal.decreases-loop-last

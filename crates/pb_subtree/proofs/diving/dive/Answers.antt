@@ -1,40 +1,51 @@
-use Rattle.std.proofs.Common.{rules, ◌≡◌, ◌≤◌, ℕ, sym, subst}
-use Rattle.pb_inst.specs.declared.limits.TheConstants.{MAX_VARS}
-use Rattle.pb_engine.specs.EngineState.{EngineState}
+use Rattle.std.proofs.Common.{◌≡◌, ◌∙◌, ap, sym, subst}
+use Rattle.pb_inst.specs.Incumbent.{Incumbent}
+use Rattle.pb_inst.specs.Problem.{Problem}
 use Rattle.pb_dive.proofs.DiveLemmas.{levels_within, back_at_start}
+use Rattle.pb_engine.specs.EngineState.{EngineState}
 use Rattle.pb_subtree.specs.AgreedPrefix.{KnowsHeldPrefix}
+use Rattle.pb_subtree.specs.Nodes.{IsFoundAt}
+use Rattle.pb_subtree.specs.declared.search_state.SearchState.{SearchState}
+use Rattle.pb_subtree.specs.SearchState.{IsEngineOf}
 use Rattle.pb_subtree.proofs.BudgetLemmas.{left_of_more}
+use Rattle.pb_subtree.proofs.HeldLemmas.{moves_onward}
 use Rattle.pb_subtree.proofs.SearchLemmas.{same_engine}
-use Rattle.pb_subtree.proofs.DivingLemmas.{dive_constraints, own_at_start, dive_is_paid}
+use Rattle.pb_subtree.proofs.DivingLemmas.{dive_constraints, own_at_start, dive_is_paid, same_branches_back}
 use Rattle.pb_subtree.proofs.diving.dive.Goals as goal
 
-pub descend-descent-requires-clause-few : goal.descend-descent-requires-clause-few
-descend-descent-requires-clause-few g c = subst (λ (n : ℕ). n ≤ MAX_VARS) (sym c.requires.state.engine.vars) c.requires.state.few_variables
-
 pub take_where_full-is_better-requires-clause-engine : goal.take_where_full-is_better-requires-clause-engine
-take_where_full-is_better-requires-clause-engine g c = same_engine c.args.best.now.problem c.args.state.now.engine c.descend-descent.new.engine (dive_constraints c.args.state.now.engine c.descend-descent.new.engine c.descend-descent.ensures.back) c.requires.state.engine
+take_where_full-is_better-requires-clause-engine g c =
+    subst (λ (p : Problem). IsEngineOf p c.go_down-is_full.new.state.engine) (sym c.go_down-is_full.ensures.moves_on.same_instance)
+    (same_engine c.args.best.now.problem c.args.state.now.engine c.go_down-is_full.new.state.engine (dive_constraints c.args.state.now.engine c.go_down-is_full.new.state.engine c.go_down-is_full.ensures.back) c.requires.state.engine)
 
 pub take_where_full-is_better-requires-clause-room : goal.take_where_full-is_better-requires-clause-room
-take_where_full-is_better-requires-clause-room g c = c.requires.state.candidate
+take_where_full-is_better-requires-clause-room g c = c.go_down-is_full.ensures.beside.room ∙ (c.requires.state.candidate ∙ ap (λ (p : Problem). p.vars) (sym c.go_down-is_full.ensures.moves_on.same_instance))
 
 pub undo_to-requires : goal.undo_to-requires
-undo_to-requires g c = rw c.level-level.ensures.count (levels_within c.args.state.now.engine c.descend-descent.new.engine c.descend-descent.ensures.back)
+undo_to-requires g c = rw c.level-level.ensures.count (levels_within c.args.state.now.engine c.go_down-is_full.new.state.engine c.go_down-is_full.ensures.back)
 
 pub returns-clause-back : goal.returns-clause-back
-returns-clause-back g c = record {
-  taken_back = back_at_start c.args.state.now.engine c.descend-descent.new.engine c.undo_to.new.self c.descend-descent.ensures.back (rw c.level-level.ensures.count at c.undo_to.ensures.undone);
-  same_branches = search rules;
-  moves_on = c.take_where_full-is_better.ensures.moves_on;
-  own = own_at_start c.args.state.now.engine c.descend-descent.new.engine c.args.best.now c.take_where_full-is_better.new.best c.descend-descent.ensures.back c.take_where_full-is_better.ensures.own;
-}
+returns-clause-back g c =
+    let start = c.args.state.now.engine in
+    let end = c.go_down-is_full.new.state.engine in
+    let same : c.undo_to.new.self ≡ start = back_at_start start end c.undo_to.new.self c.go_down-is_full.ensures.back (rw c.level-level.ensures.count at c.undo_to.ensures.undone) in
+    let back : SearchState _ = record c.go_down-is_full.new.state { engine = c.undo_to.new.self; candidate = c.take_where_full-is_better.new.candidate } in
+    record {
+      taken_back = same;
+      same_branches = same_branches_back c.args.state.now back same (record { branches = c.go_down-is_full.ensures.beside.branches; room = c.take_where_full-is_better.ensures.same_length ∙ c.go_down-is_full.ensures.beside.room; returns = c.go_down-is_full.ensures.beside.returns });
+      moves_on = moves_onward c.args.best.now c.go_down-is_full.new.best c.take_where_full-is_better.new.best c.go_down-is_full.ensures.moves_on c.take_where_full-is_better.ensures.moves_on;
+      own = λ alone. subst (λ (i : Incumbent). IsFoundAt start i c.take_where_full-is_better.new.best) (c.go_down-is_full.ensures.own alone)
+          (own_at_start start end c.go_down-is_full.new.best c.take_where_full-is_better.new.best c.go_down-is_full.ensures.back c.take_where_full-is_better.ensures.own);
+    }
 
 pub returns-clause-known : goal.returns-clause-known
 returns-clause-known g c =
-    let same : c.undo_to.new.self ≡ c.args.state.now.engine = back_at_start c.args.state.now.engine c.descend-descent.new.engine c.undo_to.new.self c.descend-descent.ensures.back (rw c.level-level.ensures.count at c.undo_to.ensures.undone) in
-    subst (λ (e : EngineState). KnowsHeldPrefix e.trail c.take_where_full-is_better.new.best.held c.take_where_full-is_better.new.agreed) (sym same) (c.take_where_full-is_better.ensures.known c.args.state.now.engine.trail c.requires.known)
+    let same : c.undo_to.new.self ≡ c.args.state.now.engine = back_at_start c.args.state.now.engine c.go_down-is_full.new.state.engine c.undo_to.new.self c.go_down-is_full.ensures.back (rw c.level-level.ensures.count at c.undo_to.ensures.undone) in
+    subst (λ (e : EngineState). KnowsHeldPrefix e.trail c.take_where_full-is_better.new.best.held c.take_where_full-is_better.new.agreed) (sym same)
+    (c.take_where_full-is_better.ensures.known c.args.state.now.engine.trail (c.go_down-is_full.ensures.known c.args.state.now.engine.trail c.requires.known))
 
 pub returns-clause-budget : goal.returns-clause-budget
-returns-clause-budget g c = left_of_more c.descend-descent.result.decisions c.args.left.now c.descend-descent.new.left c.descend-descent.ensures.counted
+returns-clause-budget g c = left_of_more c.go_down-is_full.ensures.paid.decisions c.args.left.now c.go_down-is_full.new.left c.go_down-is_full.ensures.paid.counted
 
 pub returns-clause-paid : goal.returns-clause-paid
-returns-clause-paid g c better = dive_is_paid c.args.state.now.engine c.descend-descent.new.engine c.descend-descent.result.decisions c.args.left.now c.descend-descent.new.left c.descend-descent.ensures.back c.descend-descent.ensures.assumed c.descend-descent.ensures.counted (c.descend-descent.ensures.full (c.take_where_full-is_better.ensures.only_full better))
+returns-clause-paid g c better = dive_is_paid c.args.state.now.engine c.go_down-is_full.new.state.engine c.args.left.now c.go_down-is_full.new.left c.go_down-is_full.ensures.back c.go_down-is_full.ensures.paid (c.go_down-is_full.ensures.full (c.take_where_full-is_better.ensures.only_full better))

@@ -16,7 +16,7 @@ returns-in-Some-clause-further g c =
       onward = λ start h. open_next p start s t c.in-Some.branch c.args.best.now.held c.expand.new.best.held there.same_branches there.sound there.free there.sides there.moves_on.not_after (c.step_back.ensures.under_way start h);
       finished = search rules;
       moves_on = there.moves_on;
-      own = λ start h. expanded_own p start s t c.args.best.now c.expand.new.best there.same_branches there.sound there.own (c.step_back.ensures.under_way start h);
+      own = λ alone start h. expanded_own p start s t c.args.best.now c.expand.new.best there.same_branches there.sound (there.own alone) (c.step_back.ensures.under_way start h);
       made_for = expanded_state p s t there.same_branches c.step_back.ensures.made_for;
       constraints = same_constraints_onward c.args.state.now.engine s.engine t.engine c.step_back.ensures.constraints there.same_branches.constraints;
     }
@@ -51,7 +51,7 @@ returns-clause-further g c =
           (closed_leaving p start s t c.args.best.now.held held there.same_branches there.sound there.closed there.moves_on.not_after (c.step_back.ensures.under_way start h)))
           c.backtrack.ensures.finished;
       moves_on = there.moves_on;
-      own = λ start h. expanded_own p start s t c.args.best.now c.expand.new.best there.same_branches there.sound there.own (c.step_back.ensures.under_way start h);
+      own = λ alone start h. expanded_own p start s t c.args.best.now c.expand.new.best there.same_branches there.sound (there.own alone) (c.step_back.ensures.under_way start h);
       made_for = subst (λ (x : Problem). IsStateOf x u) same c.backtrack.ensures.made_for;
       constraints = same_constraints_onward c.args.state.now.engine t.engine u.engine (same_constraints_onward c.args.state.now.engine s.engine t.engine c.step_back.ensures.constraints there.same_branches.constraints) c.backtrack.ensures.constraints;
     }

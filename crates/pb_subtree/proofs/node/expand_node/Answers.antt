@@ -18,7 +18,7 @@ returns-then-conflict-clause-expanded g c = record {
   same_branches = same_branches_itself c.args.state.now;
   sound = search rules;
   moves_on = moves_itself c.args.best.now;
-  own = inl refl;
+  own = λ alone. inl refl;
 }
 
 pub returns-then-eq-clause-expanded : goal.returns-then-eq-clause-expanded
@@ -32,7 +32,7 @@ returns-then-eq-clause-expanded g c = record {
   same_branches = place_propagated c.args.state.now _ c.propagate-step.new.self.trail (is_conflict c.propagate-step.result) c.requires.sound c.propagate-step.ensures.added c.propagate-step.ensures.forced refl refl refl;
   sound = search rules;
   moves_on = moves_itself c.args.best.now;
-  own = inl refl;
+  own = λ alone. inl refl;
 }
 
 pub returns-then-eq-2-clause-expanded : goal.returns-then-eq-2-clause-expanded
@@ -43,7 +43,7 @@ returns-then-eq-2-clause-expanded g c = record {
   same_branches = place_propagated c.args.state.now _ c.propagate-step.new.self.trail (is_conflict c.propagate-step.result) c.requires.sound (c.classify_node-pruning.ensures.unchanged ∙ c.propagate-step.ensures.added) c.propagate-step.ensures.forced refl refl refl;
   sound = subst (λ (e : EngineState). IsSoundTrail e) (sym c.classify_node-pruning.ensures.unchanged) c.propagate-step.ensures.sound;
   moves_on = moves_itself c.args.best.now;
-  own = inl refl;
+  own = λ alone. inl refl;
 }
 
 pub returns-in-Some-clause-expanded : goal.returns-in-Some-clause-expanded
@@ -54,7 +54,7 @@ returns-in-Some-clause-expanded g c = record {
   same_branches = place_propagated c.args.state.now _ c.propagate-step.new.self.trail (is_conflict c.propagate-step.result) c.requires.sound (c.classify_node-pruning.ensures.unchanged ∙ c.propagate-step.ensures.added) c.propagate-step.ensures.forced refl refl refl;
   sound = search rules;
   moves_on = search rules;
-  own = search rules;
+  own = λ alone. inl refl;
 }
 
 pub returns-in-Some-work_at_root-clause-expanded : goal.returns-in-Some-work_at_root-clause-expanded
@@ -65,7 +65,7 @@ returns-in-Some-work_at_root-clause-expanded g c = record {
   same_branches = place_propagated c.args.state.now _ c.propagate-step.new.self.trail (is_conflict c.propagate-step.result) c.requires.sound ((c.work_at_root.ensures.engine ∙ c.classify_node-pruning.ensures.unchanged) ∙ c.propagate-step.ensures.added) c.propagate-step.ensures.forced c.work_at_root.ensures.branches (ap (λ (a : List Bool). length a) c.work_at_root.ensures.candidate) c.work_at_root.ensures.returns;
   sound = search rules;
   moves_on = search rules;
-  own = search rules;
+  own = λ alone. inl refl;
 }
 
 pub returns-in_default-next-clause-expanded : goal.returns-in_default-next-clause-expanded
@@ -76,7 +76,7 @@ returns-in_default-next-clause-expanded g c = record {
   same_branches = place_propagated c.args.state.now _ c.propagate-step.new.self.trail (is_conflict c.propagate-step.result) c.requires.sound ((c.work_at_root.ensures.engine ∙ c.classify_node-pruning.ensures.unchanged) ∙ c.propagate-step.ensures.added) c.propagate-step.ensures.forced c.work_at_root.ensures.branches (c.take_leaf-has_improved.ensures.same_length ∙ ap (λ (a : List Bool). length a) c.work_at_root.ensures.candidate) c.work_at_root.ensures.returns;
   sound = subst (λ (e : EngineState). IsSoundTrail e) (sym (c.work_at_root.ensures.engine ∙ c.classify_node-pruning.ensures.unchanged)) c.propagate-step.ensures.sound;
   moves_on = c.take_leaf-has_improved.ensures.moves_on;
-  own = c.take_leaf-has_improved.ensures.own;
+  own = λ alone. c.take_leaf-has_improved.ensures.own;
 }
 
 pub returns-clause-expanded : goal.returns-clause-expanded
@@ -87,7 +87,7 @@ returns-clause-expanded g c = record {
   same_branches = place_propagated c.args.state.now _ c.propagate-step.new.self.trail (is_conflict c.propagate-step.result) c.requires.sound ((c.work_at_root.ensures.engine ∙ c.classify_node-pruning.ensures.unchanged) ∙ c.propagate-step.ensures.added) c.propagate-step.ensures.forced c.work_at_root.ensures.branches (ap (λ (a : List Bool). length a) c.work_at_root.ensures.candidate) c.work_at_root.ensures.returns;
   sound = subst (λ (e : EngineState). IsSoundTrail e) (sym (c.work_at_root.ensures.engine ∙ c.classify_node-pruning.ensures.unchanged)) c.propagate-step.ensures.sound;
   moves_on = moves_itself c.args.best.now;
-  own = inl refl;
+  own = λ alone. inl refl;
 }
 
 pub returns-then-eq-clause-known : goal.returns-then-eq-clause-known

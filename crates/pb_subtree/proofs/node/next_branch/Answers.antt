@@ -1,4 +1,4 @@
-use Rattle.std.proofs.Common.{rules, ◌++◌, ◌∷◌, [], ◌<◌, subst, arith}
+use Rattle.std.proofs.Common.{rules, ◌∙◌, ◌++◌, ◌∷◌, [], ◌<◌, subst, arith}
 use Rattle.pb_inst.specs.Problem.{Problem}
 use Rattle.pb_engine.specs.EngineState.{EngineState}
 use Rattle.pb_subtree.specs.declared.search_state.SearchState.{SearchState}
@@ -19,7 +19,7 @@ returns-in-Some-clause-further g c =
       onward = λ start h. open_next p start c.args.state.now t c.in-Some.branch c.args.best.now.held c.expand.new.best.held there.same_branches there.sound there.free there.sides there.moves_on.not_after h;
       finished = search rules;
       moves_on = there.moves_on;
-      own = λ start h. expanded_own p start c.args.state.now t c.args.best.now c.expand.new.best there.same_branches there.sound there.own h;
+      own = λ alone start h. expanded_own p start c.args.state.now t c.args.best.now c.expand.new.best there.same_branches there.sound (there.own alone) h;
       made_for = expanded_state p c.args.state.now t there.same_branches c.requires.state;
       constraints = there.same_branches.constraints;
     }
@@ -59,9 +59,9 @@ returns-in-Some-take_return-clause-further g c =
           (λ f start h. at_problem p q (λ (x : Problem). IsUnderWay x start s held) (λ (x : Problem). IsSearched x start last) same (f start) (under_way start h))
           above.finished;
       moves_on = moves_onward c.args.best.now c.expand.new.best c.expand_above.new.best there.moves_on above.moves_on;
-      own = λ start h.
-          own_onward start c.args.best.now c.expand.new.best c.expand_above.new.best (expanded_own p start c.args.state.now t c.args.best.now c.expand.new.best there.same_branches there.sound there.own h)
-          (at_problem p q (λ (x : Problem). IsUnderWay x start s held) (λ _. IsOwn start c.expand.new.best c.expand_above.new.best) same (above.own start) (under_way start h));
+      own = λ alone start h.
+          own_onward start c.args.best.now c.expand.new.best c.expand_above.new.best (expanded_own p start c.args.state.now t c.args.best.now c.expand.new.best there.same_branches there.sound (there.own alone) h)
+          (at_problem p q (λ (x : Problem). IsUnderWay x start s held) (λ _. IsOwn start c.expand.new.best c.expand_above.new.best) same (above.own (c.expand.ensures.same_lending ∙ alone) start) (under_way start h));
       made_for = subst (λ (x : Problem). IsStateOf x u) same above.made_for;
       constraints = same_constraints_onward c.args.state.now.engine t.engine u.engine there.same_branches.constraints above.constraints;
     }
@@ -98,7 +98,7 @@ returns-in-None-clause-further g c =
           (λ f start h. at_problem p q (λ (x : Problem). IsLeaving x start s held) (λ (x : Problem). IsSearched x start held) same (f start) (leaving start h))
           c.backtrack.ensures.finished;
       moves_on = there.moves_on;
-      own = λ start h. expanded_own p start c.args.state.now t c.args.best.now c.expand.new.best there.same_branches there.sound there.own h;
+      own = λ alone start h. expanded_own p start c.args.state.now t c.args.best.now c.expand.new.best there.same_branches there.sound (there.own alone) h;
       made_for = subst (λ (x : Problem). IsStateOf x u) same c.backtrack.ensures.made_for;
       constraints = same_constraints_onward c.args.state.now.engine t.engine u.engine there.same_branches.constraints c.backtrack.ensures.constraints;
     }

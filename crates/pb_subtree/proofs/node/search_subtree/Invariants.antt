@@ -1,4 +1,4 @@
-use Rattle.std.proofs.Common.{◌≡◌, ◌<◌, false}
+use Rattle.std.proofs.Common.{◌≡◌, false}
 use Rattle.pb_subtree.specs.Held.{MovesOn}
 use Rattle.pb_subtree.specs.AgreedPrefix.{KnowsHeldPrefix}
 use Rattle.pb_subtree.specs.SearchState.{IsUnderWay, IsOwn}
@@ -13,7 +13,6 @@ invariant-loop-branch g l = record {
   own : g.S.Share.lends l.fn.share ≡ false → IsOwn l.fn.state.engine l.fn.best l.best;
   kept : g.S.Share.keeps l.fn.share l.share;
   same_lending : g.S.Share.lends l.share ≡ g.S.Share.lends l.fn.share;
-  counted : l.decisions < 256;
   budget : IsLeftOf l.fn.left l.left;
   known : KnowsHeldPrefix l.state.engine.trail l.best.held l.agreed;
 }

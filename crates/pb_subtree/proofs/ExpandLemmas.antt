@@ -1,0 +1,70 @@
+-- Nodes that are expanded again, after a dive or a look at the share.
+use Rattle.std.proofs.Common.{◌≡◌, Bool, false, subst, sym, Option}
+use Rattle.std.specs.Prelude.{IfNone, IfSome}
+use Rattle.pb_inst.specs.Incumbent.{Incumbent, Solution}
+use Rattle.pb_inst.specs.Problem.{Problem}
+use Rattle.pb_engine.specs.EngineState.{EngineState}
+use Rattle.pb_engine.specs.Free.{IsFree}
+use Rattle.pb_engine.specs.Soundness.{IsSoundTrail}
+use Rattle.pb_subtree.specs.declared.branch.Branch.{Branch}
+use Rattle.pb_subtree.specs.declared.search_state.SearchState.{SearchState}
+use Rattle.pb_subtree.specs.Held.{MovesOn}
+use Rattle.pb_subtree.specs.Nodes.{IsBackFromDive, IsExpanded, IsFoundAt}
+use Rattle.pb_subtree.specs.SearchState.{IsClosed, IsFreshOrOneSided, IsSameBeside, SameBranches}
+use Rattle.pb_subtree.proofs.DivingLemmas.{own_later, same_branches_back, same_branches_itself, same_branches_onward}
+use Rattle.pb_subtree.proofs.HeldLemmas.{moves_onward}
+
+-- what is held stayed the same, or was found at the place before
+own_stays : (s : EngineState) (x y z : Incumbent) → IsFoundAt s x y → z ≡ y → IsFoundAt s x z
+own_stays s x y z h same = subst (λ (i : Incumbent). IsFoundAt s x i) (sym same) h
+
+-- a node was expanded where the search stood after it had gone on at the same branches
+pub expanded_onward : {C : Type 0} (lends : Bool) (s t u : SearchState C) (x y z : Incumbent) (next : Option Branch) → SameBranches s t → IsSoundTrail t.engine → MovesOn x y → (lends ≡ false → IsFoundAt t.engine x y) → IsExpanded lends t u y z next → IsExpanded lends s u x z next
+expanded_onward lends s t u x y z next same sound moves own e = record {
+  free = e.free;
+  sides = subst (λ (p : Problem). IfSome next (λ b. IsFreshOrOneSided p u.engine z.held b)) moves.same_instance e.sides;
+  closed = subst (λ (p : Problem). IfNone next (IsClosed p u.engine z.held)) moves.same_instance e.closed;
+  same_branches = same_branches_onward s t u same e.same_branches;
+  sound = e.sound;
+  moves_on = moves_onward x y z moves e.moves_on;
+  own = λ alone. own_later t u x y z e.same_branches sound e.sound (own alone) (e.own alone);
+}
+
+-- where the search stands once the share was asked after an expansion
+pub record IsLookedOn {C : Type 0} (lends : Bool) (s v : SearchState C) (x z : Incumbent) : Type 0 where
+  pub same_branches : SameBranches s v
+  pub sound : IsSoundTrail v.engine
+  pub moves_on : MovesOn x z
+  pub own : lends ≡ false → IsFoundAt v.engine x z
+
+pub looked_onward : {C : Type 0} (lends : Bool) (s u v : SearchState C) (x y z : Incumbent) (next : Option Branch) → v.engine ≡ u.engine → IsSameBeside u v → MovesOn y z → (lends ≡ false → z ≡ y) → IsExpanded lends s u x y next → IsLookedOn lends s v x z
+looked_onward lends s u v x y z next same beside moves own e = record {
+  same_branches = same_branches_onward s u v e.same_branches (same_branches_back u v same beside);
+  sound = subst (λ (r : EngineState). IsSoundTrail r) (sym same) e.sound;
+  moves_on = moves_onward x y z e.moves_on moves;
+  own = λ alone. subst (λ (r : EngineState). IsFoundAt r x z) (sym same) (own_stays u.engine x y z (e.own alone) (own alone));
+}
+
+-- the same where it gave nothing: the node is as it was
+pub expanded_looked : {C : Type 0} (lends : Bool) (s u v : SearchState C) (x y z : Incumbent) (next : Option Branch) → v.engine ≡ u.engine → IsSameBeside u v → MovesOn y z → z.held ≡ y.held → (lends ≡ false → z ≡ y) → IsExpanded lends s u x y next → IsExpanded lends s v x z next
+expanded_looked lends s u v x y z next same beside moves nothing own e =
+    let looked = looked_onward lends s u v x y z next same beside moves own e in
+    record {
+      free = subst (λ (r : EngineState). IfSome next (λ b. IsFree r b.lit)) (sym same) e.free;
+      sides = subst (λ (r : EngineState). IfSome next (λ b. IsFreshOrOneSided x.problem r z.held b)) (sym same) (subst (λ (held : Option Solution). IfSome next (λ b. IsFreshOrOneSided x.problem u.engine held b)) (sym nothing) e.sides);
+      closed = subst (λ (r : EngineState). IfNone next (IsClosed x.problem r z.held)) (sym same) (subst (λ (held : Option Solution). IfNone next (IsClosed x.problem u.engine held)) (sym nothing) e.closed);
+      same_branches = looked.same_branches;
+      sound = looked.sound;
+      moves_on = looked.moves_on;
+      own = looked.own;
+    }
+
+-- what was found up to the return from a dive
+pub own_dived : {C : Type 0} (t u : SearchState C) (x y z : Incumbent) → u.engine ≡ t.engine → IsSoundTrail t.engine → IsFoundAt t.engine x y → IsFoundAt t.engine y z → IsFoundAt u.engine x z
+own_dived t u x y z same sound h k = subst (λ (r : EngineState). IsFoundAt r x z) (sym same) (own_later t t x y z (same_branches_itself t) sound sound h k)
+
+-- a node was expanded, the search dived from there, and the node was expanded again
+pub expanded_again : {C : Type 0} (lends : Bool) (s t d u : SearchState C) (x y z w : Incumbent) (first next : Option Branch) → IsExpanded lends s t x y first → IsBackFromDive lends t d y z → IsExpanded lends d u z w next → IsExpanded lends s u x w next
+expanded_again lends s t d u x y z w first next e dived again =
+    expanded_onward lends s d u x z w next (same_branches_onward s t d e.same_branches dived.same_branches) (subst (λ (r : EngineState). IsSoundTrail r) (sym dived.taken_back) e.sound) (moves_onward x y z e.moves_on dived.moves_on)
+    (λ alone. own_dived t d x y z dived.taken_back e.sound (e.own alone) (dived.own alone)) again

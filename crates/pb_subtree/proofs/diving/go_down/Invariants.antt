@@ -1,0 +1,24 @@
+use Rattle.std.proofs.Common.{◌≡◌, List, false}
+use Rattle.pb_inst.specs.Literal.{Literal}
+use Rattle.pb_dive.specs.Dives.{LeadsBack}
+use Rattle.pb_engine.specs.Free.{IsFree}
+use Rattle.pb_engine.specs.Soundness.{IsSoundTrail}
+use Rattle.pb_subtree.specs.AgreedPrefix.{KnowsHeldPrefix}
+use Rattle.pb_subtree.specs.Held.{MovesOn}
+use Rattle.pb_subtree.specs.Left.{IsDescentPaid}
+use Rattle.pb_subtree.specs.SearchState.{IsSameBeside}
+use Rattle.pb_subtree.proofs.diving.go_down.Given as goal
+
+abbrev pub invariant-loop : goal.invariant-loop
+invariant-loop g l = record {
+  back : LeadsBack l.fn.state.engine l.state.engine;
+  sound : IsSoundTrail l.state.engine;
+  free : IsFree l.state.engine l.branch.lit;
+  beside : IsSameBeside l.fn.state l.state;
+  moves_on : MovesOn l.fn.best l.best;
+  own : g.S.Share.lends l.fn.share ≡ false → l.best ≡ l.fn.best;
+  kept : g.S.Share.keeps l.fn.share l.share;
+  same_lending : g.S.Share.lends l.share ≡ g.S.Share.lends l.fn.share;
+  known : (trail : List Literal) → KnowsHeldPrefix trail l.fn.best.held l.fn.agreed → KnowsHeldPrefix trail l.best.held l.agreed;
+  paid : IsDescentPaid l.fn.state.engine l.state.engine l.fn.left l.left;
+}

@@ -1,0 +1,20 @@
+use Rattle.std.proofs.Common.{◌≡◌, false}
+use Rattle.pb_engine.specs.Soundness.{IsSoundTrail}
+use Rattle.pb_subtree.specs.AgreedPrefix.{KnowsHeldPrefix}
+use Rattle.pb_subtree.specs.Held.{MovesOn}
+use Rattle.pb_subtree.specs.Left.{IsLeftOf}
+use Rattle.pb_subtree.specs.Nodes.{IsFoundAt}
+use Rattle.pb_subtree.specs.SearchState.{SameBranches}
+use Rattle.pb_subtree.proofs.node.expand_with_looks.Given as goal
+
+abbrev pub invariant-loop : goal.invariant-loop
+invariant-loop g l = record {
+  same_branches : SameBranches l.fn.state l.state;
+  sound : IsSoundTrail l.state.engine;
+  moves_on : MovesOn l.fn.best l.best;
+  own : g.S.Share.lends l.fn.share ≡ false → IsFoundAt l.state.engine l.fn.best l.best;
+  kept : g.S.Share.keeps l.fn.share l.share;
+  same_lending : g.S.Share.lends l.share ≡ g.S.Share.lends l.fn.share;
+  known : KnowsHeldPrefix l.state.engine.trail l.best.held l.agreed;
+  budget : IsLeftOf l.fn.left l.left;
+}
