@@ -58,6 +58,7 @@ STEPS = [
     Step("builds", "tests/builds.py"),
     Step("instances", "tests/instances.py"),
     Step("plants", "tests/plants.py --check"),
+    Step("wrong", "tests/wrong.py --check"),
     Step("promises", "tests/promises.py"),
     Step("threads", "tests/runs/threads.py", is_alone=True),
 ]

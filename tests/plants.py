@@ -27,6 +27,7 @@ from pathlib import Path
 sys.dont_write_bytecode = True
 import work
 from lib import PROGRAMS, TOP, copies
+from lib.changes import changed, changes_of
 
 PLANTS = TOP / "tests/plants"
 
@@ -47,31 +48,14 @@ class Plant:
 
 
 def plant_of(path):
-    said, changes, file = {}, [], ""
-    for line in path.read_text().splitlines():
-        key, _, rest = line.partition(": ")
-        if key == "file":
-            file = rest
-        elif key == "old":
-            changes.append((file, rest, ""))
-        elif key == "new":
-            changes[-1] = (*changes[-1][:2], rest)
-        else:
-            said[key] = rest
-    return Plant(path, said["crate"], said["guard"], said["why"], tuple(changes))
+    lines = path.read_text().splitlines()
+    said = dict(line.partition(": ")[::2] for line in lines)
+    return Plant(path, said["crate"], said["guard"], said["why"], changes_of(lines))
 
 
 def planted(top, plant):
     """The files that the bug changes in the repository of that folder: the text of each, and what it becomes."""
-    before, after = {}, {}
-    for file, old, new in plant.changes:
-        path = top / "crates" / plant.crate / file
-        if path not in after:
-            before[path] = after[path] = path.read_text()
-        if after[path].count(old) != 1:
-            raise ValueError(f"{plant.crate}/{file} has {after[path].count(old)} times: {old}")
-        after[path] = after[path].replace(old, new)
-    return before, after
+    return changed(top / "crates" / plant.crate, plant.changes)
 
 
 def write(texts):

@@ -5,33 +5,36 @@
 
 In docs/PROMISES.md the last cell of a table that has the head Contract names functions, and after a colon their clauses; the heading
 above it names their crates. Each function must be there and have each clause. What that page and
-docs/PLANTING.md name without quotes, as tie_prefers_one, must be a clause, a test, a must-fail edit or a plant. The function that is
-to refuse an edit must be in its crate. docs/EDITS.md lists all edits, tests and plants; it must be what --write writes there.
+docs/PLANTING.md name without quotes, as tie_prefers_one, must be a clause, a test, a must-fail edit or a plant. docs/EDITS.md lists all
+edits, tests and plants; it must be what --write writes there.
 """
 import re
 import sys
-from dataclasses import dataclass, field
-from functools import cache
 from itertools import groupby
-from pathlib import Path
 
 sys.dont_write_bytecode = True
-from lib import TOP
+from lib import TOP, edits
+from lib.code import CRATES, code_of, crates
 
-CRATES = TOP / "crates"
 PLANTS = TOP / "tests/plants"
 EDITS, PROMISES, PLANTING = (TOP / f"docs/{name}.md" for name in ("EDITS", "PROMISES", "PLANTING"))
-FUNCTION = re.compile(r'\s*(?:pub(?:\(\w+\))? )?(?:const )?(?:extern "C" )?fn (\w+)')
-CLAUSE = re.compile(r"\s*ensures\s*(\w*)\s*\{")
-TEST = re.compile(r"#\[test\]\s+(?:#\[.*\]\s+)*(?:pub )?fn (\w+)")
 HEAD = """# Edits, tests and plants
 
 `tests/promises.py --write` writes this page. [PROMISES.md](PROMISES.md) has the promises, [PLANTING.md](PLANTING.md) tells of plants.
 
 ## Must-fail edits
 
-An edit is a wrong body, `crates/CRATE/must-fail/EDIT.edit`. In the gate the prover must refuse each, in the function behind it. By
-which clause, its first line tells.
+An edit is a wrong body that the prover must refuse, in the function behind it. By which clause, its first line tells.
+
+### In the gate
+
+`rt ci` tries each `crates/CRATE/must-fail/EDIT.edit`.
+
+"""
+APART = """
+### After a change
+
+`tests/wrong.py CRATE` tries each `tests/wrong/CRATE/EDIT.edit`, once the crate's contracts were changed.
 
 """
 TESTS = """
@@ -48,72 +51,6 @@ BUGS = """
 """
 
 
-@dataclass
-class Code:
-    """What a crate has: the clauses of each function, by its name, and behind that of its type, or else folder; types with an
-    invariant; tests by file."""
-
-    clauses: dict = field(default_factory=dict)
-    invariants: set = field(default_factory=set)
-    tests: dict = field(default_factory=dict)
-
-    def read(self, path):
-        text, owner, names = path.read_text(), "", []
-        for line in text.splitlines():
-            if re.match(r"(unsafe )?impl\b|(pub )?trait\b", line):
-                owner = owner_of(line)
-            elif line.startswith("}"):
-                owner = ""
-            elif found := FUNCTION.match(line):
-                names = [found[1], f"{owner or path.parent.name}::{found[1]}"]
-                for name in names:
-                    self.clauses.setdefault(name, set())
-            elif found := CLAUSE.match(line):
-                for name in names:
-                    self.clauses[name].add(found[1])
-            elif "ghost invariant" in line:
-                self.invariants.add(owner)
-        if tests := TEST.findall(text):
-            self.tests[path.stem] = tests
-
-
-@dataclass(frozen=True)
-class Edit:
-    """A wrong body: the function that is to refuse it, and by what."""
-
-    crate: str
-    name: str
-    function: str
-    by: str
-
-
-def owner_of(line):
-    """The type or trait that the line begins to write out, without its parameters."""
-    name = re.sub(r"^(pub )?(unsafe )?(impl|trait)", "", line)
-    while (shorter := re.sub(r"<[^<>]*>", "", name)) != name:
-        name = shorter
-    return re.findall(r"\w+", name.split(" for ")[-1])[0]
-
-
-@cache
-def code_of(crate):
-    code = Code()
-    for path in sorted((CRATES / crate / "src").rglob("*.rt")):
-        code.read(path)
-    return code
-
-
-def crates():
-    return sorted(it.name for it in CRATES.iterdir() if (it / "src").exists())
-
-
-def edits():
-    for path in sorted(CRATES.glob("*/must-fail/*.edit")):
-        first = path.read_text().split("\n")[0]
-        function, _, by = first.removeprefix("# refused by: ").partition(", ")
-        yield Edit(path.parts[-3], path.stem, function, by)
-
-
 def plants():
     """The file of each plant, with its crate and its guard."""
     for path in sorted(PLANTS.glob("*/*.plant")):
@@ -123,23 +60,16 @@ def plants():
 
 def listed():
     """What docs/EDITS.md has to be."""
-    wrong = in_lists((it.crate, f"{it.name} (`{it.function}`)") for it in edits())
+    gate, apart = (in_lists((it.crate, f"{it.name} (`{it.function}`)") for it in some) for some in (edits.of_the_gate(), edits.apart()))
     tests = in_lists((crate, name) for crate in crates() for names in code_of(crate).tests.values() for name in names)
     bugs = in_lists((path.parent.name, path.stem) for path, _, _ in plants())
-    return "".join((HEAD, *wrong, TESTS, *tests, BUGS, *bugs))
+    return "".join((HEAD, *gate, APART, *apart, TESTS, *tests, BUGS, *bugs))
 
 
 def in_lists(named):
     """A line for each list, with its names, which come list by list."""
     for title, pairs in groupby(named, key=lambda pair: pair[0]):
         yield f"- `{title}`: {', '.join(name for _, name in pairs)}\n"
-
-
-def misled_edits():
-    """Edits whose first line tells no function of their crate."""
-    for edit in edits():
-        if not edit.by or edit.function not in code_of(edit.crate).clauses:
-            yield f"crates/{edit.crate}/must-fail/{edit.name}.edit: its first line names no function of the crate and what refuses it"
 
 
 def contracts():
@@ -183,7 +113,7 @@ def broken(section, name, clauses, is_type):
 
 def unknown_names():
     """Names without quotes on the pages that nothing has, and files that are not there."""
-    known = {it.name for it in edits()} | {path.stem for path, _, _ in plants()}
+    known = {it.name for it in [*edits.of_the_gate(), *edits.apart()]} | {path.stem for path, _, _ in plants()}
     for crate in crates():
         code = code_of(crate)
         known.update(*code.tests.values(), *code.clauses.values())
@@ -199,7 +129,7 @@ def main(words):
     if words == ["--write"]:
         EDITS.write_text(listed())
     stale = [] if EDITS.exists() and EDITS.read_text() == listed() else ["docs/EDITS.md is not as it is written by --write"]
-    faults = [*stale, *misled_edits(), *broken_contracts(), *unknown_names()]
+    faults = [*stale, *broken_contracts(), *unknown_names()]
     print(*[f"promises: {it}" for it in faults], f"promises: {len(list(contracts()))} held to the code, {len(faults)} faults", sep="\n")
     return 1 if faults else 0
 

@@ -7,7 +7,7 @@ from . import TOP, ran, say
 
 
 class Copy:
-    """A copy of the repository, without what checks left of its crates, since nothing is proved in it."""
+    """A copy of the repository, without what checks left of its crates."""
 
     def __init__(self, folder):
         self.top = folder / TOP.name
