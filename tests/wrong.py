@@ -15,24 +15,26 @@ line names, `# refused by: FUNCTION, CLAUSE`. CLAUSE is the name of one, or
     the requires of FUNCTION, the only requires of FUNCTION
     its shift, its subtraction ..     that no result leaves its range
 
-With no names all crates are tried, as many at a time as there are processors. It takes what other runs kept on this machine:
-libraries of the merge gate, ./prove and rt check, and what edits came to. So build first, by ./prove. The last line is
-`N refused, M not`; the status is 1 where one was not refused, or elsewhere than its first line says.
+With no names all crates are tried, as many at a time as there are processors. It begins with what ./prove and rt check left in the
+crates, and what came of an edit is kept on this machine, as rt keeps it. So run ./prove first, with the names of programs and
+libraries that stand on these crates. The last line is `N refused, M not`; the status is 1 where one was not refused, or elsewhere
+than its first line says.
 
 With --check nothing is proved: it looks whether each edit can be applied, that its first line names a function of its crate and a
 clause of it, and that no edit stands in both places. The gate asks this.
 """
 import os
 import re
+import shutil
 import sys
 import tempfile
 from pathlib import Path
 
 sys.dont_write_bytecode = True
-from lib import PROCESSORS, TOP, edits, say, side_by_side
+from lib import PROCESSORS, edits, say, side_by_side
 from lib.changes import changed
-from lib.code import code_of
-from lib.copies import Copy
+from lib.code import CRATES, code_of
+from lib.copies import ProvedCopy
 
 REFUSED = "refused, as it must be: "
 TRIED = re.compile(r"^rt: must-fail (\w+)/(\S+)\.edit: (.*)", re.M)
@@ -42,19 +44,17 @@ WORDS = re.compile(r"its only clause|its \w+|invariant of (its loop|\w+)|the (on
 
 
 def names_in(crate, place, line):
-    """The names of the function that the place belongs to: in code, or in the folder of its proof."""
+    """The names of the function that the place belongs to: a line of code, or a file of the folder that has the function's proof."""
     path = Path(place)
     if path.parts[0] == "src":
-        return code_of(crate).names_at(TOP / "crates" / crate / path, line)
+        return code_of(crate).names_at(CRATES / crate / path, line)
     *above, function, _ = path.parts
     return [function, *(f"{it}::{function}" for it in above)]
 
 
-def is_of(goal, is_whole, by, clauses):
-    """Whether the goal that the prover left open is of what the first line names."""
-    if not is_whole:
-        return by.startswith(goal.partition("clause-")[2])
-    is_loop, clause = goal.startswith("loop-"), f"clause-{by}"
+def is_of(goal, by, clauses):
+    """Whether the goal, which the prover left open in a function of these clauses, is of what the first line names."""
+    is_loop, is_result = goal.startswith("loop-"), goal.startswith("returns")
     if by == "invariant of its loop":
         return is_loop
     if by.startswith("invariant of "):
@@ -62,34 +62,36 @@ def is_of(goal, is_whole, by, clauses):
     if found := re.search(r"requires of (?:\w+::)*(\w+)", by):
         return bool(re.search(rf"\b{found[1]}(-\w+)*-requires", goal))
     if by == "its only clause" or clauses == {by}:
-        return is_loop or goal.startswith("returns") and ("clause-" not in goal or goal.endswith(clause))
+        return is_loop or is_result and ("clause-" not in goal or goal.endswith(f"clause-{by}"))
     if by.startswith("its "):
         return f"overflow_{by[4:6]}" in goal
-    return is_loop or goal.endswith(clause) or f"{clause}-" in goal
+    return is_loop or is_result and bool(re.search(rf"clause-{by}\b", goal))
 
 
 def is_as_said(edit, reason):
-    """Whether rt's reason names the function and the clause of the edit's first line."""
+    """Whether rt's reason names the function and the clause of the edit's first line. Of a goal whose end rt cut, the clause may be
+    cut too."""
     place, goal = PLACE.match(reason), GOAL.search(reason)
     if not place or not goal or edit.function not in names_in(edit.crate, place[1], int(place[2])):
         return False
-    return is_of(goal[1], bool(goal[2]), edit.by, code_of(edit.crate).clauses[edit.function])
+    if not goal[2]:
+        return edit.by.startswith(goal[1].partition("clause-")[2])
+    return is_of(goal[1], edit.by, code_of(edit.crate).clauses[edit.function])
 
 
-class EditedCopy(Copy):
+class EditedCopy(ProvedCopy):
     """A copy in which the edits stand where rt looks for them."""
 
     def tried(self, crate, chosen):
-        """What rt says of each edit of the crate, by its name; of each the same, where it tried none."""
+        """What rt says of each of these edits of the crate."""
         folder = self.top / "crates" / crate / "must-fail"
-        folder.mkdir(exist_ok=True)
-        for path in folder.iterdir():
-            path.unlink()
+        shutil.rmtree(folder, ignore_errors=True)
+        folder.mkdir()
         for edit in chosen:
-            (folder / edit.path.name).write_bytes(edit.path.read_bytes())
+            shutil.copy(edit.path, folder)
         _, said = self.run(["rt", "must-fail", crate])
         found = {name: text for of, name, text in TRIED.findall(said) if of == crate}
-        return {it: found.get(it.name, f"NOT TRIED: {said[-2000:]}") for it in chosen}
+        return [(it, found.get(it.name, f"NOT TRIED: {said[-2000:]}")) for it in chosen]
 
 
 def told(edit, said):
@@ -104,11 +106,11 @@ def attempt(chosen):
     """Tries the edits, by crate, those of the largest crates first. What came of a crate's is printed as one piece."""
 
     def one(crate):
-        ends = [told(*it) for it in copy.tried(crate, chosen[crate]).items()]
+        ends = [told(*it) for it in copy.tried(crate, chosen[crate])]
         print("".join(f"{line}\n" for _, _, line in ends), end="", flush=True)
         return ends
 
-    size = {crate: sum(it.stat().st_size for it in (TOP / "crates" / crate).glob("[ps]*/**/*.*t*")) for crate in chosen}
+    size = {crate: sum(it.stat().st_size for part in ("src", "proofs") for it in (CRATES / crate / part).rglob("*.*")) for crate in chosen}
     os.environ["RT_JOBS"] = str(max(1, PROCESSORS // len(chosen)))
     with tempfile.TemporaryDirectory(prefix="pbcube-wrong-", dir=os.environ.get("TMPDIR")) as room:
         copy = EditedCopy(Path(room))
@@ -116,15 +118,19 @@ def attempt(chosen):
 
 
 def why_not_tried(edit):
-    """Why the edit can't be tried, or its refusal not be looked for, or None."""
+    """Why the edit can't be tried, or its refusal can't be looked for, or None."""
     try:
-        changed(TOP / "crates" / edit.crate, edit.changes)
+        before, after = changed(CRATES / edit.crate, edit.changes)
     except (OSError, ValueError) as fault:
         return str(fault)
-    clauses = code_of(edit.crate).clauses.get(edit.function)
-    if clauses is None or not edit.changes:
-        return "it changes nothing" if clauses else f"its first line names no function of {edit.crate}"
-    return None if edit.by in clauses - {""} or WORDS.fullmatch(edit.by) else f"{edit.function} has no clause {edit.by}"
+    if before == after:
+        return "it changes nothing"
+    clauses = code_of(edit.crate).clauses
+    if edit.function not in clauses:
+        return f"its first line names no function of {edit.crate}"
+    if edit.by not in clauses[edit.function] - {""} and not WORDS.fullmatch(edit.by):
+        return f"its first line names no clause of {edit.function}"
+    return None
 
 
 def check(gate, apart):

@@ -1,4 +1,5 @@
 """Copies of the repository, whose sources are changed."""
+import os
 import shutil
 import subprocess
 import sys
@@ -29,3 +30,23 @@ class Copy:
             say(f"{name} was not compiled:\n{said}")
             sys.exit(1)
         return program
+
+
+class ProvedCopy(Copy):
+    """A copy with the libraries that were proved of its crates, and what checks kept, so that rt begins with these."""
+
+    def __init__(self, folder):
+        super().__init__(folder)
+        for part in ("rlib", "incremental"):
+            for out in (TOP / "crates").glob(f"*/out/{part}"):
+                shutil.copytree(out, self.top / out.relative_to(TOP), symlinks=True, copy_function=second_name)
+
+
+def second_name(one, other):
+    """Gives a file of a library or of a proof a second name, for rt replaces such a file and writes into none; copies any other."""
+    if "/rlib/" in one or one.endswith(".oantt"):
+        try:
+            return os.link(one, other)
+        except OSError:  # on another file system
+            pass
+    return shutil.copy2(one, other)
