@@ -13,8 +13,8 @@ TEST = re.compile(r"#\[test\]\s+(?:#\[.*\]\s+)*(?:pub )?fn (\w+)")
 
 @dataclass
 class Code:
-    """The clauses of each function, by its name, and behind that of its type, or else folder; these names by file and line; types with
-    an invariant; tests by file."""
+    """The clauses of each function, by its name, and behind that of its type, or else folder; these names by file and line, from the
+    first attribute on; types with an invariant; tests by file."""
 
     clauses: dict = field(default_factory=dict)
     places: dict = field(default_factory=dict)
@@ -22,15 +22,16 @@ class Code:
     tests: dict = field(default_factory=dict)
 
     def read(self, path):
-        text, owner, names = path.read_text(), "", []
+        text, owner, names, begun = path.read_text(), "", [], 0
         for number, line in enumerate(text.splitlines(), 1):
+            begun = 0 if not line.strip() else begun or (number if line.lstrip().startswith("#[") else 0)
             if re.match(r"(unsafe )?impl\b|(pub )?trait\b", line):
                 owner = owner_of(line)
             elif line.startswith("}"):
                 owner = ""
             elif found := FUNCTION.match(line):
                 names = [found[1], f"{owner or path.parent.name}::{found[1]}"]
-                self.places.setdefault(path, []).append((number, names))
+                self.places.setdefault(path, []).append((begun or number, names))
                 for name in names:
                     self.clauses.setdefault(name, set())
             elif found := CLAUSE.match(line):
