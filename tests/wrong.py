@@ -89,9 +89,11 @@ class EditedCopy(ProvedCopy):
         folder.mkdir()
         for edit in chosen:
             shutil.copy(edit.path, folder)
-        _, said = self.run(["rt", "must-fail", crate])
+        status, said = self.run(["rt", "must-fail", crate])
         found = {name: text for of, name, text in TRIED.findall(said) if of == crate}
-        return [(it, found.get(it.name, f"NOT TRIED: {said[-2000:]}")) for it in chosen]
+        if not found:
+            say(f"{crate}: rt ended with status {status} and tried none:\n{said[-2000:]}")
+        return [(it, found.get(it.name, "NOT TRIED")) for it in chosen]
 
 
 def told(edit, said):
