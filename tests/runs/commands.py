@@ -145,15 +145,25 @@ def helped(words, *parts):
     return Row(words, out=parts)
 
 
+def unread(words, name):
+    """A row of a run of pbcube that cannot read the file of this name, and tells no reason."""
+    return Row(words, err=f"pbcube: cannot read {name}\n", status=1)
+
+
+def unwritten(out_to, *words):
+    """Rows of runs of pbcube whose output fails: each has one line, without a reason."""
+    return [Row(it, err="pbcube: cannot write\n", status=1, out_to=out_to) for it in words]
+
+
 def closed(*words):
-    """Rows of runs that write to a pipe which nobody reads: they end in silence."""
+    """Rows of runs of the other programs that write to a pipe which nobody reads: they end in silence."""
     return [Row(it, status=1, out_to=CLOSED) for it in words]
 
 
-def unopened(name, *words):
+def unopened(name, *words, why=f": {reason(errno.EACCES)}"):
     """Rows of runs that may not open the file, where there is such a file."""
-    why = f"{name}: cannot read {UNOPENED}: {reason(errno.EACCES)}\n"
-    return [] if IS_ROOT else [Row(f"{it} {UNOPENED}".strip(), err=why, status=1) for it in words]
+    told = f"{name}: cannot read {UNOPENED}{why}\n"
+    return [] if IS_ROOT else [Row(f"{it} {UNOPENED}".strip(), err=told, status=1) for it in words]
 
 
 def hinted(words, kind, hint):
@@ -161,9 +171,9 @@ def hinted(words, kind, hint):
     return Row(words, f"c refused: {kind} at line 1\n{UNSUPPORTED}", f"pbcube: {hint}\n")
 
 
-def told_version(name):
+def told_version(name, why=f": {NO_ROOM}"):
     told = f"{name} {version()}\n"
-    return [Row("--version", told), Row("-V", told), Row("--version", err=f"{name}: cannot write: {NO_ROOM}\n", status=1, out_to=FULL)]
+    return [Row("--version", told), Row("-V", told), Row("--version", err=f"{name}: cannot write{why}\n", status=1, out_to=FULL)]
 
 
 UNSUPPORTED = "s UNSUPPORTED\n"
@@ -211,19 +221,19 @@ PBCUBE = [
         "pbcube: tie.opb begins as OPB: --format opb reads it\n",
     ),
     # files that are not there or cannot be read: both are opened before one is read, and the input is first in each
-    Row("none.opb", err=f"pbcube: cannot read none.opb: {MISSING}\n", status=1),
-    Row("broken.opb", err=f"pbcube: cannot read broken.opb: {FOLDER}\n", status=1),
-    Row("--cubes none.cubes tie.opb", err=f"pbcube: cannot read none.cubes: {MISSING}\n", status=1),
-    Row("--cubes broken.cubes tie.opb", err=f"pbcube: cannot read broken.cubes: {FOLDER}\n", status=1),
-    Row("--cubes none.cubes none.opb", err=f"pbcube: cannot read none.opb: {MISSING}\n", status=1),
-    Row("--cubes none.cubes broken.opb", err=f"pbcube: cannot read none.cubes: {MISSING}\n", status=1),
-    Row("--cubes broken.cubes broken.opb", err=f"pbcube: cannot read broken.opb: {FOLDER}\n", status=1),
+    unread("none.opb", "none.opb"),
+    unread("broken.opb", "broken.opb"),
+    unread("./none.opb", "./none.opb"),
+    unread("--cubes none.cubes tie.opb", "none.cubes"),
+    unread("--cubes broken.cubes tie.opb", "broken.cubes"),
+    unread("--cubes none.cubes none.opb", "none.opb"),
+    unread("--cubes none.cubes broken.opb", "none.cubes"),
+    unread("--cubes broken.cubes broken.opb", "broken.opb"),
     Row("--cubes broken.cubes product.opb", PRODUCT.out, PRODUCT.err),
-    *unopened("pbcube", "", "--cubes none.cubes"),
+    *unopened("pbcube", "", "--cubes none.cubes", why=""),
     # outputs that fail: the standard error's is ignored
-    *closed("tie.opb", "none_feasible.opb", "product.opb", "--workers 2 --split 1 tie.opb", "--help", "--version"),
-    Row("tie.opb", err=f"pbcube: cannot write: {NO_ROOM}\n", status=1, out_to=FULL),
-    Row("--help", err=f"pbcube: cannot write: {NO_ROOM}\n", status=1, out_to=FULL),
+    *unwritten(CLOSED, "tie.opb", "none_feasible.opb", "product.opb", "--workers 2 --split 1 tie.opb", "--help", "--version"),
+    *unwritten(FULL, "tie.opb", "none_feasible.opb", "product.opb", "--help"),
     Row("none.opb", status=1, err_to=FULL),
     Row("--nothing", status=2, err_to=FULL),
     Row("tie.opb", status=1, out_to=FULL, err_to=FULL),
@@ -270,7 +280,7 @@ PBCUBE = [
         " 1  a file cannot be opened",
         " 2  the command line is refused",
     ),
-    *told_version("pbcube"),
+    *told_version("pbcube", why=""),
 ]
 
 

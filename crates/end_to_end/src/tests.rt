@@ -10,6 +10,7 @@ mod failing_outputs;
 mod fixing;
 mod gates;
 mod limits;
+mod programs;
 mod refused_memory;
 mod tasks;
 mod turns;

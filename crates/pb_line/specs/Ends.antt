@@ -3,6 +3,8 @@ use Rattle.std.specs.Prelude.{◌≡◌, ◌≢◌, ◌⊎◌, ℕ, List, []}
 use Rattle.clap.specs.Words.{App, IsAmong, Row, Text, fault_of, matches_of}
 use Rattle.clap.specs.declared.error.kind.ErrorKind.{ErrorKind}
 use Rattle.clap.specs.declared.error.kind.ErrorKind.TheVariants.{DisplayHelp, DisplayVersion, InvalidValue, OutOfMemory}
+use Rattle.pb_line.specs.declared.faults.Untold.{Untold}
+use Rattle.pb_line.specs.declared.faults.Untold.TheVariants.{Memory, Unwritten}
 
 -- the words may have a fault of this kind: memory ran out, or clap refuses the words by it, or a value is wrong, so
 -- that there is no line of the matches
@@ -14,8 +16,16 @@ MayFailBy app HasNoLine words kind =
 abbrev pub IsShown : ErrorKind → Type 0
 IsShown kind = (kind ≡ DisplayHelp) ⊎ (kind ≡ DisplayVersion)
 
--- the status where a fault of this kind was told: where a text is shown 0, or 1 if it cannot be written; and for all
--- mistakes 2
+-- the status where a fault of this kind was told: where a text is shown 0, and for all mistakes 2
+abbrev pub IsTold : ErrorKind → ℕ → Type 0
+IsTold kind status = (IsShown kind × (status ≡ 0)) ⊎ ((kind ≢ OutOfMemory) × (IsShown kind → ⊥) × (status ≡ 2))
+
+-- why a fault of this kind was not told: it is that memory ran out, or a text that is shown was not written
+abbrev pub IsUntold : ErrorKind → Untold → Type 0
+IsUntold kind Memory = kind ≡ OutOfMemory
+IsUntold kind (Unwritten reason) = IsShown kind
+
+-- the status after a fault of this kind: where a text is shown 0, or 1 if it cannot be written; and for all mistakes 2
 abbrev pub EndsTold : ErrorKind → ℕ → Type 0
 EndsTold kind status =
     (IsShown kind × ((status ≡ 0) ⊎ (status ≡ 1)))

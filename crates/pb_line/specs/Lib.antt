@@ -2,6 +2,5 @@ pub mod Dividing
 pub mod Ends
 pub mod Joining
 pub mod Options
-pub mod Solving
 pub mod Tasks
 pub mod Values

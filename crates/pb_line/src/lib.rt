@@ -7,17 +7,16 @@ mod faults;
 mod formats;
 pub mod joining;
 mod last_fault;
-mod matched;
+pub mod matched;
 mod options;
-mod parse;
+pub mod parse;
 mod program;
-pub mod solving;
 pub mod tasks;
 mod version;
 mod words;
 
 pub use failures::tell_failure;
-pub use faults::end_at_line;
+pub use faults::{Untold, end_at_line, tell_fault};
 pub use formats::format_of;
 pub use last_fault::{LastFault, Noting};
 pub use options::{

@@ -11,14 +11,14 @@ use pb_inst::Workers;
 use pb_read::Format;
 
 /// The text of this name.
-pub(crate) fn text_of<'a>(matches: &ArgMatches<'a>, name: &str) -> Option<&'a str>
+pub fn text_of<'a>(matches: &ArgMatches<'a>, name: &str) -> Option<&'a str>
     ensures { option_map (λ text. text.now) result ≡ first_of name.now (rows_of (found_of matches.now)) }
 {
     matches.get_str(name)
 }
 
 /// The format, where its text is the name of one.
-pub(crate) fn format_asked(matches: &ArgMatches<'_>) -> Option<Format>
+pub fn format_asked(matches: &ArgMatches<'_>) -> Option<Format>
     ensures some { IfSome result (λ format. first_of (codes "format") (rows_of (found_of matches.now)) ≡ Some (format_name format)) }
     ensures none { IsNone result → (format : Format) → first_of (codes "format") (rows_of (found_of matches.now)) ≢ Some (format_name format) }
 {
@@ -26,7 +26,7 @@ pub(crate) fn format_asked(matches: &ArgMatches<'_>) -> Option<Format>
 }
 
 /// The number of this name, where its text spells one of 32 bits.
-pub(crate) fn number_of(matches: &ArgMatches<'_>, name: &str) -> Option<u32>
+pub fn number_of(matches: &ArgMatches<'_>, name: &str) -> Option<u32>
     ensures some { IfSome result (λ number. IsSomeAnd (one_of name.now (rows_of (found_of matches.now))) (λ text. Spells 32 text number)) }
     ensures only { (number : ℕ) → IsSomeAnd (one_of name.now (rows_of (found_of matches.now))) (λ text. Spells 32 text number) → result ≡ Some number }
 {
@@ -42,7 +42,7 @@ pub(crate) fn count_if_given(matches: &ArgMatches<'_>, name: &str) -> Option<Opt
 }
 
 /// The number of this name, if there is one; or nothing where its text spells none of 64 bits.
-pub(crate) fn number_if_given(matches: &ArgMatches<'_>, name: &str) -> Option<Option<u64>>
+pub fn number_if_given(matches: &ArgMatches<'_>, name: &str) -> Option<Option<u64>>
     ensures some { IfSome result (SpellsIfGiven 64 (one_of name.now (rows_of (found_of matches.now)))) }
     ensures none { IsNone result → (number : Option ℕ) → SpellsIfGiven 64 (one_of name.now (rows_of (found_of matches.now))) number → ⊥ }
 {
@@ -50,7 +50,7 @@ pub(crate) fn number_if_given(matches: &ArgMatches<'_>, name: &str) -> Option<Op
 }
 
 /// So many workers, from 1 to `MAX_WORKERS`.
-pub(crate) fn workers_of(count: u32) -> Option<Workers>
+pub fn workers_of(count: u32) -> Option<Workers>
     ensures { SomeIff result ((1 ≤ count) × (count ≤ MAX_WORKERS)) count }
 {
     Workers::new(count).ok()

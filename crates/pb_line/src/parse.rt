@@ -8,7 +8,7 @@ use clap::{ArgMatches, Command, Error};
 use std::alloc::{AllocError, Global};
 
 /// What the words of one command ask for.
-pub(crate) trait CommandLine<'a> {
+pub trait CommandLine<'a> {
     /// The command.
     ghost app: { App };
 
@@ -31,7 +31,7 @@ pub(crate) trait CommandLine<'a> {
 
 /// Reads the words, the program's name first. Fails where clap refuses them, where they ask for help or the version, where the
 /// format has another name, and for want of memory, with the kind that says which.
-pub(crate) fn parse<'a, L: CommandLine<'a>>(alloc: Global, words: &'a [&'a str]) -> Result<L, Error>
+pub fn parse<'a, L: CommandLine<'a>>(alloc: Global, words: &'a [&'a str]) -> Result<L, Error>
     ensures line { IfOk result (L.has (matches_of L.app (map (λ word. word.now) words.now))) }
     ensures accepted { IfOk result (λ line. fault_of L.app (map (λ word. word.now) words.now) ≡ []) }
     ensures refused { IfErr result (λ fault. MayFailBy L.app L.has_no_line (map (λ word. word.now) words.now) (kind_of fault)) }

@@ -3,24 +3,17 @@
 
 ghost use Rattle.std.specs.Prelude.{◌≡◌, ⊤};
 
-mod diagnose;
-mod faults;
-mod files;
-mod run;
-
-use crate::files::Files;
-use crate::run::{out_of_memory, program};
-use pb_line::{LastFault, Noting, texts_of, words_of};
+use pb_line::{texts_of, words_of};
+use pb_program::{Files, out_of_memory, program};
 use pb_solve::Device;
 use std::fs::{self, File};
 use std::io::ErrorKind;
 use std::process::ExitCode;
 
-/// The files of the system. Why one cannot be opened is noted.
+/// The files of the system.
 #[derive(Drop)]
 struct SystemFiles<'a> {
     rt: &'a HostRuntime,
-    faults: &'a LastFault,
 }
 
 impl Files for SystemFiles<'_> {
@@ -32,46 +25,28 @@ impl Files for SystemFiles<'_> {
     ghost has = { λ files name text. ⊤ };
 
     fn fetch(&mut self, name: &str) -> Option<File> {
-        match fs::open(self.rt, name) {
-            Ok(file) => Some(file),
-            Err(fault) => {
-                self.faults.note(fault);
-                None
-            }
-        }
+        fs::open(self.rt, name).ok()
     }
 }
 
 /// Runs the program on the system's words, files and outputs. Words that are no text end with status 2.
 fn main(rt: HostRuntime) -> ExitCode {
-    let faults = LastFault::new();
-    let mut out = Device::new(Noting::new(rt.stdout(), &faults));
+    let mut out = Device::new(rt.stdout());
     let mut err = rt.stderr();
     let texts = match texts_of(&rt) {
         Ok(texts) => texts,
         Err(fault) => {
             return if fault.kind() == ErrorKind::OutOfMemory {
-                ExitCode::from(out_of_memory(&faults, &mut out, &mut err))
+                ExitCode::from(out_of_memory(&mut out, &mut err))
             } else {
                 ExitCode::from(2)
             };
         }
     };
-    let mut files = SystemFiles {
-        rt: &rt,
-        faults: &faults,
-    };
+    let mut files = SystemFiles { rt: &rt };
     let status = match words_of(rt.alloc(), &texts) {
-        Ok(words) => program(
-            &rt,
-            rt.alloc(),
-            &words,
-            &mut files,
-            &faults,
-            &mut out,
-            &mut err,
-        ),
-        Err(_) => out_of_memory(&faults, &mut out, &mut err),
+        Ok(words) => program(&rt, rt.alloc(), &words, &mut files, &mut out, &mut err),
+        Err(_) => out_of_memory(&mut out, &mut err),
     };
     ExitCode::from(status)
 }

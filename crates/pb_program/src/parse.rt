@@ -2,13 +2,14 @@
 ghost use Rattle.std.specs.Prelude.{◌≡◌, map, IfErr, IfOk, IfSome, IsNone, []};
 ghost use Rattle.clap.specs.Words.{fault_of, found_of, kind_of, matches_of, rows_of};
 ghost use Rattle.pb_line.specs.Ends.{MayFailBy};
-ghost use Rattle.pb_line.specs.Solving.{HasNoLine, IsLineOf, pbcube};
+ghost use Rattle.pb_program.specs.Line.{HasNoLine, IsLineOf, pbcube};
 
-use crate::matched::{format_asked, number_if_given, number_of, text_of, workers_of};
-use crate::parse::{CommandLine, parse};
-use crate::solving::args::Line;
-use crate::solving::command::command;
+use crate::args::Line;
+use crate::command::command;
 use clap::{ArgMatches, Command, Error};
+use pb_line::matched::{format_asked, number_if_given, number_of, text_of, workers_of};
+use pb_line::parse::{CommandLine, parse};
+use pb_solve::Options;
 use std::alloc::{AllocError, Global};
 
 /// Reads the words, the program's name first. Fails where clap refuses them, where they ask for help or the version, where the
@@ -28,7 +29,7 @@ impl<'a> CommandLine<'a> for Line<'a> {
 
     ghost has_no_line = { HasNoLine };
 
-    #[tactic(auto, using(crate::specs::Solving::pbcube_is_simple))]
+    #[tactic(auto, using(crate::specs::Line::pbcube_is_simple))]
     fn command(alloc: Global) -> Result<Command<'a>, AllocError> {
         command(alloc)
     }
@@ -45,10 +46,12 @@ fn line_of<'a>(matches: &ArgMatches<'a>) -> Option<Line<'a>>
 {
     Some(Line {
         file: text_of(matches, "file")?,
-        format: format_asked(matches)?,
         cubes: text_of(matches, "cubes"),
-        workers: workers_of(number_of(matches, "workers")?)?,
-        split: number_of(matches, "split")?,
-        nodes: number_if_given(matches, "nodes")?,
+        options: Options {
+            format: format_asked(matches)?,
+            workers: workers_of(number_of(matches, "workers")?)?,
+            split: number_of(matches, "split")?,
+            nodes: number_if_given(matches, "nodes")?,
+        },
     })
 }

@@ -1,16 +1,16 @@
 //! The one command.
 ghost use Rattle.std.specs.Prelude.{◌≡◌, IfOk};
 ghost use Rattle.clap.specs.Words.{app_of};
-ghost use Rattle.pb_line.specs.Solving.{pbcube};
+ghost use Rattle.pb_program.specs.Line.{pbcube};
 
-use crate::options::{
-    cubes_option, file_operand, format_option, named, nodes_option, split_option, workers_option,
-};
-use crate::solving::help::{
+use crate::help::{
     ABOUT, CUBES_HELP, EXAMPLES_AND_STATUSES, FILE_HELP, FORMAT_HELP, LONG_ABOUT, NODES_HELP,
     SPLIT_HELP, WORKERS_HELP,
 };
 use clap::Command;
+use pb_line::{
+    cubes_option, file_operand, format_option, named, nodes_option, split_option, workers_option,
+};
 use std::alloc::{AllocError, Global};
 
 /// `pbcube [--format FORMAT] [--workers W] [--split K] [--cubes FILE] [--nodes B] FILE`

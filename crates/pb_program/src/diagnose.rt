@@ -1,12 +1,13 @@
 //! Hints on inputs that were refused.
+use crate::files::Rewind;
 use pb_hint::{Hint, hint_on};
 use pb_read::{Format, read};
 use std::alloc::Global;
-use std::io::{Read, Seek, Write};
+use std::io::{Read, Write};
 
 /// One line to the standard error that may help with an input that was refused, if there is one. The input is read again from
 /// its start for it; one that cannot go back there, as a pipe, has no hint, and faults on the way are ignored.
-pub fn diagnose<I: Read + Seek, E: Write>(
+pub fn diagnose<I: Read + Rewind, E: Write>(
     alloc: Global,
     name: &str,
     format: Format,
@@ -19,8 +20,10 @@ pub fn diagnose<I: Read + Seek, E: Write>(
 }
 
 /// All that the input has, from its start.
-fn read_again<I: Read + Seek>(alloc: Global, input: &mut I) -> Option<Vec<u8>> {
-    input.rewind().ok()?;
+fn read_again<I: Read + Rewind>(alloc: Global, input: &mut I) -> Option<Vec<u8>> {
+    if !input.rewind_to_start() {
+        return None;
+    }
     let mut text = Vec::new(alloc);
     input.read_to_end(&mut text).ok()?;
     Some(text)

@@ -1,35 +1,35 @@
 //! The program over any files and any outputs.
 ghost use Rattle.std.specs.Prelude.{◌≡◌, ◌≢◌, false, true, map, option_map, IfNone, IfOk};
 ghost use Rattle.std.specs.Io.KnownBytes.{Appends};
-ghost use Rattle.pbcube.specs.Fetching.{FetchesFor, FetchesInOrder, HaveTexts};
+ghost use Rattle.pb_program.specs.Fetching.{FetchesFor, FetchesInOrder, HaveTexts};
 ghost use Rattle.clap.specs.Words.{kind_of};
 ghost use Rattle.pb_line.specs.Ends.{EndsBy};
 ghost use Rattle.pb_report.specs.Statuses.{IsExitStatus, exit_status};
 ghost use Rattle.pb_report.specs.Written.{memory_report};
 ghost use Rattle.pb_solve.specs.Run.{Reports, ReportsFound};
-ghost use Rattle.pbcube.specs.Ending.{Ends, EndsWithoutMemory, IsRunOn};
+ghost use Rattle.pb_program.specs.Ending.{Ends, EndsWithoutMemory, IsRunOn};
 
+use crate::args::Line;
 use crate::diagnose::diagnose;
-use crate::faults::ProgramFault;
-use crate::files::Files;
+use crate::faults::{ProgramFault, tell};
+use crate::files::{Files, Rewind};
+use crate::parse::line;
 use clap::Error;
-use pb_line::solving::{Line, line};
-use pb_line::{LastFault, Noting, end_at_line, tell_failure};
+use pb_line::{Untold, tell_fault};
 use pb_solve::{Device, Options, Ran, RunFault, Status, report_memory, run};
 use std::alloc::Global;
-use std::io::{self, Empty, Read, Seek, Write};
+use std::io::{Empty, Read, Write};
 use std::thread::Threads;
 
 /// Runs the program on its words, its own name first, and answers its exit status. The input is fetched first, and where it
 /// can be opened the cube file, if there is one. After a run the output has the report on the texts of these files, in the format
-/// and with the split of the words; without a budget no piece was cut. Where the files and the output note their faults, these tell
-/// why something failed.
+/// and with the split of the words; without a budget no piece was cut. With status 1 one line was written to the standard error,
+/// and with status 2 nothing to the output. Faults of the standard error are ignored.
 pub fn program<'a, R: Threads + Sync, F: Files, W: Write, E: Write>(
     rt: &R,
     alloc: Global,
     words: &'a [&'a str],
     files: &mut F,
-    faults: &LastFault,
     out: &mut Device<W>,
     err: &mut E,
 ) -> u8
@@ -37,25 +37,26 @@ pub fn program<'a, R: Threads + Sync, F: Files, W: Write, E: Write>(
     ensures status { IsExitStatus result }
     ensures ended { Ends F.fetches F.has files.old (W.contents out.old.held) (W.contents out.new.held) (map (λ word. word.now) words.now) result }
     ensures fetched { FetchesInOrder F.fetches (map (λ word. word.now) words.now) files.old files.new }
+    ensures refused { result ≡ 2 → out.new ≡ out.old }
 {
     let line = match line(alloc, words) {
         Ok(line) => line,
-        Err(fault) => return end_without_run(&fault, faults, out, err),
+        Err(fault) => return end_without_run(&fault, out, err),
     };
-    match run_on_files(rt, alloc, &line, files, faults, out) {
+    match run_on_files(rt, alloc, &line, files, out) {
         Ok((ran, mut input)) => end_of_run(alloc, &line, ran, &mut input, err),
-        Err(fault) => end_at_fault(fault, faults.get(), err),
+        Err(fault) => end_at_fault(fault, err),
     }
 }
 
-/// The program's end where its words found no memory.
-pub fn out_of_memory<W: Write, E: Write>(faults: &LastFault, out: &mut Device<W>, err: &mut E) -> u8
+/// The program's end where its words found no memory: with the report of that, or where the output does not take it with 1.
+pub fn out_of_memory<W: Write, E: Write>(out: &mut Device<W>, err: &mut E) -> u8
     requires { out.old.failed ≡ false }
     ensures { EndsWithoutMemory (W.contents out.old.held) (W.contents out.new.held) result }
 {
     match report_memory(out) {
         Ok(status) => status.exit_status(),
-        Err(_) => end_at_fault(ProgramFault::CannotWrite, faults.get(), err),
+        Err(_) => end_at_fault(ProgramFault::CannotWrite, err),
     }
 }
 
@@ -65,7 +66,6 @@ fn run_on_files<'a, R: Threads + Sync, F: Files, W: Write>(
     alloc: Global,
     line: &Line<'a>,
     files: &mut F,
-    faults: &LastFault,
     out: &mut Device<W>,
 ) -> Result<(Ran, F::Input), ProgramFault<'a>>
     requires { out.old.failed ≡ false }
@@ -73,44 +73,36 @@ fn run_on_files<'a, R: Threads + Sync, F: Files, W: Write>(
     ensures reported { IfOk result (λ r. IsRunOn F.fetches F.has line.now files.old (W.contents out.old.held) (W.contents out.new.held) r.0) }
 {
     let (mut input, cubes) = fetch_files(line, files)?;
-    match run_on_readers(rt, alloc, line, &mut input, cubes, faults, out) {
+    match run_on_readers(rt, alloc, line.options, &mut input, cubes, out) {
         Ok(ran) => Ok((ran, input)),
         Err(fault) => Err(fault_on(line, fault)),
     }
 }
 
-/// Runs on the input, and on the cube file, if there is one, as the line asks. Their faults are noted, and those of the output by
-/// the output itself.
+/// Runs on the input, and on the cube file, if there is one.
 fn run_on_readers<R: Threads + Sync, I: Read + Drop, W: Write>(
     rt: &R,
     alloc: Global,
-    line: &Line<'_>,
+    options: Options,
     input: &mut I,
     cubes: Option<I>,
-    faults: &LastFault,
     out: &mut Device<W>,
 ) -> Result<Ran, RunFault>
     requires { out.old.failed ≡ false }
     ensures headline { IfOk result (λ ran. ran.cut ≡ false → ran.status ≢ Status.Unknown
-        → Reports line.now.format (I.remaining input.old) (option_map (λ file. I.remaining file) cubes) line.now.split
+        → Reports options.format (I.remaining input.old) (option_map (λ file. I.remaining file) cubes) options.split
         (W.contents out.old.held) (W.contents out.new.held) ran.status) }
     ensures budgeted { IfOk result (λ ran. ran.cut ≡ true
-        → ReportsFound line.now.format (I.remaining input.old) (option_map (λ file. I.remaining file) cubes) line.now.split
+        → ReportsFound options.format (I.remaining input.old) (option_map (λ file. I.remaining file) cubes) options.split
         (W.contents out.old.held) (W.contents out.new.held) ran.status) }
-    ensures no_budget { IfNone line.now.nodes (IfOk result (λ ran. ran.cut ≡ false)) }
+    ensures no_budget { IfNone options.nodes (IfOk result (λ ran. ran.cut ≡ false)) }
     ensures memory { IfOk result (λ ran. ran.cut ≡ false → ran.status ≡ Status.Unknown
         → Appends (W.contents out.old.held) (W.contents out.new.held) memory_report) }
 {
-    let options = Options {
-        format: line.format,
-        workers: line.workers,
-        split: line.split,
-        nodes: line.nodes,
-    };
-    let mut input = Device::new(Noting::new(input, faults));
+    let mut input = Device::new(input);
     match cubes {
         Some(cubes) => {
-            let mut cubes = Device::new(Noting::new(cubes, faults));
+            let mut cubes = Device::new(cubes);
             run(rt, alloc, &mut input, Some(&mut cubes), options, out)
         }
         None => {
@@ -151,7 +143,7 @@ fn fault_on<'a>(line: &Line<'a>, fault: RunFault) -> ProgramFault<'a> {
 
 /// The end after a report. Where a text was refused, a hint goes to the standard error; neither the status nor what was written
 /// to the output depends on it.
-fn end_of_run<I: Read + Seek, E: Write>(
+fn end_of_run<I: Read + Rewind, E: Write>(
     alloc: Global,
     line: &Line<'_>,
     ran: Ran,
@@ -161,31 +153,28 @@ fn end_of_run<I: Read + Seek, E: Write>(
     ensures { result ≡ exit_status ran.status }
 {
     if ran.status == Status::Unsupported {
-        diagnose(alloc, line.file, line.format, input, err);
+        diagnose(alloc, line.file, line.options.format, input, err);
     }
     ran.status.exit_status()
 }
 
 /// The end where the words ask for no run: help, the version, a refusal, or no memory.
-fn end_without_run<W: Write, E: Write>(
-    fault: &Error,
-    faults: &LastFault,
-    out: &mut Device<W>,
-    err: &mut E,
-) -> u8
+fn end_without_run<W: Write, E: Write>(fault: &Error, out: &mut Device<W>, err: &mut E) -> u8
     requires { out.old.failed ≡ false }
-    ensures { EndsBy (EndsWithoutMemory (W.contents out.old.held) (W.contents out.new.held)) (kind_of fault.now) result }
+    ensures ended { EndsBy (EndsWithoutMemory (W.contents out.old.held) (W.contents out.new.held)) (kind_of fault.now) result }
+    ensures refused { result ≡ 2 → out.new ≡ out.old }
 {
-    match end_at_line("pbcube", fault, out, err) {
-        Some(status) => status,
-        None => out_of_memory(faults, out, err),
+    match tell_fault(fault, out, err) {
+        Ok(status) => status,
+        Err(Untold::Memory) => out_of_memory(out, err),
+        Err(Untold::Unwritten(_)) => end_at_fault(ProgramFault::CannotWrite, err),
     }
 }
 
-/// One line to the standard error with the reason, unless whoever read the output wants no more.
-fn end_at_fault<E: Write>(fault: ProgramFault<'_>, reason: Option<io::Error>, err: &mut E) -> u8
+/// One line to the standard error, whose own fault is ignored.
+fn end_at_fault<E: Write>(fault: ProgramFault<'_>, err: &mut E) -> u8
     ensures { result ≡ 1 }
 {
-    tell_failure("pbcube", fault, reason, err);
+    let _ = tell(fault, err);
     1
 }

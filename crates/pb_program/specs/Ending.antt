@@ -4,14 +4,14 @@ use Rattle.std.specs.Option.{IfNone}
 use Rattle.std.specs.Io.KnownBytes.{Appends}
 use Rattle.clap.specs.Words.{Text, matches_of}
 use Rattle.pb_line.specs.Ends.{EndsOn}
-use Rattle.pb_line.specs.declared.solving.args.Line.{Line}
+use Rattle.pb_program.specs.declared.args.Line.{Line}
 use Rattle.pb_report.specs.Written.{memory_report}
 use Rattle.pb_report.specs.Statuses.{exit_status}
 use Rattle.pb_report.specs.declared.statuses.Status.TheVariants.{Unknown}
-use Rattle.pb_line.specs.Solving.{HasNoLine, IsLineOf, pbcube}
+use Rattle.pb_program.specs.Line.{HasNoLine, IsLineOf, pbcube}
 use Rattle.pb_solve.specs.Run.{Reports, ReportsFound}
 use Rattle.pb_solve.specs.declared.options.Ran.{Ran}
-use Rattle.pbcube.specs.Fetching.{HaveTexts}
+use Rattle.pb_program.specs.Fetching.{HaveTexts}
 
 -- for want of memory it reports so and ends with 0, or with 1 if the report cannot be written
 abbrev pub EndsWithoutMemory : Option (List ℕ) → Option (List ℕ) → ℕ → Type 0
@@ -19,9 +19,9 @@ EndsWithoutMemory old new status = ((status ≡ 0) × Appends old new memory_rep
 
 -- a run on these texts, in the format and with the split of the line, ended so, and wrote its report; without a budget no piece was cut
 pub record IsRunFor (line : Line) (input : Option (List ℕ)) (cubes : Option (Option (List ℕ))) (old new : Option (List ℕ)) (ran : Ran) : Type 0 where
-  pub headline : ran.cut ≡ false → ran.status ≢ Unknown → Reports line.format input cubes line.split old new ran.status
-  pub budgeted : ran.cut ≡ true → ReportsFound line.format input cubes line.split old new ran.status
-  pub no_budget : IfNone line.nodes (ran.cut ≡ false)
+  pub headline : ran.cut ≡ false → ran.status ≢ Unknown → Reports line.options.format input cubes line.options.split old new ran.status
+  pub budgeted : ran.cut ≡ true → ReportsFound line.options.format input cubes line.options.split old new ran.status
+  pub no_budget : IfNone line.options.nodes (ran.cut ≡ false)
   pub memory : ran.cut ≡ false → ran.status ≡ Unknown → Appends old new memory_report
 
 -- a run on the files that the line names ended so

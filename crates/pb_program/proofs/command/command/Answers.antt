@@ -1,7 +1,7 @@
 use Rattle.std.proofs.Common.{ap₂, ◌∙◌}
 use Rattle.clap.specs.Words.{with_rule}
-use Rattle.pb_line.specs.Solving.{pbcube}
-use Rattle.pb_line.proofs.solving.command.command.Goals as goal
+use Rattle.pb_program.specs.Line.{pbcube}
+use Rattle.pb_program.proofs.command.command.Goals as goal
 
 pub returns : goal.returns
 unfolding pbcube

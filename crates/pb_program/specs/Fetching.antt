@@ -1,8 +1,8 @@
 -- Which files the program fetches, in which order, and what they hold.
 use Rattle.std.specs.Prelude.{◌≡◌, ◌⊎◌, ℕ, Bool, true, false, List, Option, None, Some}
 use Rattle.clap.specs.Words.{Text, matches_of}
-use Rattle.pb_line.specs.declared.solving.args.Line.{Line}
-use Rattle.pb_line.specs.Solving.{IsLineOf, pbcube}
+use Rattle.pb_program.specs.declared.args.Line.{Line}
+use Rattle.pb_program.specs.Line.{IsLineOf, pbcube}
 
 -- the cube file is fetched, where the line names one
 abbrev pub FetchesCubes : {F : Type 0} → (F → Text → Bool → F → Type 0) → Line → F → F → Type 0

@@ -1,2 +1,4 @@
 pub mod Ending
 pub mod Fetching
+pub mod Line
+pub mod Telling
