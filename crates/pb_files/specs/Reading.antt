@@ -1,5 +1,5 @@
 -- What is read, and from which files.
-use Rattle.std.specs.Prelude.{◌≡◌, ◌≢◌, ℕ, ◌-◌, List, [], ◌∷◌, ◌++◌, length, map, drop, filter, codes, nat_eq, Bool, Option, None, Some, IfSome, IsNone, IsPermutation, IsSomeAnd, Ok}
+use Rattle.std.specs.Prelude.{◌≡◌, ◌≢◌, ℕ, ◌-◌, List, [], ◌∷◌, ◌++◌, length, drop, filter, codes, nat_eq, Bool, Option, None, Some, IfSome, IsNone, IsPermutation, IsSomeAnd, Ok}
 use Rattle.std.specs.Char.{is_ascii_digit}
 use Rattle.std.specs.List.{ends_with, suffix_len}
 use Rattle.std.specs.Path.{path_file_stem}

@@ -1,17 +1,29 @@
 //! From the files to an instance and its pieces.
-ghost use Rattle.std.specs.Prelude.{◌≡◌, option_map, IfOk};
-ghost use Rattle.pb_files.specs.Dividing.{AreOfSplit, ReadsCubes, ReadsDivided};
+ghost use Rattle.std.specs.Prelude.{◌≡◌, ◌<◌, ℕ, length, option_map, IfErr, IfOk};
+ghost use Rattle.pb_inst.specs.declared.limits.TheConstants.{MAX_CUBES};
+ghost use Rattle.pb_cubes.specs.Pieces.{AreWithin};
+ghost use Rattle.pb_read.specs.declared.fault.ReadFault.{ReadFault};
+ghost use Rattle.pb_files.specs.Dividing.{AreOfSplit, AreTooManyToSplit, IfRefused, ReadsCubes, ReadsDivided, ReadsFaultyCubes, ReadsGiven, ReadsRefused};
 
 use crate::dividing_fault::DivisionFault;
 use crate::folders::Folders;
 use crate::prepared::Prepared;
 use pb_cubes::{CubeFault, Pieces, split};
 use pb_inst::{Cube, Instance};
-use pb_read::{Format, ReadFault, ReadKind, read, read_cubes};
+use pb_read::{Format, ReadKind, read, read_cubes};
 use pb_report::Refusal;
 use sha2::{Digest, Sha256};
 use std::alloc::Global;
 use std::io::ErrorKind;
+
+/// An instance, its own cubes and then those of the cube file, and the digests of the texts.
+#[derive(Drop)]
+struct Given {
+    instance: Instance,
+    cubes: Vec<Cube>,
+    digest: [u8; 32],
+    cubes_digest: Option<[u8; 32]>,
+}
 
 /// The cubes of a file, and the digest of its text, if there is a file.
 #[derive(Drop)]
@@ -21,7 +33,9 @@ struct CubeFile {
 }
 
 /// Reads the instance in this format from the file of this name, and then the cubes from theirs, where there is one. Divides the
-/// instance by its own cubes, those of the file and those of a split of so many variables, in this order.
+/// instance by its own cubes, those of the file and those of a split of so many variables, in this order. What is refused is the
+/// first of the instance, the cubes of the file, the split and the number of all cubes; the file of cubes is not read where the
+/// instance is refused.
 pub fn prepare<'a, F: Folders>(
     alloc: Global,
     folders: &mut F,
@@ -32,6 +46,36 @@ pub fn prepare<'a, F: Folders>(
 ) -> Result<Prepared, DivisionFault<'a>>
     ensures same_variables { IfOk result (λ prepared. prepared.pieces.vars ≡ prepared.instance.vars) }
     ensures divided { IfOk result (λ prepared. ReadsDivided F.reads format file.now (option_map (λ name. name.now) cubes.entry) split prepared.instance prepared.pieces.cubes prepared.digest prepared.cubes_digest folders.old folders.new) }
+    ensures refused { IfErr result (λ fault. IfRefused fault (ReadsRefused F.reads format file.now (option_map (λ name. name.now) cubes.entry) split folders.old folders.new)) }
+{
+    let Given {
+        instance,
+        cubes: mut all,
+        digest,
+        cubes_digest,
+    } = read_given(alloc, folders, format, file, cubes)?;
+    let mut of_split = cubes_of_split(alloc, file, &instance, split)?;
+    all.append(&mut of_split)?;
+    let pieces = pieces_of(file, instance.vars(), all)?;
+    Ok(Prepared {
+        instance,
+        pieces,
+        digest,
+        cubes_digest,
+    })
+}
+
+/// Reads the instance and its own cubes, and then the cubes of their file, where there is one.
+fn read_given<'a, F: Folders>(
+    alloc: Global,
+    folders: &mut F,
+    format: Format,
+    file: &'a str,
+    cubes: Option<&'a str>,
+) -> Result<Given, DivisionFault<'a>>
+    ensures given { IfOk result (λ given. ReadsGiven F.reads format file.now (option_map (λ name. name.now) cubes.entry) given.instance given.cubes.items given.digest given.cubes_digest folders.old folders.new) }
+    ensures within { IfOk result (λ given. AreWithin given.instance.vars given.cubes.items) }
+    ensures refused { (split : ℕ) → IfErr result (λ fault. IfRefused fault (ReadsRefused F.reads format file.now (option_map (λ name. name.now) cubes.entry) split folders.old folders.new)) }
 {
     let text = read_file(folders, file)?;
     let (instance, mut all) = match read(alloc, format, &text) {
@@ -44,12 +88,9 @@ pub fn prepare<'a, F: Folders>(
         digest: cubes_digest,
     } = cubes_of_file(alloc, folders, cubes, instance.vars())?;
     all.append(&mut of_file)?;
-    let mut of_split = cubes_of_split(alloc, file, &instance, split)?;
-    all.append(&mut of_split)?;
-    let pieces = pieces_of(file, instance.vars(), all)?;
-    Ok(Prepared {
+    Ok(Given {
         instance,
-        pieces,
+        cubes: all,
         digest: Sha256::digest(text.as_slice()),
         cubes_digest,
     })
@@ -57,7 +98,8 @@ pub fn prepare<'a, F: Folders>(
 
 /// All bytes of the file of this name.
 fn read_file<'a, F: Folders>(folders: &mut F, name: &'a str) -> Result<Vec<u8>, DivisionFault<'a>>
-    ensures { IfOk result (λ text. F.reads folders.old name.now text.items folders.new) }
+    ensures read { IfOk result (λ text. F.reads folders.old name.now text.items folders.new) }
+    ensures unrefused { IfErr result (λ fault. IfRefused fault (λ refusal. ⊥)) }
 {
     match folders.read(name) {
         Ok(text) => Ok(text),
@@ -73,7 +115,9 @@ fn cubes_of_file<'a, F: Folders>(
     name: Option<&'a str>,
     vars: u32,
 ) -> Result<CubeFile, DivisionFault<'a>>
-    ensures { IfOk result (λ found. ReadsCubes F.reads (option_map (λ name. name.now) name.entry) vars found.cubes.items found.digest folders.old folders.new) }
+    ensures read { IfOk result (λ found. ReadsCubes F.reads (option_map (λ name. name.now) name.entry) vars found.cubes.items found.digest folders.old folders.new) }
+    ensures within { IfOk result (λ found. AreWithin vars found.cubes.items) }
+    ensures refused { IfErr result (λ fault. IfRefused fault (λ refusal. (kind : ReadFault) × (refusal ≡ Refusal.Cubes kind) × ReadsFaultyCubes F.reads (option_map (λ name. name.now) name.entry) vars kind folders.old folders.new)) }
 {
     let Some(name) = name else {
         return Ok(CubeFile {
@@ -87,16 +131,8 @@ fn cubes_of_file<'a, F: Folders>(
             cubes,
             digest: Some(Sha256::digest(text.as_slice())),
         }),
-        Err(fault) => Err(refused_cubes(name, fault)),
-    }
-}
-
-/// Why the cubes of the file of this name were not taken.
-fn refused_cubes<'a>(name: &'a str, fault: ReadFault) -> DivisionFault<'a> {
-    if fault.kind == ReadKind::Memory {
-        DivisionFault::Memory
-    } else {
-        DivisionFault::Refused(name, Refusal::Cubes(fault))
+        Err(fault) if fault.kind == ReadKind::Memory => Err(DivisionFault::Memory),
+        Err(fault) => Err(DivisionFault::Refused(name, Refusal::Cubes(fault))),
     }
 }
 
@@ -107,7 +143,10 @@ fn cubes_of_split<'a>(
     instance: &Instance,
     variables: u32,
 ) -> Result<Vec<Cube>, DivisionFault<'a>>
-    ensures { IfOk result (λ cubes. AreOfSplit instance.now variables cubes.items) }
+    ensures cubes { IfOk result (λ cubes. AreOfSplit instance.now variables cubes.items) }
+    ensures within { IfOk result (λ cubes. AreWithin instance.now.vars cubes.items) }
+    ensures accepted { IfOk result (λ cubes. ¬ AreTooManyToSplit variables instance.now) }
+    ensures refused { IfErr result (λ fault. IfRefused fault (λ refusal. (refusal ≡ Refusal.Split) × AreTooManyToSplit variables instance.now)) }
 {
     if variables == 0 {
         return Ok(Vec::new(alloc));
@@ -121,7 +160,9 @@ fn cubes_of_split<'a>(
 
 /// The pieces of these cubes. Their variables are within range already, so there can only be too many of them.
 fn pieces_of<'a>(file: &'a str, vars: u32, cubes: Vec<Cube>) -> Result<Pieces, DivisionFault<'a>>
-    ensures { IfOk result (λ pieces. pieces ≡ record { vars = vars; cubes = cubes.items }) }
+    requires { AreWithin vars cubes.items }
+    ensures pieces { IfOk result (λ pieces. pieces ≡ record { vars = vars; cubes = cubes.items }) }
+    ensures refused { IfErr result (λ fault. IfRefused fault (λ refusal. (refusal ≡ Refusal.TooManyCubes) × (MAX_CUBES < length cubes.items))) }
 {
     match Pieces::new(vars, cubes) {
         Ok(pieces) => Ok(pieces),

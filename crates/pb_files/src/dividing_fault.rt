@@ -1,5 +1,6 @@
 //! Why an instance was not divided.
 ghost use Rattle.std.specs.Prelude.{◌≡◌};
+ghost use Rattle.pb_files.specs.declared.dividing_fault.DivisionFault.TheVariants.{Memory};
 
 use crate::pieces_fault::PiecesFault;
 use pb_report::Refusal;
@@ -19,6 +20,8 @@ pub enum DivisionFault<'a> {
 }
 
 impl From<AllocError> for DivisionFault<'_> {
+    ghost from_gives = { λ _ fault. fault ≡ Memory };
+
     fn from(_: AllocError) -> Self {
         DivisionFault::Memory
     }

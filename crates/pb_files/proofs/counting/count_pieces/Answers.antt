@@ -1,4 +1,4 @@
-use Rattle.std.proofs.Common.{◌+◌, List, [], ◌∷◌, ◌++◌, Some, ap, arith, map, string_bytes, subst, sym, take, ◌∙◌}
+use Rattle.std.proofs.Common.{List, [], ◌∷◌, ◌++◌, Some, ap, arith, map, string_bytes, subst, sym, take, ◌∙◌}
 use Rattle.std.proofs.lemmas.List.{map_more}
 use Rattle.pb_files.specs.Texts.{Text}
 use Rattle.pb_files.proofs.Known.{IsKnown, known_more}

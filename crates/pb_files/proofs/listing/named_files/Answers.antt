@@ -1,4 +1,4 @@
-use Rattle.std.proofs.Common.{◌≡◌, ℕ, ◌+◌, Bor, List, [], ◌∷◌, ◌++◌, Option, ap, append_assoc, append-nil, get_or, map, refl, string_bytes, subst, sym, take, ◌∙◌}
+use Rattle.std.proofs.Common.{ℕ, ◌+◌, Bor, List, [], ◌∷◌, ◌++◌, Option, ap, append_assoc, append-nil, get_or, map, refl, string_bytes, subst, sym, take, ◌∙◌}
 use Rattle.std.proofs.lemmas.List.{map-append, map_more}
 use Rattle.pb_files.specs.Texts.{Text}
 use Rattle.pb_files.specs.Reading.{AreNamedBy, ListsFiles}
