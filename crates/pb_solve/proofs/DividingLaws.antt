@@ -1,11 +1,11 @@
 -- The cubes of the texts are of the instance's variables, so that they make pieces.
-use Rattle.std.proofs.Common.{◌≡◌, ◌∙◌, ◌+◌, ◌++◌, length, flat_map, inl, inr, ◌⊎◌, ◌↔◌, ℕ, ◌≤◌, ◌<◌, List, [], ◌∷◌, Result, Ok, Err, All, min, subst, sym, ap, arith}
+use Rattle.std.proofs.Common.{◌≡◌, ◌∙◌, ◌+◌, ◌++◌, length, flat_map, inl, inr, ◌⊎◌, ◌↔◌, ℕ, ◌≤◌, ◌<◌, List, Result, Ok, Err, All, min, subst, sym, ap, arith}
 use Rattle.std.specs.Prelude.{IfErr, IsErrOf}
 use Rattle.std.proofs.lemmas.List.{length-append}
-use Rattle.std.proofs.lemmas.List.Elements.{All-nil, All-cons, All-append}
+use Rattle.std.proofs.lemmas.List.Elements.{All-append}
 use Rattle.pb_inst.specs.Literal.{Literal}
-use Rattle.pb_read.specs.Clauses.{VarsUpTo}
-use Rattle.pb_read.proofs.Limits.{all_front, all_back, all_map, all_of}
+use Rattle.pb_read.proofs.FormatLaws.{within_up_to}
+use Rattle.pb_read.proofs.Limits.{all_map}
 use Rattle.pb_inst.specs.declared.limits.TheConstants.{MAX_CUBES}
 use Rattle.pb_cubes.specs.declared.faults.CubeFault.{CubeFault}
 use Rattle.pb_cubes.specs.declared.faults.CubeFault.TheVariants.{TooMany, BadVariable, Memory}
@@ -14,13 +14,6 @@ use Rattle.pb_solve.specs.Texts.{SpellsCubes}
 
 abbrev IsUpTo : ℕ → Literal → Type 0
 IsUpTo n l = l.var ≤ n
-
-within_up_to : (n : ℕ) (cubes : List (List Literal)) → VarsUpTo n cubes → AreWithin n cubes
-within_up_to n [] h = All-nil (λ (cube : List Literal). All (IsUpTo n) cube)
-within_up_to n (cube ∷ cubes) h =
-    All-cons (λ (cube : List Literal). All (IsUpTo n) cube) cube cubes
-    (all_of (IsUpTo n) cube (all_front (IsUpTo n) cube (flat_map (λ c. c) cubes) h))
-    (within_up_to n cubes (all_back (IsUpTo n) cube (flat_map (λ c. c) cubes) h))
 
 -- the cubes of a cube file are of the variables that it was read for
 pub file_within : (vars : ℕ) (text : List ℕ) (cubes : List (List Literal)) → SpellsCubes vars text cubes → AreWithin vars cubes

@@ -127,21 +127,23 @@ pub nothing_found : {E : Type 0} (r : Result Status E) (format : Format) (p : Pr
 nothing_found (Ok status) format p held old new none is written = held_reported format p held Nothing old new status (ap (found_of p) none) is written tt
 nothing_found (Err e) format p held old new none is written = tt
 
--- what is held was found by the parts whose answer it is
-pub found_by_parts : {E : Type 0} (r : Result Status E) (format : Format) (p : Problem) (pieces : CubeList) (held : Option Solution) (some_cut : Bool) (old new : Option (List ℕ)) → some_cut ≡ true → (parts : List PartView) × IsAnswerOf p pieces parts held some_cut → IfOk r (AnswersHeld format p held old new) → IfOk r (AnswersFound format p pieces old new)
-found_by_parts (Ok status) format p pieces held some_cut old new cut answer h = record {
+-- what a run reports that was cut is what its answer holds, and so what the parts behind that found
+found_by_parts : (ran : Ran) (format : Format) (p : Problem) (pieces : CubeList) (held : Option Solution) (some_cut : Bool) (old new : Option (List ℕ)) → (parts : List PartView) × IsAnswerOf p pieces parts held some_cut → (some_cut ≡ false → ran.cut ≡ false) → (some_cut ≡ true → (ran.cut ≡ true) × AnswersHeld format p held old new ran.status) → ran.cut ≡ true → AnswersFound format p pieces old new ran.status
+found_by_parts ran format p pieces held false old new answer uncut h cut = absurd (false≢true (sym (uncut refl) ∙ cut))
+found_by_parts ran format p pieces held true old new answer uncut h cut = record {
   found = found_of p held;
-  ends = h.ends;
-  writes = h.writes;
-  right = (answer.0, held, subst (IsAnswerOf p pieces answer.0 held) cut answer.1, refl, h.right);
+  ends = (h refl).1.ends;
+  writes = (h refl).1.writes;
+  right = (answer.0, held, answer.1, refl, (h refl).1.right);
 }
-found_by_parts (Err e) format p pieces held some_cut old new cut answer h = tt
 
--- the same answer, whatever is told of the budget
-pub answered_by_parts : {E : Type 0} (r : Result Answer E) (p : Problem) (pieces : CubeList) (nodes : Option ℕ) → IfOk r (λ answer. (parts : List PartView) × IsAnswerOf p pieces parts answer.best.held answer.cut × IfSome nodes (λ budget. All (KeepsBudget budget) parts))
-    → IfOk r (λ answer. (parts : List PartView) × IsAnswerOf p pieces parts answer.best.held answer.cut)
-answered_by_parts (Ok answer) p pieces nodes h = (h.0, h.1)
-answered_by_parts (Err e) p pieces nodes h = tt
+pub found_by_answer : {E F : Type 0} (answered : Result Answer E) (r : Result Ran F) (format : Format) (p : Problem) (pieces : CubeList) (nodes : Option ℕ) (old new : Option (List ℕ)) → IfOk answered (λ answer. (parts : List PartView) × IsAnswerOf p pieces parts answer.best.held answer.cut × IfSome nodes (λ budget. All (KeepsBudget budget) parts))
+    → (IfOk answered (λ answer. answer.cut ≡ false) → IfOk r (λ ran. ran.cut ≡ false))
+    → IfOk answered (λ answer. answer.cut ≡ true → IfOk r (λ ran. (ran.cut ≡ true) × AnswersHeld format p answer.best.held old new ran.status))
+    → IfOk r (λ ran. ran.cut ≡ true → AnswersFound format p pieces old new ran.status)
+found_by_answer (Ok answer) (Ok ran) format p pieces nodes old new parts uncut h = found_by_parts ran format p pieces answer.best.held answer.cut old new (parts.0, parts.1) uncut h
+found_by_answer (Err e) (Ok ran) format p pieces nodes old new parts uncut h = λ cut. absurd (false≢true (sym (uncut tt) ∙ cut))
+found_by_answer answered (Err e) format p pieces nodes old new parts uncut h = tt
 
 pub found_reported : (format : Format) (prepared : Prepared) (input : Option (List ℕ)) (cubes : Option (Option (List ℕ))) (split : ℕ) (old new : Option (List ℕ)) (status : Status) → WhereTold input cubes (λ text cube_text. IsAccepted format text cube_text split prepared) → AnswersFound format prepared.instance prepared.pieces old new status → ReportsFound format input cubes split old new status
 found_reported format prepared input cubes split old new status told h = record {

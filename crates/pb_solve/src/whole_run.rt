@@ -5,9 +5,7 @@ ghost use Rattle.pb_read.specs.declared.fault.ReadFault.{ReadFault};
 ghost use Rattle.pb_solve.specs.Solving.{HoldsLeast};
 ghost use Rattle.pb_report.specs.Written.{memory_report};
 ghost use Rattle.pb_read.specs.Format.{text_refusal};
-ghost use Rattle.pb_cubes.specs.Pieces.{CubeList};
-ghost use Rattle.pb_workers.specs.Parts.{IsAnswerOf, PartView};
-ghost use Rattle.pb_solve.specs.Run.{Reports, ReportsFound, Answers, AnswersFound, AnswersHeld, IsPrepared, IsUnfailed, IsUnread, ReportsRefusal, StopsAtFault, failed_after, text_left};
+ghost use Rattle.pb_solve.specs.Run.{Reports, ReportsFound, Answers, AnswersHeld, IsPrepared, IsUnfailed, IsUnread, ReportsRefusal, StopsAtFault, failed_after, text_left};
 
 use crate::options::{Options, Ran};
 use crate::prepare::reading::NoCubeFile;
@@ -148,7 +146,8 @@ fn report_prepare_error<W: Write>(out: &mut Device<W>, error: PrepareError) -> R
     }
 }
 
-/// Reports the answer on the instance, or where a piece was cut the best that was found, or that memory was refused.
+/// Reports the answer on the instance, or where a piece was cut what the answer holds as the best that was found, or that memory
+/// was refused.
 fn report_answered<W: Write>(
     out: &mut Device<W>,
     format: Format,
@@ -160,9 +159,8 @@ fn report_answered<W: Write>(
     requires least { IfOk answered (λ answer. answer.cut ≡ false → HoldsLeast instance.now answer.best.held) }
     ensures answers { IfOk result (λ ran. ran.cut ≡ false → ran.status ≢ Status.Unknown
         → Answers format instance.now (W.contents out.old.held) (W.contents out.new.held) ran.status) }
-    ensures budgeted { (pieces : CubeList) → IfOk answered.entry (λ answer. (parts : List PartView) × IsAnswerOf instance.now pieces parts answer.best.held answer.cut)
-        → IfOk result (λ ran. ran.cut ≡ true
-        → AnswersFound format instance.now pieces (W.contents out.old.held) (W.contents out.new.held) ran.status) }
+    ensures budgeted { IfOk answered.entry (λ answer. answer.cut ≡ true → IfOk result (λ ran. (ran.cut ≡ true)
+        × AnswersHeld format instance.now answer.best.held (W.contents out.old.held) (W.contents out.new.held) ran.status)) }
     ensures uncut { IfOk answered.entry (λ answer. answer.cut ≡ false) → IfOk result (λ ran. ran.cut ≡ false) }
     ensures known { IfOk answered.entry (λ answer. answer.cut ≡ false → IfOk result (λ ran. ran.status ≢ Status.Unknown)) }
     ensures memory { IfOk result (λ ran. ran.cut ≡ false → ran.status ≡ Status.Unknown → Appends (W.contents out.old.held) (W.contents out.new.held) memory_report) }

@@ -5,7 +5,7 @@ use Rattle.pb_report.specs.declared.ends.RunFault.TheVariants as fault
 use Rattle.pb_report.specs.declared.statuses.Status.TheVariants.{Unknown}
 use Rattle.pb_solve.specs.declared.options.Ran.{Ran}
 use Rattle.pb_solve.specs.Run.{IsPrepared, ReportsRefusal, StopsAtFault, stops_at_cubes}
-use Rattle.pb_solve.proofs.OutcomeLaws.{answered_by_parts, answers_report, both_told, cubes_read, cubes_unread, found_report_of, where_none}
+use Rattle.pb_solve.proofs.OutcomeLaws.{found_by_answer, answers_report, both_told, cubes_read, cubes_unread, found_report_of, where_none}
 use Rattle.pb_solve.proofs.TextLaws.{where_refused}
 use Rattle.pb_solve.proofs.whole_run.run.Goals as goal
 use Rattle.pb_solve.proofs.whole_run.run.Goals.{in-None, in-Some}
@@ -18,7 +18,7 @@ returns-in-Ok-clause-headline g c = elim c.match-cubes.branch [
 
 pub returns-in-Ok-clause-budgeted : goal.returns-in-Ok-clause-budgeted
 returns-in-Ok-clause-budgeted g c =
-    let by_parts = c.report_answered.ensures.budgeted c.in-Ok.found.pieces (answered_by_parts _ c.in-Ok.found.instance c.in-Ok.found.pieces c.args.options.nodes c.solve-answered.ensures.parts) in
+    let by_parts = found_by_answer _ _ c.args.options.format c.in-Ok.found.instance c.in-Ok.found.pieces c.args.options.nodes _ _ c.solve-answered.ensures.parts c.report_answered.ensures.uncut c.report_answered.ensures.budgeted in
     elim c.match-cubes.branch [
       | in-None w ↦ rw w.in-None.is (found_report_of _ _ c.in-Ok.found _ None _ _ _ (subst (IsPrepared c.args.options.format (g.I.Read.remaining c.args.input.now.held) None c.args.options.split) (sym w.found-is ∙ c.in-Ok.is) w.prepare-found.ensures.prepared) by_parts)
       | in-Some w ↦ rw w.in-Some.is (found_report_of _ _ c.in-Ok.found _ (Some (g.C.Read.remaining w.in-Some.cubes.now.held)) _ _ _ (subst (IsPrepared c.args.options.format (g.I.Read.remaining c.args.input.now.held) (Some (g.C.Read.remaining w.in-Some.cubes.now.held)) c.args.options.split) (sym w.found-is ∙ c.in-Ok.is) w.prepare-found-in-Some.ensures.prepared) by_parts)
