@@ -117,7 +117,7 @@ fn cubes_of_file<'a, F: Folders>(
 ) -> Result<CubeFile, DivisionFault<'a>>
     ensures read { IfOk result (λ found. ReadsCubes F.reads (option_map (λ name. name.now) name.entry) vars found.cubes.items found.digest folders.old folders.new) }
     ensures within { IfOk result (λ found. AreWithin vars found.cubes.items) }
-    ensures refused { IfErr result (λ fault. IfRefused fault (λ refusal. (kind : ReadFault) × (refusal ≡ Refusal.Cubes kind) × ReadsFaultyCubes F.reads (option_map (λ name. name.now) name.entry) vars kind folders.old folders.new)) }
+    ensures refused { IfErr result (λ fault. IfRefused fault (λ refusal. (of_file : ReadFault) × (refusal ≡ Refusal.Cubes of_file) × ReadsFaultyCubes F.reads (option_map (λ name. name.now) name.entry) vars of_file folders.old folders.new)) }
 {
     let Some(name) = name else {
         return Ok(CubeFile {
