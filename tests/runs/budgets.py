@@ -7,19 +7,24 @@ assignments.
 Without a word it takes the programs that the merge gate built. Each instance is run without a budget, with each budget from 0
 to 20, and with some of them in pieces and with two workers. The numbers of some are too great for 64 bits. `s OPTIMUM FOUND` and
 `s UNSATISFIABLE` must be the whole answer; with `s SATISFIABLE` the values must be feasible and the `o` line their cost; `s UNKNOWN`
-stands alone. With one worker a greater budget never does worse, and once it is enough it stays so.
+stands alone. With one worker a greater budget never does worse, and once it is enough it stays so. Where some assignments are pieces
+of their own, a run that makes no decision tells the first of these, or the whole answer where the other piece needs no decision.
 """
+import random
 import sys
 import tempfile
 from concurrent.futures import ThreadPoolExecutor
+from itertools import product
 from pathlib import Path
 
 sys.dont_write_bytecode = True
 sys.path.insert(0, str(Path(__file__).resolve().parents[1]))
 from lib import PROCESSORS, STATUSES, built, ran
 from lib.draws import instances
+from lib.reports import values_line
 
 INSTANCES = 300
+GIVEN = 3  # assignments that are pieces of their own
 BUDGETS = range(21)
 AMPLE = 1000  # more than any of these instances needs
 UNKNOWN = "s UNKNOWN\n"
@@ -64,6 +69,21 @@ def rank(instance, whole, report):
     return (1, told[1] if told else 0)
 
 
+def given(instance, number):
+    """Some feasible assignments of the instance, the same ones in each run, and the report of the first of them."""
+    feasible = [values for values in product((False, True), repeat=instance.variables) if instance.is_feasible(values)]
+    some = random.Random(number).sample(feasible, min(GIVEN, len(feasible)))
+    if not some:
+        return some, UNKNOWN
+    first = min(some, key=lambda values: (instance.cost(values), values))
+    cost = "" if instance.objective is None else f"o {instance.cost(first)}\n"
+    return some, f"{cost}s SATISFIABLE\n{values_line(first, instance.is_cnf)}"
+
+
+def cube_line(values):
+    return " ".join(["a", *(f"{variable if value else -variable}" for variable, value in enumerate(values, 1)), "0\n"])
+
+
 def judged(program, folder, number, instance):
     """How many runs there were on the instance, and what was wrong with them."""
     file = folder / f"{Path(program).name}_{number}.{instance.format}"
@@ -86,7 +106,14 @@ def judged(program, folder, number, instance):
             ranks.append(rank(instance, whole, ended.out))
     if ranks != sorted(ranks, reverse=True):
         wrong.append(("budgets in turn", "a greater one does worse"))
-    return len(divisions) + 1, [f"{what}: {why}\n{instance.text()}" for what, why in wrong]
+    some, first = given(instance, number)
+    cubes = file.with_suffix(".cubes")
+    cubes.write_text("".join(map(cube_line, some)))
+    for workers in (1, 2):
+        words = ["--nodes", "0", "--workers", str(workers), "--cubes", cubes]
+        if run(*words).out not in (first, whole):
+            wrong.append((f"{workers} workers and no decision", "it is not the first of what was found"))
+    return len(divisions) + 3, [f"{what}: {why}\n{instance.text()}" for what, why in wrong]
 
 
 def main(programs):
