@@ -5,8 +5,10 @@ use Rattle.std.specs.Io.KnownBytes.{Appends}
 use Rattle.pb_inst.specs.Incumbent.{Solution}
 use Rattle.pb_inst.specs.Literal.{Literal}
 use Rattle.pb_inst.specs.Problem.{Problem}
-use Rattle.pb_files.specs.Dividing.{ReadsDivided}
+use Rattle.pb_files.specs.Dividing.{ReadsDivided, ReadsRefused}
 use Rattle.pb_files.specs.Texts.{Text}
+use Rattle.pb_files.specs.declared.dividing_fault.DivisionFault.{DivisionFault}
+use Rattle.pb_files.specs.declared.dividing_fault.DivisionFault.TheVariants.{CannotRead, Refused, Memory}
 use Rattle.pb_line.specs.declared.tasks.args.Line.{Line}
 use Rattle.pb_parts.specs.Heading.{part_heading}
 use Rattle.pb_report.specs.Written.{memory_report, refusal_report}
@@ -37,9 +39,8 @@ pub record ReportsTask {F : Type 0} (reads : F → Text → List ℕ → F → T
   pub reading : ReadsDivided reads line.format line.file.now (option_map (λ name. name.now) line.cubes) line.split problem cubes digest cubes_digest old new
   pub part : ReportsPart line problem cubes digest cubes_digest before after ended
 
--- all that is written is that the input, the cubes or the split are refused
-pub record ReportsRefusal (before after : Option (List ℕ)) (ended : Status) : Type 0 where
-  pub refusal : Refusal
+-- all that is written is that this is refused
+pub record WritesRefusal (refusal : Refusal) (before after : Option (List ℕ)) (ended : Status) : Type 0 where
   pub ends : ended ≡ Unsupported
   pub writes : Appends before after (refusal_report refusal)
 
@@ -48,10 +49,19 @@ pub record ReportsNoMemory (before after : Option (List ℕ)) (ended : Status) :
   pub ends : ended ≡ Unknown
   pub writes : Appends before after memory_report
 
--- why nothing was searched is reported
-abbrev pub ReportsNoSearch : Option (List ℕ) → Option (List ℕ) → Status → Type 0
-ReportsNoSearch before after ended = ReportsRefusal before after ended ⊎ ReportsNoMemory before after ended
+-- why an instance was not divided is reported, unless a file could not be read
+abbrev pub ReportsFault : DivisionFault → Option (List ℕ) → Option (List ℕ) → Status → Type 0
+ReportsFault (CannotRead name reason) before after ended = ⊥
+ReportsFault (Refused name refusal) before after ended = WritesRefusal refusal before after ended
+ReportsFault Memory before after ended = ReportsNoMemory before after ended
 
--- the answer of the line's task is reported, or why there is none
+-- the files of the line are read, and what is refused of them is reported
+pub record ReportsRefusal {F : Type 0} (reads : F → Text → List ℕ → F → Type 0) (line : Line) (old new : F) (before after : Option (List ℕ)) (ended : Status) : Type 0 where
+  pub refusal : Refusal
+  pub reading : ReadsRefused reads line.format line.file.now (option_map (λ name. name.now) line.cubes) line.split old new refusal
+  pub report : WritesRefusal refusal before after ended
+
+-- the answer of the line's task is reported, or what is refused, or that memory ran out
 abbrev pub Reports : {F : Type 0} → (F → Text → List ℕ → F → Type 0) → Line → F → F → Option (List ℕ) → Option (List ℕ) → Status → Type 0
-Reports reads line old new before after ended = ReportsTask reads line old new before after ended ⊎ ReportsNoSearch before after ended
+Reports reads line old new before after ended =
+    ReportsTask reads line old new before after ended ⊎ (ReportsRefusal reads line old new before after ended ⊎ ReportsNoMemory before after ended)

@@ -4,7 +4,7 @@ ghost use Rattle.clap.specs.Words.{kind_of};
 ghost use Rattle.pb_line.specs.Ends.{EndsBy};
 ghost use Rattle.pb_report.specs.Statuses.{IsExitStatus};
 ghost use Rattle.pbcube_task.specs.Ending.{Ends, EndsWithoutMemory};
-ghost use Rattle.pbcube_task.specs.Reporting.{Reports, ReportsNoSearch};
+ghost use Rattle.pbcube_task.specs.Reporting.{Reports, ReportsFault};
 
 use crate::faults::ProgramFault;
 use crate::places::Places;
@@ -114,7 +114,7 @@ fn report_undivided<'a, W: Write>(
     fault: DivisionFault<'a>,
 ) -> Result<Status, ProgramFault<'a>>
     requires { out.old.failed ≡ false }
-    ensures { IfOk result (ReportsNoSearch (W.contents out.old.held) (W.contents out.new.held)) }
+    ensures { IfOk result (ReportsFault fault.entry (W.contents out.old.held) (W.contents out.new.held)) }
 {
     match fault {
         DivisionFault::CannotRead(name, reason) => Err(ProgramFault::CannotRead(name, reason)),
