@@ -10,6 +10,7 @@ import bz2
 import errno
 import lzma
 import os
+import shlex
 import stat
 import sys
 import tempfile
@@ -19,6 +20,8 @@ from pathlib import Path
 sys.dont_write_bytecode = True
 sys.path.insert(0, str(Path(__file__).resolve().parents[1]))
 from lib import PROGRAMS, built, name_of, ran, reason, side_by_side, version
+from lib.formats import Refused, read
+from lib.hinted_texts import BEGUN, IS_MARKED, IS_WCNF, NO_PRODUCT, NO_SOFT, PLACED, TO_MOST
 from lib.reports import TIE, digest, index_of, part, run_again
 
 FULL = "/dev/full"  # takes no byte
@@ -27,6 +30,8 @@ MISSING = reason(errno.ENOENT)
 FOLDER = reason(errno.EISDIR)
 NO_ROOM = reason(errno.ENOSPC)
 
+SPELLED = "* #variable= 4 #constraint= 2\nmin: 2 x1 -3 ~x2 1 x3 ;\n1 x1 1 x2 >= 1 ;\n-1 x2 +1 ~x3 <= -2 ;\n"
+WIDE = "min: ;\n= 0 ;\n-170141183460469231731687303715884 x2 >= -9 ;\n"
 OWN_CUBES = "p inccnf\n1 20 0\na 1 0\n"  # one, of twenty variables
 
 
@@ -73,6 +78,14 @@ FILES = {
     "hundred.cubes": "a 2 0\n" * 100,
     "with_index/index": "",
     "with_piece/0.opb": "kept\n",
+    "spelled.opb": SPELLED,
+    "two.cubes": "a 1 -2 0\na -4 0\n",
+    "wide.opb": WIDE,
+    "empty.cubes": "a 0\n",
+    "two_clauses.cnf": "p cnf 12 2\n1 -2 0\n0\n",
+    "twelve.cubes": "a 3 -12 0\n",
+    "five.icnf": "p inccnf\n1 -2 0\na 3 -5 0\na 1 0\n",
+    "twelve.opb": "* #variable= 12 #constraint= 0\n",
     "clause.cnf": "p cnf 2 1\n1 2 0\n",
     "clause-0.out": "s SATISFIABLE\nv -1 2 0\n",
     "out/0.out": FIRST,
@@ -104,7 +117,15 @@ FILES = {
     "unread/0.report": FIRST,
     **PARTS,
 }
-PACKED = {"packed.xz": lzma.compress(TIE.encode()), "packed.bz2": bz2.compress(TIE.encode())}
+HINTED = {f"hinted/{place}": row for place, row in enumerate([*BEGUN, *PLACED])}
+BYTES = {
+    "packed.xz": lzma.compress(TIE.encode()),
+    "packed.bz2": bz2.compress(TIE.encode()),
+    **{name: text for name, (_, text, _) in HINTED.items()},
+}
+# links and folders that lie where notes and their drafts are written or read
+LINKS = {"linked/0.0.new": "outside", "endless/0.note": "/dev/zero"}
+FOLDERS = ("another_note/2.note/in", "own_note/1.note/in")
 # names of reports, and the numbers of the pieces that they tell
 NUMBERS = {
     "names/007.out": 7,
@@ -135,6 +156,7 @@ class Row:
     err_to: str = ""  # and in place of the standard error
     may_write_files: bool = True
     files: dict = field(default_factory=dict)  # the texts of some files that are there afterwards
+    absent: tuple = ()  # what is not there then
 
 
 def refused(words, *parts):
@@ -171,14 +193,54 @@ def hinted(words, kind, hint):
     return Row(words, f"c refused: {kind} at line 1\n{UNSUPPORTED}", f"pbcube: {hint}\n")
 
 
+def refusal(format, text):
+    """The report on a text that is refused, by a reader of docs/FORMATS.md."""
+    try:
+        read(format, text)
+    except Refused as fault:
+        return f"c refused: {fault}\n{UNSUPPORTED}"
+    raise ValueError(f"{text} is not refused")
+
+
+def hinted_rows():
+    """A row for each text that is refused, with all that is said of it."""
+    for name, (format, text, hint) in HINTED.items():
+        of_file = f"{name} " if (format, text, hint) in BEGUN else ""
+        yield Row(f"--format {format} {name}", refusal(format, text), f"pbcube: {of_file}{hint}\n" if hint else "")
+
+
 def told_version(name, why=f": {NO_ROOM}"):
     told = f"{name} {version()}\n"
     return [Row("--version", told), Row("-V", told), Row("--version", err=f"{name}: cannot write{why}\n", status=1, out_to=FULL)]
 
 
 UNSUPPORTED = "s UNSUPPORTED\n"
-IS_WCNF = "begins as WCNF, which is not read: write it as OPB, with the weights in min:"
-PRODUCT = hinted("product.opb", "NonLinear", "line 1, column 6: 'x2': no product is read: write a variable of its own for it")
+PRODUCT = hinted("product.opb", "NonLinear", f"line 1, column 6: 'x2': {NO_PRODUCT}")
+SHORT_HELP = """\
+Finds the least assignment of a pseudo-Boolean instance
+
+Usage: pbcube [OPTIONS] <FILE>
+
+Arguments:
+  <FILE>  The file that holds the instance
+
+Options:
+      --format <FORMAT>  How FILE is written: opb, cnf or icnf [default: opb]
+      --workers <W>      Workers, 1 to 64: the threads that share the work [default: 1]
+      --split <K>        Divide the work by the K most frequent variables, 0 to 12 [default: 0]
+      --cubes <FILE>     A file of cubes that divide the work, lines `a LITERALS 0`; none by default
+      --nodes <B>        Make at most B decisions in each piece, 0 to 1000000000; no limit by default
+  -h, --help             Print help (see more with '--help')
+  -V, --version          Print version
+"""
+LONG_HELP = """\
+Finds the least assignment of a pseudo-Boolean instance: among the assignments
+that meet every constraint those of the least cost, and among these the
+lexicographically first one (x1 first, 0 before 1). It writes the cost and the
+assignment, or that nothing is feasible, or which fault the input has.
+
+Usage: pbcube [OPTIONS] <FILE>
+"""
 PBCUBE = [
     Row("tie.opb", SECOND, status=30),
     Row("--format opb --workers 64 --split 0 no_objective.opb", "s SATISFIABLE\nv -x1 x2 -x3\n", status=10),
@@ -194,19 +256,16 @@ PBCUBE = [
     Row("--nodes 0 none_feasible.opb", "s UNSATISFIABLE\n", status=20),
     # refused texts, with a hint where there is one
     PRODUCT,
-    hinted("over.opb", "BadVariable", "line 1, column 8: 'x0': variables are numbered from 1 to 1048576"),
+    hinted("over.opb", "BadVariable", f"line 1, column 8: 'x0': {TO_MOST}"),
     hinted("maximum.opb", "Syntax", "line 1, column 1: 'max:': write min: of the negated sum"),
-    hinted(
-        "soft.opb",
-        "Syntax",
-        "line 1, column 1: 'soft:': no soft constraint is read: give each a variable that satisfies it, with its weight in min:",
-    ),
-    hinted("marked.opb", "Syntax", "marked.opb begins with a byte order mark: save it as ASCII, without one"),
+    hinted("soft.opb", "Syntax", f"line 1, column 1: 'soft:': {NO_SOFT}"),
+    hinted("marked.opb", "Syntax", f"marked.opb {IS_MARKED}"),
     hinted("weighted.wcnf", "Unfinished", f"weighted.wcnf {IS_WCNF}"),
     hinted("--format cnf weighted.wcnf", "BadHeader", f"weighted.wcnf {IS_WCNF}"),
     hinted("--format cnf hard.wcnf", "BadHeader", f"hard.wcnf {IS_WCNF}"),
     hinted("packed.xz", "Unfinished", "packed.xz is compressed by xz: unxz it first"),
     hinted("packed.bz2", "Unfinished", "packed.bz2 is compressed by bzip2: bunzip2 it first"),
+    *hinted_rows(),
     Row("--cubes over.cubes tie.opb", f"c refused cubes: BadVariable at line 1\n{UNSUPPORTED}"),
     Row("--split 2 none_feasible.opb", f"c refused split: BadSplit\n{UNSUPPORTED}"),
     Row(
@@ -224,6 +283,7 @@ PBCUBE = [
     unread("none.opb", "none.opb"),
     unread("broken.opb", "broken.opb"),
     unread("./none.opb", "./none.opb"),
+    unread("''", ""),
     unread("--cubes none.cubes tie.opb", "none.cubes"),
     unread("--cubes broken.cubes tie.opb", "broken.cubes"),
     unread("--cubes none.cubes none.opb", "none.opb"),
@@ -240,6 +300,7 @@ PBCUBE = [
     # refused words
     refused("", "<FILE>"),
     refused("tie.opb product.opb", "'product.opb'"),
+    refused("'' tie.opb", "'tie.opb'"),
     refused("--workers 0 tie.opb", "0 is not in 1..=64"),
     refused("--workers 65 tie.opb", "65 is not in 1..=64"),
     refused("--workers two tie.opb", "'two'"),
@@ -250,24 +311,15 @@ PBCUBE = [
     refused("--nodes x tie.opb", "'x'"),
     refused("--split 1 --split 2 tie.opb", "multiple times"),
     refused("--format wbo tie.opb", "opb, cnf and icnf"),
+    refused("--format OPB tie.opb", "opb, cnf and icnf"),
+    refused("--format '' tie.opb", "opb, cnf and icnf"),
     refused("--nothing tie.opb", "'--nothing'"),
     refused("tie.opb --cubes", "--cubes"),
-    helped(
-        "-h",
-        "Usage: pbcube [OPTIONS] <FILE>",
-        "--format <FORMAT>",
-        "opb, cnf or icnf [default: opb]",
-        "1 to 64",
-        "[default: 1]",
-        "0 to 12 [default: 0]",
-        "--cubes <FILE>",
-        "`a LITERALS 0`",
-        "--nodes <B>",
-        "0 to 1000000000",
-    ),
+    Row("-h", SHORT_HELP),
     helped(
         "--help",
-        "Usage: pbcube [OPTIONS] <FILE>",
+        LONG_HELP,
+        "(see a summary with '-h')\n\n  -V, --version\n          Print version\n\nCubes and the split divide the work",
         "--format <FORMAT>",
         "--workers <W>",
         "--split <K>",
@@ -284,6 +336,21 @@ PBCUBE = [
 ]
 
 
+PIECE_TEXTS = {
+    "spelled/0.opb": SPELLED.replace("#constraint= 2", "#constraint= 4").replace("+1", "1") + "1 x1 >= 1 ;\n1 ~x2 >= 1 ;\n",
+    "spelled/2.opb": SPELLED.replace("#constraint= 2", "#constraint= 4").replace("+1", "1") + "1 ~x1 1 x2 >= 1 ;\n1 x4 >= 1 ;\n",
+    "wide/1.opb": "* #variable= 2 #constraint= 3\n" + WIDE + ">= 1 ;\n",
+    "clauses/0.cnf": "p cnf 12 4\n1 -2 0\n0\n3 0\n-12 0\n",
+    "own/2.cnf": "p cnf 5 3\n1 -2 0\n-3 5 0\n-1 0\n",
+}
+
+
+def pieces_row(words, out, pieces):
+    """A row of a run that writes so many pieces, and what some of them are."""
+    files = {name: text for name, text in PIECE_TEXTS.items() if name.startswith(f"{out}/")}
+    return Row(f"--out {out} {words}", f"pieces {pieces}\n", files=files)
+
+
 TIE_WITH_CUBE = TIE.replace("#constraint= 2", "#constraint= 3") + "1 x2 >= 1 ;\n"
 PIECES = [
     Row("--out one/new tie.opb", "pieces 1\n", files={"one/new/0.opb": TIE}),
@@ -295,6 +362,10 @@ PIECES = [
         files={"eleven/index": index_of(OWN_CUBES, "cnf", 20, 11)},
     ),
     Row("--cubes hundred.cubes --out hundred tie.opb", "pieces 101\n", files={"hundred/007.opb": TIE_WITH_CUBE}),
+    pieces_row("--cubes two.cubes spelled.opb", "spelled", 3),
+    pieces_row("--cubes empty.cubes wide.opb", "wide", 2),
+    pieces_row("--format cnf --cubes twelve.cubes two_clauses.cnf", "clauses", 2),
+    pieces_row("--format icnf five.icnf", "own", 3),
     Row("--out untold tie.opb", err=f"pbcube_pieces: cannot write: {NO_ROOM}\n", status=1, out_to=FULL, files={"untold/0.opb": TIE}),
     Row("--out pieces none.opb", err=f"pbcube_pieces: cannot read none.opb: {MISSING}\n", status=1),
     Row("--out pieces product.opb", err="pbcube_pieces: product.opb: NonLinear at line 1\n", status=1),
@@ -360,12 +431,40 @@ TASK = [
         part("5 of 9", FILES["tie.opb"], "1 split 0 cubes none", "") + "s UNKNOWN\n",
         "pbcube_task: none of the 1 pieces is of task 5\n",
     ),
+    Row(
+        "--cubes good.cubes --split 12 --task 4098 --tasks 4099 twelve.opb",
+        part("4098 of 4099", FILES["twelve.opb"], f"4098 split 12 cubes {digest_of('good.cubes')}", "") + "s UNKNOWN\n",
+        "pbcube_task: none of the 4098 pieces is of task 4098\n",
+    ),
     # notes
     Row(
         "--task 0 --tasks 1 --exchange some/notes tie.opb",
         part("0 of 1", FILES["tie.opb"], "1 split 0 cubes none", " 0") + ATTAINED,
         status=10,
         files={"some/notes/0.note": NOTE},
+    ),
+    # a link in the place of a draft: nothing is written through it
+    Row(
+        "--task 0 --tasks 1 --exchange linked tie.opb",
+        part("0 of 1", FILES["tie.opb"], "1 split 0 cubes none", " 0") + ATTAINED,
+        status=10,
+        files={"linked/0.note": NOTE},
+        absent=("linked/outside", "linked/0.0.new"),
+    ),
+    # notes that are no files: one line tells of all faults
+    *(
+        Row(
+            f"--split 1 --task 1 --tasks 3 --exchange {folder} tie.opb",
+            part("1 of 3", FILES["tie.opb"], IN_THREE, " 1") + ATTAINED,
+            f"cannot exchange notes in {folder}: invalid input parameter\n",
+            10,
+            files=files,
+        )
+        for folder, files in (
+            ("endless", {"endless/1.note": NOTE}),
+            ("another_note", {"another_note/1.note": NOTE}),
+            ("own_note", {}),
+        )
     ),
     Row(
         "--task 0 --tasks 1 --exchange tie.opb tie.opb",
@@ -440,6 +539,7 @@ JOIN = [
     Row("--pieces 3 tie.opb cut", SECOND, status=30),
     Row("tie.opb cut_in_two out/0.out piece-001.out", SECOND, status=30),
     rejected("--pieces 2 tie.opb cut", "cut/index: it is of 3 pieces, and not of 2"),
+    rejected("--pieces 1048576 tie.opb cut", "cut/index: it is of 3 pieces, and not of 1048576"),
     rejected("tie.opb cut cut_in_two", "cut_in_two/index: it is of 2 pieces, and not of 3"),
     rejected("tie.opb edited", "edited/index: the instance is not the text that was cut: the digest at line 4 is another"),
     rejected("tie.opb broken", "broken/index: line 1 tells no number of pieces"),
@@ -492,7 +592,7 @@ JOIN = [
     Row("--help", err=f"pbcube_join: cannot write: {NO_ROOM}\n", status=1, out_to=FULL),
     *closed("--pieces 3 tie.opb 2 out/0.out piece-001.out", "--tasks 2 tie.opb parts", "--help"),
     *unopened("pbcube_join", "--pieces 1"),
-    refused("--pieces 0 tie.opb", "0 is not in 1..="),
+    refused("--pieces 0 tie.opb", "0 is not in 1..=1048576"),
     refused("--format wcnf --pieces 1 tie.opb", "opb, cnf and icnf"),
     *(number_row(name, number) for name, number in NUMBERS.items()),
     *told_version("pbcube_join"),
@@ -504,10 +604,14 @@ def make_files(room):
     for name, text in {**FILES, **dict.fromkeys(NUMBERS, "s UNKNOWN\n")}.items():
         (room / name).parent.mkdir(parents=True, exist_ok=True)
         (room / name).write_text(text)
-    for name, data in PACKED.items():
+    for name, data in BYTES.items():
+        (room / name).parent.mkdir(parents=True, exist_ok=True)
         (room / name).write_bytes(data)
-    for name in UNREADABLE:
-        (room / name).mkdir()
+    for name in (*UNREADABLE, *FOLDERS):
+        (room / name).mkdir(parents=True)
+    for name, target in LINKS.items():
+        (room / name).parent.mkdir(parents=True, exist_ok=True)
+        (room / name).symlink_to(target)
     (room / UNOPENED).touch(mode=0)
     os.mknod(room / SOCKET, stat.S_IFSOCK | 0o600)
 
@@ -533,7 +637,7 @@ def run(program, row, room):
     """How the program ends. What goes elsewhere is not told."""
     # help tells the name by which a program is called, which is not that of each file
     call = "exec -a \"$0\" \"$@\"" if row.may_write_files else "trap '' XFSZ; ulimit -f 0; exec -a \"$0\" \"$@\""
-    words = ["bash", "-c", call, name_of(program), program, *row.words.split()]
+    words = ["bash", "-c", call, name_of(program), program, *shlex.split(row.words)]
     with opened(row.out_to) as out, opened(row.err_to) as err:
         elsewhere = {name: file for name, file, is_told in (("stdout", out, row.out_to), ("stderr", err, row.err_to)) if is_told}
         return ran(words, cwd=room, **elsewhere)
@@ -554,6 +658,7 @@ def complaints(program, row, room):
         file = room / name
         if not file.is_file() or file.read_text() != text:
             found.append(f"{name} is not there, or not as it should be")
+    found += [f"{name} is there" for name in row.absent if os.path.lexists(room / name)]
     return found
 
 

@@ -1,6 +1,6 @@
-//! Tests of the texts around the solver, by the public calls alone: instances that are written, reports that are read, hints on
-//! texts that were refused, the options of command lines, and notes that tasks exchange. They stand above the crates that they
-//! test, so that the gate proves none of those again for them.
+//! Tests of the texts around the solver, by the public calls alone: instances that are written, reports that are read, and notes
+//! that tasks exchange. They stand above the crates that they test, so that the gate proves none of those again for them. What
+//! the programs show, `tests/runs/commands.py` asks them.
 #![tactic(auto)]
 
 #[cfg(test)]

@@ -2,9 +2,7 @@
 
 mod exchanges;
 mod folders;
-mod hints;
 mod note_texts;
-mod options;
 mod parts;
 mod reading;
 mod writing;

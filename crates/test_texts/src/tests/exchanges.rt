@@ -2,12 +2,12 @@
 ghost use Rattle.std.specs.Prelude.{◌≤◌, length};
 
 use crate::tests::note_texts::{DIGEST, assignment, below_first_line, bits_of, note};
-use pb_inst::{Assignment, Memory, Number};
+use pb_inst::{Assignment, Number};
 use pb_notes::{Exchange, Notes, looks_apart};
 use std::alloc::Global;
 use std::cell::{Cell, RefCell};
 use std::io::{self, Error, ErrorKind};
-use std::test::Fail;
+use std::process::Abort;
 
 /// The variables of all notes.
 const VARS: u32 = 4;
@@ -19,7 +19,9 @@ const TASK: u32 = 1;
 /// fault was told.
 #[derive(Drop)]
 struct Shelf {
-    notes: [RefCell<Vec<u8>>; 3],
+    first: RefCell<Vec<u8>>,
+    second: RefCell<Vec<u8>>,
+    third: RefCell<Vec<u8>>,
     calls: RefCell<Vec<u8>>,
     fails: Cell<bool>,
 }
@@ -27,19 +29,27 @@ struct Shelf {
 impl Shelf {
     fn new(alloc: Global) -> Shelf {
         Shelf {
-            notes: [
-                RefCell::new(Vec::new(alloc)),
-                RefCell::new(Vec::new(alloc)),
-                RefCell::new(Vec::new(alloc)),
-            ],
+            first: RefCell::new(Vec::new(alloc)),
+            second: RefCell::new(Vec::new(alloc)),
+            third: RefCell::new(Vec::new(alloc)),
             calls: RefCell::new(Vec::new(alloc)),
             fails: Cell::new(false),
         }
     }
 
+    /// The place of a task's note.
+    fn place(&self, task: u32) -> Option<&RefCell<Vec<u8>>> {
+        match task {
+            0 => Some(&self.first),
+            1 => Some(&self.second),
+            2 => Some(&self.third),
+            _ => None,
+        }
+    }
+
     /// Puts a text in the place of a task's note.
     fn put(&self, task: u32, text: &[u8]) {
-        if let Some(note) = self.notes.get(task as usize)
+        if let Some(note) = self.place(task)
             && let Ok(mut note) = note.try_borrow_mut()
         {
             note.clear();
@@ -49,7 +59,7 @@ impl Shelf {
 
     /// Whether this is the note of a task.
     fn has(&self, task: u32, text: &[u8]) -> bool {
-        let Some(note) = self.notes.get(task as usize) else {
+        let Some(note) = self.place(task) else {
             return false;
         };
         match note.try_borrow() {
@@ -95,7 +105,7 @@ impl Notes for Shelf {
         if self.fails.get() {
             return Err(Error::from(ErrorKind::Other));
         }
-        let Some(note) = self.notes.get(task as usize) else {
+        let Some(note) = self.place(task) else {
             return Ok(None);
         };
         match note.try_borrow() {
@@ -131,6 +141,8 @@ enum Move {
     Borrow(Number, Option<u64>),
     /// All calls before the next look. They lend nothing.
     Pause(Number),
+    /// A call with an assignment of one variable more, of these bits, lends nothing. Then it is offered.
+    Longer(u64),
     /// A piece begins.
     Begin,
     /// The place has a fault from now on, or has none.
@@ -144,65 +156,84 @@ enum Move {
 
 /// What a call of `borrow` lends.
 fn lent(
+    rt: &impl Abort,
     alloc: Global,
     exchange: &mut Exchange<'_, Shelf>,
     below: Number,
-) -> Result<Option<u64>, Memory> {
-    let mut values = Assignment::new(alloc, VARS)?;
+) -> Option<u64> {
+    let mut values = Assignment::new(alloc, VARS).expect(rt, "memory");
     if exchange.borrow(below, &mut values) {
-        Ok(Some(bits_of(&values)))
+        Some(bits_of(&values))
     } else {
-        Ok(None)
+        None
     }
 }
 
 /// Whether none of the calls before the next look lends anything.
 fn is_quiet(
+    rt: &impl Abort,
     alloc: Global,
     exchange: &mut Exchange<'_, Shelf>,
     below: Number,
-) -> Result<bool, Memory> {
+) -> bool {
     let mut is_quiet = true;
     for _ in 1..looks_apart(VARS) {
-        is_quiet &= lent(alloc, exchange, below)?.is_none();
+        is_quiet &= lent(rt, alloc, exchange, below).is_none();
     }
-    Ok(is_quiet)
+    is_quiet
+}
+
+/// Whether an assignment of one variable more is lent nothing. It is offered too.
+fn passes_over_longer(
+    rt: &impl Abort,
+    alloc: Global,
+    exchange: &mut Exchange<'_, Shelf>,
+    bits: u64,
+) -> bool {
+    let mut longer = assignment(rt, alloc, VARS + 1, bits);
+    let is_lent = exchange.borrow(100, &mut longer);
+    exchange.offer(3, &longer);
+    !is_lent && bits_of(&longer) == bits
 }
 
 /// Makes a move, and answers whether it went as it says.
-fn makes(
+fn goes(
+    rt: &impl Abort,
     alloc: Global,
     exchange: &mut Exchange<'_, Shelf>,
     shelf: &Shelf,
     step: Move,
-) -> Result<bool, Memory> {
+) -> bool {
     match step {
-        Move::Put(task, cost, bits) => shelf.put(task, &note(alloc, cost, VARS, bits)?),
-        Move::PutText(task, text) => shelf.put(task, &below_first_line(alloc, text)?),
-        Move::Offer(cost, bits) => exchange.offer(cost, &assignment(alloc, VARS, bits)?),
-        Move::Borrow(below, bits) => return Ok(lent(alloc, exchange, below)? == bits),
-        Move::Pause(below) => return is_quiet(alloc, exchange, below),
+        Move::Put(task, cost, bits) => shelf.put(task, &note(rt, alloc, cost, VARS, bits)),
+        Move::PutText(task, text) => shelf.put(task, &below_first_line(rt, alloc, text)),
+        Move::Offer(cost, bits) => exchange.offer(cost, &assignment(rt, alloc, VARS, bits)),
+        Move::Borrow(below, bits) => return lent(rt, alloc, exchange, below) == bits,
+        Move::Pause(below) => return is_quiet(rt, alloc, exchange, below),
+        Move::Longer(bits) => return passes_over_longer(rt, alloc, exchange, bits),
         Move::Begin => exchange.begin(),
         Move::Fail(fails) => shelf.fails.set(fails),
         Move::Close => exchange.close(),
-        Move::Calls(calls) => return Ok(shelf.had_calls(calls)),
-        Move::Note(task, cost, bits) => {
-            return Ok(shelf.has(task, &note(alloc, cost, VARS, bits)?));
-        }
+        Move::Calls(calls) => return shelf.had_calls(calls),
+        Move::Note(task, cost, bits) => return shelf.has(task, &note(rt, alloc, cost, VARS, bits)),
     }
-    Ok(true)
+    true
 }
 
 /// The place of the first move that went otherwise than it says, in an exchange of so many tasks.
-fn first_otherwise(alloc: Global, tasks: u32, moves: &[Move]) -> Result<Option<usize>, Memory> {
+fn first_otherwise(rt: &impl Abort, alloc: Global, tasks: u32, moves: &[Move]) -> Option<usize> {
     let shelf = Shelf::new(alloc);
-    let mut exchange = Exchange::new(alloc, &shelf, DIGEST, VARS, TASK, tasks, 0)?;
+    let mut exchange = Exchange::new(alloc, &shelf, DIGEST, VARS, TASK, tasks, 0).expect(
+        rt, "memory",
+    );
+    let mut first = None;
     for (place, step) in moves.iter().enumerate() {
-        if !makes(alloc, &mut exchange, &shelf, *step)? {
-            return Ok(Some(place));
+        if !goes(rt, alloc, &mut exchange, &shelf, *step) {
+            first = Some(place);
+            break;
         }
     }
-    Ok(None)
+    first
 }
 
 const SCENES: &[(&str, u32, &[Move])] = &[
@@ -451,44 +482,39 @@ const SCENES: &[(&str, u32, &[Move])] = &[
         0,
         &[Move::Borrow(100, None), Move::Calls(b"r1")],
     ),
+    (
+        "other lengths are passed over",
+        3,
+        &[
+            Move::Put(1, 5, 0b0110),
+            Move::Longer(0b1_0000),
+            Move::Close,
+            Move::Calls(b""),
+        ],
+    ),
 ];
 
 #[test]
-fn exchanges_go_as_told(rt: HostRuntime) -> Result<(), Fail> {
+fn exchanges_go_as_told(rt: HostRuntime) {
     for (name, tasks, moves) in SCENES {
-        let otherwise = first_otherwise(rt.alloc(), *tasks, *moves)?;
+        let otherwise = first_otherwise(&rt, rt.alloc(), *tasks, *moves);
         assert!(rt; otherwise.is_none(), "{name}: {otherwise:?}");
     }
-    Ok(())
 }
 
-#[test]
-fn other_lengths_are_passed_over(rt: HostRuntime) -> Result<(), Fail> {
-    let shelf = Shelf::new(rt.alloc());
-    shelf.put(TASK, &note(rt.alloc(), 5, VARS, 0b0110)?);
-    let mut exchange = Exchange::new(rt.alloc(), &shelf, DIGEST, VARS, TASK, 3, 0)?;
-    let mut other = assignment(rt.alloc(), VARS + 1, 0b1_0000)?;
-    let answer = exchange.borrow(100, &mut other);
-    assert!(rt; !answer && bits_of(&other) == 0b1_0000);
-    exchange.offer(3, &other);
-    exchange.close();
-    assert!(rt; shelf.had_calls(b""));
-    Ok(())
-}
+/// Numbers of variables, and how many calls looks are apart.
+const APART: &[(u32, u32)] = &[
+    (0, 8),
+    (1024, 8),
+    (1025, 7),
+    (3000, 2),
+    (8192, 1),
+    (100_000, 1),
+];
 
 #[test]
-fn more_variables_are_looked_for_more_often(rt: HostRuntime) -> Result<(), Fail> {
-    let moves: &[(u32, u32)] = &[
-        (0, 8),
-        (1024, 8),
-        (1025, 7),
-        (3000, 2),
-        (8192, 1),
-        (100_000, 1),
-    ];
-    for (vars, want) in moves {
-        let apart = looks_apart(*vars);
-        assert!(rt; apart == *want, "{vars}: {apart}");
+fn more_variables_are_looked_for_more_often(rt: HostRuntime) {
+    for (vars, apart) in APART {
+        assert!(rt; looks_apart(*vars) == *apart, "{vars}");
     }
-    Ok(())
 }

@@ -1,177 +1,192 @@
 //! Notes in a folder of the system.
 
 use pb_notes::{Folder, Notes};
-use std::alloc::Allocator;
-use std::cell::Cell;
-use std::env;
-use std::fmt::Display;
-use std::fs::{self, Metadata, OpenOptions};
-use std::io::{self, Error, ErrorKind};
+use std::alloc::AllocError;
 use std::os::unix::fs::symlink;
-use std::rt::Files;
-use std::test::Fail;
+use std::{env, fs};
 
-/// The files of the system, and how many lines the standard error was given.
-#[derive(Drop)]
-struct Counting<'a> {
-    rt: &'a HostRuntime,
-    lines: Cell<u32>,
+/// How many tasks there are, and how many workers of each.
+const TASKS: u32 = 3;
+
+const WORKERS: u32 = 2;
+
+/// What is read of a note.
+#[derive(Clone, Copy)]
+enum Found {
+    /// All that it has, or its first ten bytes, for which there is room.
+    Text(&'static [u8]),
+    Nothing,
+    Fault,
 }
 
-impl Eprint for Counting<'_> {
-    fn eprint<D: Display + Drop>(&self, _value: D) -> io::Result<()> {
-        Ok(())
-    }
-
-    fn eprintln<D: Display + Drop>(&self, _value: D) -> io::Result<()> {
-        self.lines.set(self.lines.get().saturating_add(1));
-        Ok(())
-    }
+/// What the notes of a task are asked for.
+#[derive(Clone, Copy)]
+enum Call {
+    Make,
+    /// A worker writes this text.
+    Write(u32, &'static [u8]),
+    /// A worker cannot write.
+    WriteFails(u32),
+    /// The note of a task is read, and this is found.
+    Read(u32, Found),
 }
 
-impl Files for Counting<'_> {
-    type File = <HostRuntime as Files>::File;
+/// What is put under a name, or is to be there.
+#[derive(Clone, Copy)]
+enum Thing {
+    /// A link to this file.
+    Link(&'static str),
+    Folder,
+    Nothing,
+}
 
-    type Dir = <HostRuntime as Files>::Dir;
+/// What happens in a folder of notes.
+#[derive(Clone, Copy)]
+enum Step {
+    /// The notes of this task are asked.
+    Ask(u32, Call),
+    /// This is put there under a name, or is to be there.
+    Name(&'static str, Thing),
+    /// There are so many files.
+    Files(usize),
+}
 
-    fn open_file(&self, how: &OpenOptions, path: &str) -> io::Result<Self::File> {
-        self.rt.open_file(how, path)
-    }
-
-    fn open_dir(&self, path: &str) -> io::Result<Self::Dir> {
-        self.rt.open_dir(path)
-    }
-
-    fn metadata(&self, path: &str) -> io::Result<Metadata> {
-        Files::metadata(self.rt, path)
-    }
-
-    fn symlink_metadata(&self, path: &str) -> io::Result<Metadata> {
-        self.rt.symlink_metadata(path)
-    }
-
-    fn copy(&self, from: &str, to: &str) -> io::Result<u64> {
-        self.rt.copy(from, to)
-    }
-
-    fn rename(&self, from: &str, to: &str) -> io::Result<()> {
-        self.rt.rename(from, to)
-    }
-
-    fn remove_file(&self, path: &str) -> io::Result<()> {
-        self.rt.remove_file(path)
-    }
-
-    fn create_dir(&self, path: &str) -> io::Result<()> {
-        self.rt.create_dir(path)
-    }
-
-    fn remove_dir(&self, path: &str) -> io::Result<()> {
-        self.rt.remove_dir(path)
-    }
-
-    fn remove_dir_all<B: Allocator>(&self, alloc: B, path: &str) -> io::Result<()> {
-        self.rt.remove_dir_all(alloc, path)
+/// Whether reading the note of a task finds what is expected.
+fn finds(notes: &Folder<'_, HostRuntime>, task: u32, expected: Found) -> bool {
+    let mut room = [0; 10];
+    let answer = notes.read(task, &mut room);
+    match expected {
+        Found::Text(text) => matches!(answer, Ok(Some(len)) if &room[..len] == text),
+        Found::Nothing => matches!(answer, Ok(None)),
+        Found::Fault => answer.is_err(),
     }
 }
 
-/// The name of a folder that is made for one test.
-fn new_folder(rt: &HostRuntime) -> Result<String, Fail> {
-    let above = env::temp_dir(rt)?;
-    let above = above.as_str();
-    for number in 0..10_000 {
-        let name = format!(in rt.alloc(); "{above}/pbcube_notes_{number}")?;
-        if fs::create_dir(rt, name.as_str()).is_ok() {
-            return Ok(name);
+fn goes(notes: &Folder<'_, HostRuntime>, call: Call) -> bool {
+    match call {
+        Call::Make => notes.make().is_ok(),
+        Call::Write(worker, text) => notes.write(worker, text).is_ok(),
+        Call::WriteFails(worker) => notes.write(worker, b"text").is_err(),
+        Call::Read(task, expected) => finds(notes, task, expected),
+    }
+}
+
+fn lies(rt: &HostRuntime, path: &str, thing: Thing) -> bool {
+    match thing {
+        Thing::Link(target) => symlink(rt, target, path).is_ok(),
+        Thing::Folder => fs::create_dir_all(rt, path).is_ok(),
+        Thing::Nothing => fs::metadata(rt, path).is_err(),
+    }
+}
+
+/// The path of this name in a folder.
+fn within(rt: &HostRuntime, folder: &str, name: &str) -> Result<String, AllocError> {
+    format!(in rt.alloc(); "{folder}/{name}")
+}
+
+/// How many files a folder has, and none where it cannot be read.
+fn files(rt: &HostRuntime, folder: &str) -> usize {
+    match fs::read_dir(rt, folder) {
+        Ok(files) => files.count(),
+        Err(_) => 0,
+    }
+}
+
+/// Makes a step, and answers whether it went as it says.
+fn makes(rt: &HostRuntime, folder: &str, step: Step) -> bool {
+    match step {
+        Step::Ask(task, call) => {
+            match Folder::new(rt.alloc(), rt, folder, task, TASKS, WORKERS) {
+                Ok(notes) => goes(&notes, call),
+                Err(_) => false,
+            }
+        }
+        Step::Name(name, thing) => match within(rt, folder, name) {
+            Ok(path) => lies(rt, &path, thing),
+            Err(_) => false,
+        },
+        Step::Files(count) => files(rt, folder) == count,
+    }
+}
+
+/// The place of the first step that went otherwise than it says.
+fn first_otherwise(rt: &HostRuntime, folder: &str, steps: &[Step]) -> Option<usize> {
+    for (place, step) in steps.iter().enumerate() {
+        if !makes(rt, folder, *step) {
+            return Some(place);
         }
     }
-    Err(Fail::from(Error::from(ErrorKind::AlreadyExists)))
+    None
 }
 
-/// Whether the note of a task has these bytes, as far as there is room for ten.
-fn reads<N: Notes>(notes: &N, task: u32, text: &[u8]) -> bool {
-    let mut room = [0; 10];
-    match notes.read(task, &mut room) {
-        Ok(Some(len)) => &room[..len] == text,
-        Ok(None) | Err(_) => false,
+const SCENES: &[(&str, &[Step])] = &[
+    (
+        "notes are written and read",
+        &[
+            Step::Ask(1, Call::Read(1, Found::Nothing)),
+            Step::Ask(1, Call::WriteFails(0)),
+            Step::Ask(1, Call::Make),
+            Step::Ask(2, Call::Make),
+            Step::Ask(1, Call::Read(1, Found::Nothing)),
+            Step::Ask(1, Call::Read(3, Found::Nothing)),
+            Step::Ask(1, Call::Write(0, b"first")),
+            Step::Ask(2, Call::Read(1, Found::Text(b"first"))),
+            Step::Ask(2, Call::Read(2, Found::Nothing)),
+            Step::Ask(1, Call::Write(1, b"a longer one")),
+            Step::Ask(1, Call::Read(1, Found::Text(b"a longer o"))),
+            Step::Ask(2, Call::Read(1, Found::Text(b"a longer o"))),
+            Step::Ask(2, Call::Write(0, b"")),
+            Step::Ask(1, Call::Read(2, Found::Text(b""))),
+            Step::Ask(1, Call::Read(1, Found::Text(b"a longer o"))),
+            Step::Ask(1, Call::WriteFails(2)),
+            Step::Files(2),
+        ],
+    ),
+    // What lies in the place of a draft is not opened: nothing is written through a link.
+    (
+        "drafts are made anew",
+        &[
+            Step::Ask(1, Call::Make),
+            Step::Name("1.0.new", Thing::Link("outside")),
+            Step::Ask(1, Call::Write(0, b"text")),
+            Step::Ask(1, Call::Read(1, Found::Text(b"text"))),
+            Step::Name("outside", Thing::Nothing),
+        ],
+    ),
+    (
+        "what is no file is a fault",
+        &[
+            Step::Ask(1, Call::Make),
+            Step::Name("0.note", Thing::Link("/dev/zero")),
+            Step::Ask(1, Call::Read(0, Found::Fault)),
+            Step::Name("2.note/in", Thing::Folder),
+            Step::Ask(1, Call::Read(2, Found::Fault)),
+            Step::Name("1.note/in", Thing::Folder),
+            Step::Ask(1, Call::WriteFails(0)),
+        ],
+    ),
+];
+
+/// Makes a folder of a new name in the folder of temporary files.
+fn new_folder(rt: &HostRuntime) -> Option<String> {
+    let above = env::temp_dir(rt).ok()?;
+    let above = above.as_str();
+    for number in 0..10_000 {
+        let name = format!(in rt.alloc(); "{above}/pbcube_notes_{number}").ok()?;
+        if fs::create_dir(rt, name.as_str()).is_ok() {
+            return Some(name);
+        }
     }
-}
-
-/// Whether a task has no note.
-fn has_none<N: Notes>(notes: &N, task: u32) -> bool {
-    matches!(notes.read(task, &mut [0; 10]), Ok(None))
-}
-
-/// Whether reading the note of a task is a fault.
-fn is_fault<N: Notes>(notes: &N, task: u32) -> bool {
-    notes.read(task, &mut [0; 10]).is_err()
-}
-
-/// Whether notes can be shared by threads.
-fn can_be_shared<N: Sync>(_notes: &N) -> bool {
-    true
+    None
 }
 
 #[test]
-fn notes_in_a_folder(rt: HostRuntime) -> Result<(), Fail> {
-    let name = new_folder(&rt)?;
-    let inner = format!(in rt.alloc(); "{name}/in/it")?;
-    let one = Folder::new(rt.alloc(), &rt, &inner, 1, 3, 2)?;
-    let other = Folder::new(rt.alloc(), &rt, &inner, 2, 3, 1)?;
-    assert!(rt; can_be_shared(&one));
-    assert!(rt; has_none(&one, 1) && one.write(0, b"first").is_err());
-    one.make()?;
-    other.make()?;
-    assert!(rt; has_none(&one, 1) && has_none(&one, 3));
-    one.write(0, b"first")?;
-    assert!(rt; reads(&other, 1, b"first") && has_none(&other, 2));
-    one.write(1, b"a longer one")?;
-    assert!(rt; reads(&one, 1, b"a longer o") && reads(&other, 1, b"a longer o"));
-    other.write(0, b"")?;
-    assert!(rt; reads(&one, 2, b"") && reads(&one, 1, b"a longer o"));
-    assert!(rt; one.write(2, b"of no worker").is_err());
-    let files = fs::read_dir(&rt, inner.as_str())?.count();
-    assert!(rt; files == 2, "{files}");
-    fs::remove_dir_all(&rt, name.as_str())?;
-    Ok(())
-}
-
-// What lies in the place of a draft is not opened: nothing is written through a link.
-#[test]
-fn drafts_are_made_anew(rt: HostRuntime) -> Result<(), Fail> {
-    let name = new_folder(&rt)?;
-    let folder = Folder::new(rt.alloc(), &rt, &name, 1, 2, 1)?;
-    let draft = format!(in rt.alloc(); "{name}/1.0.new")?;
-    symlink(&rt, "outside", draft.as_str())?;
-    assert!(rt; folder.write(0, b"text").is_ok() && reads(&folder, 1, b"text"));
-    let outside = format!(in rt.alloc(); "{name}/outside")?;
-    assert!(rt; fs::metadata(&rt, outside.as_str()).is_err());
-    fs::remove_dir_all(&rt, name.as_str())?;
-    Ok(())
-}
-
-#[test]
-fn faults_of_a_folder(rt: HostRuntime) -> Result<(), Fail> {
-    let name = new_folder(&rt)?;
-    let counting = Counting {
-        rt: &rt,
-        lines: Cell::new(0),
-    };
-    let folder = Folder::new(rt.alloc(), &counting, &name, 1, 3, 1)?;
-    let endless = format!(in rt.alloc(); "{name}/0.note")?;
-    symlink(&rt, "/dev/zero", endless.as_str())?;
-    assert!(rt; is_fault(&folder, 0));
-    let inside = format!(in rt.alloc(); "{name}/2.note/file")?;
-    fs::create_dir_all(&rt, inside.as_str())?;
-    assert!(rt; is_fault(&folder, 2));
-    let own = format!(in rt.alloc(); "{name}/1.note/file")?;
-    fs::create_dir_all(&rt, own.as_str())?;
-    assert!(rt; folder.write(0, b"text").is_err());
-    assert!(rt; counting.lines.get() == 0);
-    for kind in [ErrorKind::Other, ErrorKind::NotADirectory] {
-        folder.tell(&Error::from(kind));
-        assert!(rt; counting.lines.get() == 1);
+fn notes_in_a_folder(rt: HostRuntime) {
+    for (name, steps) in SCENES {
+        let above = new_folder(&rt).expect(&rt, "a folder");
+        let folder = within(&rt, &above, "in/it").expect(&rt, "memory");
+        let otherwise = first_otherwise(&rt, &folder, *steps);
+        assert!(rt; fs::remove_dir_all(&rt, above.as_str()).is_ok());
+        assert!(rt; otherwise.is_none(), "{name}: {otherwise:?}");
     }
-    fs::remove_dir_all(&rt, name.as_str())?;
-    Ok(())
 }

@@ -8,7 +8,7 @@ use pb_report::{
 };
 use std::alloc::Global;
 use std::io::{self, Error, ErrorKind, Write};
-use std::test::Fail;
+use std::process::Abort;
 
 /// The digest of the text `test`, as FIPS 180-4 has it.
 const DIGEST: [u8; 32] = [
@@ -176,27 +176,28 @@ fn read_again(alloc: Global, format: Format, text: &[u8]) -> Result<PartReport, 
 }
 
 /// The assignment of three variables of which only the second is false.
-fn assignment(alloc: Global) -> Result<Assignment, Fail> {
-    let mut values = Assignment::new(alloc, 3)?;
+fn assignment(rt: &impl Abort, alloc: Global) -> Assignment {
+    let mut values = Assignment::new(alloc, 3).expect(rt, "memory");
     for var in [1, 3] {
         if var <= values.len() {
             values.set(var, true);
         }
     }
-    Ok(values)
+    values
 }
 
 /// The report of a part.
-fn written(alloc: Global, case: &Case) -> Result<Vec<u8>, Fail> {
-    let values = assignment(alloc)?;
+fn written(rt: &impl Abort, alloc: Global, case: &Case) -> Vec<u8> {
+    let values = assignment(rt, alloc);
     let mut out = Device::new(Vec::new(alloc));
-    report_heading(&mut out, &case.division, case.task, case.done, case.cut)?;
+    report_heading(&mut out, &case.division, case.task, case.done, case.cut).expect(rt, "memory");
     match case.found {
-        Found::Attained(cost) => report_attained(&mut out, case.format, cost, &values)?,
-        Found::Satisfiable => report_satisfiable(&mut out, case.format, &values)?,
-        Found::Nothing => report_unknown(&mut out)?,
-    };
-    Ok(out.into_inner())
+        Found::Attained(cost) => report_attained(&mut out, case.format, cost, &values),
+        Found::Satisfiable => report_satisfiable(&mut out, case.format, &values),
+        Found::Nothing => report_unknown(&mut out),
+    }
+    .expect(rt, "memory");
+    out.into_inner()
 }
 
 /// Whether the claim is that of what was found.
@@ -219,15 +220,21 @@ fn is_of(report: &PartReport, case: &Case) -> bool {
         && is_found(&report.claim, case.found)
 }
 
-#[test]
-fn parts_are_written_and_read(rt: HostRuntime) -> Result<(), Fail> {
-    for case in CASES {
-        let text = written(rt.alloc(), case)?;
-        assert!(rt; text.as_slice() == case.text.as_bytes(), "{text:?}");
-        let report = read_again(rt.alloc(), case.format, &text)?;
-        assert!(rt; is_of(&report, case), "{}", case.text);
+/// Whether the text is read as the report of the case.
+fn is_read_as(alloc: Global, text: &[u8], case: &Case) -> bool {
+    match read_again(alloc, case.format, text) {
+        Ok(report) => is_of(&report, case),
+        Err(_) => false,
     }
-    Ok(())
+}
+
+#[test]
+fn parts_are_written_and_read(rt: HostRuntime) {
+    for case in CASES {
+        let text = written(&rt, rt.alloc(), case);
+        assert!(rt; text.as_slice() == case.text.as_bytes(), "{}", case.text);
+        assert!(rt; is_read_as(rt.alloc(), &text, case), "{}", case.text);
+    }
 }
 
 /// The fault of a report, and none where it is accepted.
@@ -235,50 +242,80 @@ fn fault_of(alloc: Global, text: &str) -> Option<PartFault> {
     read_again(alloc, Format::Opb, text.as_bytes()).err()
 }
 
+/// The fault of the worked report with other words in place of some.
+fn fault_with(rt: &impl Abort, alloc: Global, old: &str, new: &str) -> Option<PartFault> {
+    let text = WORKED.replacen(alloc, old, new, 1).expect(rt, "memory");
+    fault_of(alloc, &text)
+}
+
 #[test]
-fn spoiled_parts_are_refused(rt: HostRuntime) -> Result<(), Fail> {
+fn spoiled_parts_are_refused(rt: HostRuntime) {
     assert!(rt; fault_of(rt.alloc(), WORKED).is_none());
     for (old, new, kind, line) in SPOILED {
-        let text = WORKED.replacen(rt.alloc(), *old, *new, 1)?;
         let expected = PartFault {
             kind: *kind,
             line: *line,
         };
-        assert!(rt; fault_of(rt.alloc(), &text) == Some(expected), "{text}");
+        assert!(rt;
+            fault_with(&rt, rt.alloc(), *old, *new) == Some(expected),
+            "{old} {new}"
+        );
     }
-    Ok(())
+}
+
+/// Kinds of faults, and what is printed of one at line 3.
+const PRINTED: &[(PartKind, &str)] = &[
+    (PartKind::Heading, "Heading at line 3"),
+    (PartKind::NoSuchTask, "NoSuchTask at line 3"),
+    (PartKind::NoSuchPiece, "NoSuchPiece at line 3"),
+    (PartKind::OtherTask, "OtherTask at line 3"),
+    (PartKind::NotRising, "NotRising at line 3"),
+    (PartKind::DoneAndCut, "DoneAndCut at line 3"),
+    (PartKind::Memory, "Memory at line 3"),
+    (PartKind::Report(ReportKind::NoValues), "NoValues at line 3"),
+];
+
+/// What is printed of a fault at line 3.
+fn printed(rt: &impl Abort, alloc: Global, kind: PartKind) -> String {
+    let fault = PartFault { kind, line: 3 };
+    format!(in alloc; "{fault}").expect(rt, "memory")
 }
 
 #[test]
-fn faults_are_printed(rt: HostRuntime) -> Result<(), Fail> {
-    for (kind, expected) in [
-        (PartKind::Heading, "Heading at line 3"),
-        (PartKind::NoSuchTask, "NoSuchTask at line 3"),
-        (PartKind::NoSuchPiece, "NoSuchPiece at line 3"),
-        (PartKind::OtherTask, "OtherTask at line 3"),
-        (PartKind::NotRising, "NotRising at line 3"),
-        (PartKind::DoneAndCut, "DoneAndCut at line 3"),
-        (PartKind::Memory, "Memory at line 3"),
-        (PartKind::Report(ReportKind::NoValues), "NoValues at line 3"),
-    ] {
-        let fault = PartFault { kind, line: 3 };
-        let text = format!(in rt.alloc(); "{fault}")?;
-        assert!(rt; text.as_str() == expected, "{text}");
+fn faults_are_printed(rt: HostRuntime) {
+    for (kind, expected) in PRINTED {
+        assert!(rt;
+            printed(&rt, rt.alloc(), *kind).as_str() == *expected,
+            "{expected}"
+        );
     }
-    Ok(())
 }
 
 /// The numbers from the first one to before the other.
-fn numbers(alloc: Global, first: u32, end: u32) -> Result<Vec<u32>, Fail> {
+fn numbers(rt: &impl Abort, alloc: Global, first: u32, end: u32) -> Vec<u32> {
     let mut numbers = Vec::new(alloc);
     for number in first..end {
-        numbers.push(number)?;
+        numbers.push(number).expect(rt, "memory");
     }
-    Ok(numbers)
+    numbers
+}
+
+/// The report of a part in which nothing was found.
+fn written_without(
+    rt: &impl Abort,
+    alloc: Global,
+    division: &Division,
+    done: &[u32],
+    cut: &[u32],
+) -> Vec<u8> {
+    let mut out = Device::new(Vec::new(alloc));
+    report_heading(&mut out, division, 0, done, cut).expect(rt, "memory");
+    report_unknown(&mut out).expect(rt, "memory");
+    out.into_inner()
 }
 
 #[test]
-fn long_lines_are_read_back(rt: HostRuntime) -> Result<(), Fail> {
+fn long_lines_are_read_back(rt: HostRuntime) {
     let division = Division {
         instance: DIGEST,
         pieces: 40_000,
@@ -286,15 +323,14 @@ fn long_lines_are_read_back(rt: HostRuntime) -> Result<(), Fail> {
         cubes: Some(DIGEST),
         tasks: 1,
     };
-    let done = numbers(rt.alloc(), 0, 20_000)?;
-    let cut = numbers(rt.alloc(), 20_000, 40_000)?;
-    let mut out = Device::new(Vec::new(rt.alloc()));
-    report_heading(&mut out, &division, 0, &done, &cut)?;
-    report_unknown(&mut out)?;
-    let report = read_again(rt.alloc(), Format::Opb, &out.into_inner())?;
+    let done = numbers(&rt, rt.alloc(), 0, 20_000);
+    let cut = numbers(&rt, rt.alloc(), 20_000, 40_000);
+    let text = written_without(&rt, rt.alloc(), &division, &done, &cut);
+    let report = read_again(rt.alloc(), Format::Opb, &text)
+        .ok()
+        .expect(&rt, "a report");
     assert!(rt; report.heading.division == division && report.heading.task == 0);
     assert!(rt; report.heading.done == done && report.heading.cut == cut);
-    Ok(())
 }
 
 /// A writer that takes no byte.
