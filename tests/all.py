@@ -34,7 +34,7 @@ class Step:
     left_out: str = ""
 
 
-COMPILING = [Step(f"{name}, without proof", f"./build {name}") for name in PROGRAMS]
+COMPILING = [Step(f"{name}, without proof", f"./build {name}") for name in (*PROGRAMS, "bench")]
 STEPS = [
     Step("work", "tests/work.py"),
     Step("proposals", "tests/proposals.py"),
@@ -47,6 +47,7 @@ STEPS = [
     Step("packages", "tests/runs/packages.py", after="library", left_out=NO_LIBRARY),
     Step("python", "tests/runs/python_package.py", after="library", left_out=NO_LIBRARY),
     Step("budgets", "tests/runs/budgets.py"),
+    Step("efforts", "tests/runs/efforts.py"),
     Step("texts", "tests/runs/texts.py"),
     Step("faults", "tests/runs/faults.py"),
     Step("memory", "tests/runs/memory.py"),

@@ -9,6 +9,7 @@ the form of a must-fail edit. Nothing is proved: a plant is a bug that no contra
 
     test CRATE NAME  the tests of that crate whose names contain NAME fail (`rt try --test`)
     work NAME ..     on one of these instances, or of all, a run takes more steps or requests than tests/work.py allows
+    efforts FAMILY   searches of this family take more decisions than tests/runs/efforts.py allows
     requests NAME    on this instance a run makes more requests for memory than tests/work.py allows
     program SCRIPT   the program, built without proof, fails in tests/runs/SCRIPT.py: examples, commands, texts, budgets, faults, threads
                      or memory; a plant in another program than pbcube is tried in that one
@@ -94,6 +95,10 @@ class PlantedCopy(copies.Copy):
         today = work.TODAY[name].requests
         return f"{name}: {requests} requests, where {today} were enough" if requests > today + work.SPARE else None
 
+    def by_efforts(self, *words):
+        _, said = self.run(["tests/runs/efforts.py", self.unproved_program("bench")])
+        return next((line for line in said.splitlines() if f": {' '.join(words)}: " in line), None)
+
     def by_program(self, script, name):
         status, said = self.run([f"tests/runs/{script}.py", self.unproved_program(name)])
         return said.splitlines()[0] if status else None
@@ -111,6 +116,9 @@ def why_not_planted(plant):
         return None if re.search(rf"\bfn \w*{name}\w*\(", code) else f"{crate} has no test {name}"
     if guard in ("work", "requests"):
         return None if set(words) <= set(work.TODAY) else "there is no such instance"
+    if guard == "efforts":
+        script = (TOP / "tests/runs/efforts.py").read_text()
+        return None if f'"{" ".join(words)}": [' in script else "there is no such family"
     return None if guard == "program" and (TOP / f"tests/runs/{words[0]}.py").exists() else f"there is no guard {plant.guard}"
 
 

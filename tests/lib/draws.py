@@ -1,5 +1,6 @@
-"""Draws small instances, the same ones in each run: of a few variables, in OPB and CNF, of which some have no objective; and of up to
-twelve, with an objective, each with cubes and a split to divide it by."""
+"""Draws small instances, the same ones in each run: of a few variables, in OPB and CNF, of which some have no objective; of up to
+twelve, with an objective, each with cubes and a split to divide it by; and, by a generator of its own, of up to eight variables and
+constraints of any form, and of random clauses."""
 import random
 
 from .instance import Instance, value
@@ -82,3 +83,44 @@ def cubes(draw, variables):
         return None
     lines = [[str(literal(draw, variables)) for _ in range(draw.randint(0, 3))] for _ in range(draw.randint(0, 4))]
     return "".join(" ".join(["a", *line, "0\n"]) for line in lines).encode()
+
+
+class Random:
+    """A linear congruential generator, so that what it draws is the same under each version of Python."""
+
+    def __init__(self, state):
+        self.state = state
+
+    def below(self, limit):
+        self.state = (self.state * 6364136223846793005 + 1442695040888963407) % (1 << 64)
+        return (self.state >> 33) % limit
+
+    def literal(self, variables):
+        variable = self.below(variables) + 1
+        return variable if self.below(2) == 0 else -variable
+
+    def terms(self, variables, count):
+        return tuple((self.below(9) - 3, self.literal(variables)) for _ in range(count))
+
+    def of_any_form(self):
+        """An instance of up to eight variables, with an objective, most often, and some constraints."""
+        variables = self.below(8) + 1
+        objective = None if self.below(5) == 0 else self.terms(variables, variables)
+        sums = [self.terms(variables, self.below(5)) for _ in range(self.below(variables + 2))]
+        rows = []
+        for row in sums:
+            bound = self.below(6) - 2
+            rows.append((row, ("=", "<=", ">=", ">=", ">=")[self.below(5)], bound))
+        return Instance(variables, objective, tuple(rows), False)
+
+    def clauses(self, variables, costs, count):
+        """An instance of these costs, if any, and so many clauses of three literals."""
+        rows = [(tuple((1, self.literal(variables)) for _ in range(3)), ">=", 1) for _ in range(count)]
+        return Instance(variables, tuple(costs) or None, tuple(rows), False)
+
+    def division(self, variables):
+        """Some cubes, which may overlap, contradict themselves or be empty, or none, and how many variables are split."""
+        if self.below(2) == 0:
+            return None, self.below(min(variables, 3) + 1)
+        lines = [[str(self.literal(variables)) for _ in range(self.below(4))] for _ in range(self.below(4))]
+        return "".join(" ".join(["a", *line, "0\n"]) for line in lines).encode(), 0

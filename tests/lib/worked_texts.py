@@ -2,6 +2,15 @@
 exit status."""
 from .reports import TIE
 
+def values(variables, true):
+    """The line of the values where these variables alone are true."""
+    return "".join(["v", *(f" {'' if it in true else '-'}x{it}" for it in range(1, variables + 1)), "\n"])
+
+
+def sum_of(coefficient, variables):
+    return b"".join(b" %d x%d" % (coefficient, it) for it in range(1, variables + 1))
+
+
 # A text of two constraints and an objective. Two assignments of three variables cost as little.
 COVER = TIE.encode()
 COVERED = "o 3\ns OPTIMUM FOUND\nv -x1 x2 -x3\n"
@@ -105,6 +114,12 @@ WORKED = [
     ("opb", b"1 x1 >= -85070591730234615865843651857942052863 ;\n", "c refused: TooLarge at line 1\ns UNSUPPORTED\n"),
     # a bad variable before a sum that is too large
     ("opb", b"85070591730234615865843651857942052863 x0 >= 1 ;\n", "c refused: BadVariable at line 1\ns UNSUPPORTED\n"),
+    # a chain of 60 variables, each other than the one before it
+    (
+        "opb",
+        b"1 x1 >= 1 ;\n" + b"".join(b"1 x%d 1 x%d = 1 ;\n" % (it, it + 1) for it in range(1, 60)),
+        "s SATISFIABLE\n" + values(60, range(1, 60, 2)),
+    ),
     # a clause set
     ("cnf", b"p cnf 2 2\n1 2 0\n-1 2 0\n", "s SATISFIABLE\nv -1 2 0\n"),
     # the empty clause
@@ -141,6 +156,8 @@ WORKED = [
 DIVIDED = [
     ("opb", COVER, b"a 1 0\na -1 -3 0\n", 0, COVERED),
     ("opb", COVER, b"c a note\n\na 0\n%\na x\n", 2, COVERED),
+    ("opb", COVER, b"", 3, COVERED),
+    ("opb", CONTRADICTION, b"a 1 0\na -1 0\n", 0, "s UNSATISFIABLE\n"),
     ("opb", COVER, b"a 4 0\n", 0, "c refused cubes: BadVariable at line 1\ns UNSUPPORTED\n"),
     ("opb", COVER, b"a 1 -2 0\n1 0\n", 0, "c refused cubes: Syntax at line 2\ns UNSUPPORTED\n"),
     ("icnf", b"p inccnf\n1 -2 0\n", b"a -2 0\na 3 0\n", 0, "c refused cubes: BadVariable at line 2\ns UNSUPPORTED\n"),
@@ -206,8 +223,10 @@ LONG = [
     (b"9", 1_000_000, b" x1 >= 1 ;", "c refused: TooLarge at line 1\ns UNSUPPORTED\n"),
     # a million zeros before a coefficient
     (b"0", 1_000_000, b"1 x1 >= 1 ;", "s SATISFIABLE\nv x1\n"),
-    # ten thousand variables of the header alone
-    (b"* #variable= 10000 #constraint= 0\n", 1, b"", "s SATISFIABLE\nv" + "".join(f" -x{i}" for i in range(1, 10_001)) + "\n"),
+    # twenty thousand variables of the header alone, with a gain from each, and with one clause over all of them
+    (b"* #variable= 20000 #constraint= 0\n", 1, b"", "s SATISFIABLE\n" + values(20_000, ())),
+    (b"min:" + sum_of(-1, 20_000), 1, b" ;\n", "o -20000\ns OPTIMUM FOUND\n" + values(20_000, range(1, 20_001))),
+    (sum_of(1, 20_000), 1, b" >= 1 ;\n", "s SATISFIABLE\n" + values(20_000, (20_000,))),
 ]
 
 # Files of so many empty cubes beside the cover, with a split of so many variables: as many cubes as there may be, and one beyond.

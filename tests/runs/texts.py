@@ -21,7 +21,7 @@ from pathlib import Path
 sys.dont_write_bytecode = True
 sys.path.insert(0, str(Path(__file__).resolve().parents[1]))
 from lib import PROCESSORS, STATUSES, built, ran
-from lib.draws import drawn, large, small
+from lib.draws import Random, drawn, large, small
 from lib.examples import WORKERS, with_workers
 from lib.formats import Refused, read, read_cubes
 from lib.worked_texts import BAD_SPLIT, BEGINNINGS, CONTRADICTION, COVER, CUBE_FILES, DIVIDED, LONG, MANY_CUBES, SPOILED
@@ -33,6 +33,9 @@ REPLACEMENTS = (b";", b"-", b"\n", b"\xff")  # bytes that end a statement, a num
 INSTANCES = 600  # so many are drawn of each width
 CHANGED = 300  # of so many the numbers are changed too
 FEWEST_OF_A_STATUS = 100  # so many of each width are feasible at least, and so many are not
+OF_ANY_FORM = 600  # instances
+OF_CLAUSES = 40  # instances, of ten variables with four clauses for each, so that many decisions end in a conflict
+OF_BOTH_WIDTHS = 300  # instances
 # What all numbers of an instance are multiplied by, and what every assignment costs beside that: so that 64 bits hold the sums,
 # and so that they do not, all of them, up to not far from the greatest that there may be, or the costs alone.
 CHANGES = {small: [(1, 0), (1 << 70, 0), (1, 1 << 70), (1, -(1 << 70))], large: [(1 << 63, 0)]}
@@ -144,6 +147,40 @@ def with_cost(report, scale, shift):
     return re.sub(r"^o (.+)$", lambda line: f"o {scale * int(line[1]) + shift}", report, flags=re.MULTILINE)
 
 
+def in_pieces(draw, instance):
+    """The instance as one piece, and in random ones."""
+    text, report = instance.text().encode(), instance.report()
+    yield Case("opb", text, report, divisions([0], [1, 2]))
+    cubes, split = draw.division(instance.variables)
+    yield Case("opb", text, report, divisions([split], [1, 2]), cubes)
+
+
+def listed():
+    """Random instances of any form, and of clauses."""
+    draw, feasible = Random(7), 0
+    for _ in range(OF_ANY_FORM):
+        instance = draw.of_any_form()
+        feasible += instance.report() != "s UNSATISFIABLE\n"
+        yield from in_pieces(draw, instance)
+    if not FEWEST_OF_A_STATUS <= feasible <= OF_ANY_FORM - FEWEST_OF_A_STATUS:
+        sys.exit(f"texts: {feasible} of {OF_ANY_FORM} instances of any form are feasible")
+    draw = Random(11)
+    for _ in range(OF_CLAUSES):
+        yield from in_pieces(draw, draw.clauses(10, draw.terms(10, 10), 40))
+
+
+def of_both_widths():
+    """Random instances of any form, and the same with numbers that 64 bits do not hold, every second one in random pieces."""
+    draw = Random(13)
+    for number in range(OF_BOTH_WIDTHS):
+        instance = draw.of_any_form()
+        cubes, split = draw.division(instance.variables) if number % 2 else (None, 0)
+        report = instance.report()
+        for scale in (1, 1 << 70):
+            text = instance.times(scale).text().encode()
+            yield Case("opb", text, with_cost(report, scale, 0), divisions([split], [1, 2]), cubes)
+
+
 def judged(program, folder, number, case):
     """How many runs there were on the case, and what was wrong with them."""
     text, cubes = folder / f"{number}.text", folder / f"{number}.cubes"
@@ -164,7 +201,8 @@ def judged(program, folder, number, case):
 
 def main(words):
     program = os.path.abspath((words or built())[0])
-    families = (longest(), worked(), beginnings(), unchanged(), spoiled(), optima(small), optima(large))  # the slowest runs first
+    drawn_ones = (optima(small), optima(large), listed(), of_both_widths())
+    families = (longest(), worked(), beginnings(), unchanged(), spoiled(), *drawn_ones)  # the slowest runs first
     with tempfile.TemporaryDirectory() as folder, ThreadPoolExecutor(PROCESSORS) as pool:
         cases = enumerate(itertools.chain(*families))
         jobs = [pool.submit(judged, program, Path(folder), number, case) for number, case in cases]

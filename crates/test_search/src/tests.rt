@@ -1,15 +1,13 @@
-//! Searches of worked instances, searches whose share hands over any bits, small instances beside the listing of all
-//! assignments, both widths beside each other, and the order of decisions alone.
+//! Searches of worked instances, searches whose share hands over any bits, questions beside the listing of all assignments, and
+//! the order of decisions alone.
 
 mod budgets;
 mod efforts;
 mod instances;
 mod lenders;
-mod listing;
 mod order;
-mod pieces;
 mod questions;
+mod random;
+mod searches;
 mod shares;
-mod unconstrained;
-mod widths;
 mod worked;

@@ -4,8 +4,8 @@ ghost use Rattle.std.specs.Prelude.{◌≡◌, length};
 ghost use Rattle.pb_questions.specs.Form.{IsFormOf};
 ghost use Rattle.pb_questions.specs.Known.{AreAnswersOf};
 
-use super::instances::{lit, tied};
-use super::listing::Random;
+use super::instances::{lits, tied};
+use super::random::Random;
 use pb_inst::{Assignment, Instance, Lit, Number};
 use pb_normal::normalise;
 use pb_questions::{Among, Explanation, Fixed, KnownAnswers, Questions, VariableStatus};
@@ -33,13 +33,20 @@ fn random_values(rt: &impl Abort, alloc: Global, vars: u32, random: &mut Random)
     values
 }
 
-/// The literals of these numbers.
-fn lits(rt: &impl Abort, alloc: Global, numbers: &[i32]) -> Vec<Lit> {
-    let mut lits = Vec::new(alloc);
-    for number in numbers {
-        lits.push(lit(rt, *number)).expect(rt, "memory");
+/// The variable at the place, from 0 on, is true in these bits.
+fn is_true(bits: u64, place: u32) -> bool {
+    bits.wrapping_shr(place) & 1 == 1
+}
+
+/// Those of the literals that are of so many variables hold in these bits.
+fn holds(assumed: &[Lit], vars: u32, bits: u64) -> bool {
+    for lit in assumed {
+        let var = lit.var();
+        if var <= vars && is_true(bits, var.wrapping_sub(1)) != lit.positive() {
+            return false;
+        }
     }
-    lits
+    true
 }
 
 /// The assignments that are feasible under the literals, each as its cost and its bits, that of variable 1 highest: the first of
@@ -57,10 +64,8 @@ fn listed(
     for number in 0..1u64 << vars {
         assert!(rt; candidate.len() == vars);
         candidate.set_word(0, number);
-        let holds = assumed.iter().all(|lit| lit.var() > vars
-            || (number >> (lit.var() - 1) & 1 == 1) == lit.positive());
         if let Some(cost) = instance.check(&candidate)
-            && holds
+            && holds(assumed, vars, number)
         {
             listed
                 .push((cost, number.reverse_bits()))
@@ -122,43 +127,60 @@ fn expect_explained(
 }
 
 /// The status of the variable at the place in these assignments, of which there is one.
-fn status(bits: &[(Number, u64)], place: u32) -> VariableStatus {
-    let is_true = |entry: &(Number, u64)| entry.1 >> (63 - place % 64) & 1 == 1;
-    if bits.iter().all(is_true) {
-        return VariableStatus::FixedTrue;
+fn status(listed: &[(Number, u64)], place: u32) -> VariableStatus {
+    let mut count = 0usize;
+    for (_, bits) in listed {
+        if is_true(bits.reverse_bits(), place) {
+            count = count.wrapping_add(1);
+        }
     }
-    if bits.iter().any(is_true) {
-        return VariableStatus::Free;
+    if count == listed.len() {
+        VariableStatus::FixedTrue
+    } else if count > 0 {
+        VariableStatus::Free
+    } else {
+        VariableStatus::FixedFalse
     }
-    VariableStatus::FixedFalse
 }
 
-/// The statuses of all variables are those of the listing.
+/// Those of the listed assignments that cost the least.
+fn least_of(rt: &impl Abort, alloc: Global, listed: &[(Number, u64)]) -> Vec<(Number, u64)> {
+    let mut least = Vec::new(alloc);
+    let least_cost = match listed.first() {
+        Some(first) => first.0,
+        None => 0,
+    };
+    for entry in listed {
+        if entry.0 == least_cost {
+            least.push(*entry).expect(rt, "memory");
+        }
+    }
+    least
+}
+
+/// The statuses of all variables are those in these assignments.
 fn expect_fixed(
     rt: &impl Abort,
-    alloc: Global,
     questions: &mut Questions<'_>,
     assumed: &[Lit],
     among: Among,
     listed: &[(Number, u64)],
 ) {
-    let mut asked = Vec::new(alloc);
-    for entry in listed {
-        let is_least = listed.first().is_some_and(|first| first.0 == entry.0);
-        if among == Among::Feasible || is_least {
-            asked.push(*entry).expect(rt, "memory");
+    match questions.fixed(assumed, among, None).expect(rt, "memory") {
+        Fixed::Infeasible => assert!(rt; listed.is_empty()),
+        Fixed::Variables(statuses) => {
+            assert!(rt; !listed.is_empty());
+            expect_statuses(rt, &statuses, listed);
         }
     }
-    match questions.fixed(assumed, among, None).expect(rt, "memory") {
-        Fixed::Infeasible => assert!(rt; asked.is_empty()),
-        Fixed::Variables(statuses) => {
-            assert!(rt; !asked.is_empty());
-            let mut place = 0u32;
-            for got in &statuses {
-                assert!(rt; *got == status(&asked, place));
-                place = place.wrapping_add(1);
-            }
-        }
+}
+
+/// These statuses, from the first variable on, are those in these assignments.
+fn expect_statuses(rt: &impl Abort, statuses: &[VariableStatus], listed: &[(Number, u64)]) {
+    let mut place = 0u32;
+    for got in statuses {
+        assert!(rt; *got == status(listed, place));
+        place = place.wrapping_add(1);
     }
 }
 
@@ -174,8 +196,9 @@ fn expect_all(
     expect_least(rt, questions, assumed, &listed);
     let is_feasible = !listed.is_empty();
     expect_explained(rt, alloc, instance, questions, assumed, is_feasible);
-    expect_fixed(rt, alloc, questions, assumed, Among::Feasible, &listed);
-    expect_fixed(rt, alloc, questions, assumed, Among::Least, &listed);
+    expect_fixed(rt, questions, assumed, Among::Feasible, &listed);
+    let least = least_of(rt, alloc, &listed);
+    expect_fixed(rt, questions, assumed, Among::Least, &least);
 }
 
 /// Room for answers on the instance.
@@ -244,6 +267,12 @@ fn questions_are_answered_as_the_listing_does(rt: HostRuntime) {
     }
 }
 
+/// The budget cuts the question for the least assignment, or it does not.
+fn expect_cut(rt: &impl Abort, questions: &mut Questions<'_>, nodes: Option<u64>, is_cut: bool) {
+    let answer = questions.solve_under(&[], nodes).expect(rt, "memory");
+    assert!(rt; answer.cut == is_cut);
+}
+
 /// Without a decision a question that needs one is cut, and the next one is answered in full.
 #[test]
 fn a_cut_question_spoils_none(rt: HostRuntime) {
@@ -252,8 +281,7 @@ fn a_cut_question_spoils_none(rt: HostRuntime) {
     let search = search_of(&rt, alloc, &tied);
     let known = known_on(&rt, alloc, &tied);
     let mut questions = Questions::new(alloc, &tied, search, known, None);
-    let cut = questions.solve_under(&[], Some(0)).expect(&rt, "memory");
-    assert!(rt; cut.cut);
+    expect_cut(&rt, &mut questions, Some(0), true);
     for numbers in [&[][..], &[-2], &[-1, -2], &[1, -1], &[9, -9]] {
         let assumed = lits(&rt, alloc, numbers);
         expect_all(&rt, alloc, &tied, &mut questions, &assumed);
@@ -268,8 +296,7 @@ fn what_is_known_takes_no_decision(rt: HostRuntime) {
     let search = search_of(&rt, alloc, &tied);
     let known = known_on(&rt, alloc, &tied);
     let mut questions = Questions::new(alloc, &tied, search, known, None);
-    for (nodes, is_cut) in [(Some(0), true), (None, false), (Some(0), false)] {
-        let answer = questions.solve_under(&[], nodes).expect(&rt, "memory");
-        assert!(rt; answer.cut == is_cut);
-    }
+    expect_cut(&rt, &mut questions, Some(0), true);
+    expect_cut(&rt, &mut questions, None, false);
+    expect_cut(&rt, &mut questions, Some(0), false);
 }

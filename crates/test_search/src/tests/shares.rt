@@ -1,20 +1,34 @@
 //! What a search makes of the bits that are handed over, and what it tells its share.
 
 use super::instances::{
-    Row, assignment, cover, crowd_behind_ring, dense_cover, found, instance, nothing, ring,
-    search_pieces, solution, tied,
+    Row, add_ring, assignment, costing, crowd, finished, instance, ring_cover, tied,
 };
-use super::lenders::{InTurn, Lender};
-use pb_cubes::Pieces;
+use super::lenders::{Lender, Notes};
+use super::searches::{found_after, holding, search_whole, solution};
 use pb_inst::{Assignment, Instance, Number, Relation, SUM_BOUND};
 use std::alloc::Global;
 use std::process::Abort;
 
+/// What is found where these assignments are handed over in turn, and how often the search asks for them.
+fn found_with(
+    rt: &impl Abort,
+    alloc: Global,
+    instance: &Instance,
+    lent: Vec<Assignment>,
+) -> (String, u64) {
+    let mut share = Lender::new(lent, false);
+    let held = found_after(rt, alloc, instance, None, &mut share);
+    (held, share.notes.asked)
+}
+
 /// What the search of the tied instance ends with, where it is lent the assignment that makes these variables alone true.
 fn found_with_lent(rt: &impl Abort, alloc: Global, made_true: &[u32]) -> String {
     let tied = tied(rt, alloc);
-    let lent = assignment(rt, alloc, 3, made_true);
-    found(rt, alloc, &tied, Vec::new(alloc), &mut Lender { lent })
+    let mut lent = Vec::new(alloc);
+    lent.push(assignment(rt, alloc, 3, made_true))
+        .expect(rt, "memory");
+    let (held, _) = found_with(rt, alloc, &tied, lent);
+    held
 }
 
 #[test]
@@ -38,17 +52,19 @@ fn first_or_last(rt: &impl Abort, alloc: Global) -> Instance {
 
 /// Of 65 variables the first and the last are true, or none, or the first alone, or all.
 fn some_of_all(rt: &impl Abort, alloc: Global, number: u32) -> Assignment {
-    let mut all = Vec::new(alloc);
+    let mut list = Vec::new(alloc);
     for place in 0..65u32 {
-        all.push(place + 1).expect(rt, "memory");
+        let is_true = match number % 4 {
+            0 => place == 0 || place == 64,
+            1 => false,
+            2 => place == 0,
+            _ => true,
+        };
+        if is_true {
+            list.push(place + 1).expect(rt, "memory");
+        }
     }
-    let list: &[u32] = match number % 4 {
-        0 => &[1, 65],
-        1 => &[],
-        2 => &[1],
-        _ => all.as_slice(),
-    };
-    assignment(rt, alloc, 65, list)
+    assignment(rt, alloc, 65, &list)
 }
 
 /// Four assignments in turn, beginning at one of them.
@@ -67,22 +83,21 @@ fn assignments_handed_over_in_turn(rt: HostRuntime) {
     let alloc = rt.alloc();
     let one_of_two = first_or_last(&rt, alloc);
     for first in 0..4u32 {
-        let mut share = InTurn::new(turns(&rt, alloc, first));
-        let held = found(&rt, alloc, &one_of_two, Vec::new(alloc), &mut share);
+        let lent = turns(&rt, alloc, first);
+        let (held, _) = found_with(&rt, alloc, &one_of_two, lent);
         assert!(rt; held.as_str() == "1: x65", "from {first}");
     }
 }
 
 /// What the share was asked and told by so many searches of the tied instance, each with what the one before it left.
-fn told_by_searches(rt: &impl Abort, alloc: Global, count: u32) -> InTurn {
+fn told_by_searches(rt: &impl Abort, alloc: Global, count: u32) -> Notes {
     let tied = tied(rt, alloc);
-    let pieces = Pieces::new(3, Vec::new(alloc)).expect(rt, "pieces");
-    let mut share = InTurn::new(Vec::new(alloc));
-    let mut best = nothing(rt, alloc, &tied);
+    let mut share = Lender::alone(alloc);
+    let mut best = holding(rt, alloc, &tied, None);
     for _turn in 0..count {
-        search_pieces(rt, alloc, &tied, &pieces, 0, 1, &mut best, &mut share);
+        search_whole(rt, alloc, &tied, None, &mut best, &mut share);
     }
-    share
+    share.notes
 }
 
 /// The share is asked at the beginning, when nothing is held, and is told of what the search found itself. What is held
@@ -104,13 +119,14 @@ fn the_share_is_asked_and_told(rt: HostRuntime) {
 #[test]
 fn the_share_is_asked_on_the_way(rt: HostRuntime) {
     let alloc = rt.alloc();
-    let crowded = crowd_behind_ring(&rt, alloc, 56, 0, 7);
-    let mut share = InTurn::new(Vec::new(alloc));
-    let held = found(&rt, alloc, &crowded, Vec::new(alloc), &mut share);
+    let crowded = crowd(&rt, alloc, 7);
+    let mut share = Lender::alone(alloc);
+    let held = found_after(&rt, alloc, &crowded, None, &mut share);
     assert!(rt; held.as_str() == "none");
-    assert!(rt; share.asked > 10);
-    assert!(rt; share.asked <= 1200);
-    assert!(rt; share.offered == 0);
+    let notes = share.notes;
+    assert!(rt; notes.asked > 10);
+    assert!(rt; notes.asked <= 1200);
+    assert!(rt; notes.offered == 0);
 }
 
 /// What is found where these assignments are handed over in turn. The search asks for more than five of them, and for so
@@ -122,11 +138,8 @@ fn found_on_the_way(
     lent: Vec<Assignment>,
     most: u64,
 ) -> String {
-    let mut share = InTurn::new(lent);
-    let held = found(rt, alloc, instance, Vec::new(alloc), &mut share);
-    let asked = share.asked;
-    assert!(rt; asked > 5, "asked {asked} times");
-    assert!(rt; asked <= most, "asked {asked} times");
+    let (held, asked) = found_with(rt, alloc, instance, lent);
+    assert!(rt; 5 < asked && asked <= most, "asked {asked} times");
     held
 }
 
@@ -142,17 +155,22 @@ fn nearly_all(rt: &impl Abort, alloc: Global, free: u32) -> Assignment {
     assignment(rt, alloc, 120, &list)
 }
 
+/// The twelve of these.
+fn nearly_all_in_turn(rt: &impl Abort, alloc: Global) -> Vec<Assignment> {
+    let mut lent = Vec::new(alloc);
+    for free in 0..12u32 {
+        lent.push(nearly_all(rt, alloc, free)).expect(rt, "memory");
+    }
+    lent
+}
+
 /// Whatever is handed over on the way, the answer is the same.
 #[test]
 fn assignments_handed_over_on_the_way(rt: HostRuntime) {
     let alloc = rt.alloc();
-    let cover = dense_cover(&rt, alloc, 120);
+    let cover = ring_cover(&rt, alloc, 120, &[1, 2, 5, 11]);
     let want = found_on_the_way(&rt, alloc, &cover, Vec::new(alloc), 28);
-    let mut lent = Vec::new(alloc);
-    for free in 0..12u32 {
-        lent.push(nearly_all(&rt, alloc, free))
-            .expect(&rt, "memory");
-    }
+    let lent = nearly_all_in_turn(&rt, alloc);
     let held = found_on_the_way(&rt, alloc, &cover, lent, 28);
     assert!(rt; held.as_str() == want.as_str());
 }
@@ -164,12 +182,10 @@ fn two_of_three(rt: &impl Abort, alloc: Global) -> Instance {
     for place in 0..40i32 {
         costs.push((1, place + 1)).expect(rt, "memory");
     }
-    let mut pairs = ring(rt, alloc, 40, &[1, 2]);
-    let again = ring(rt, alloc, 40, &[1, 2]);
-    for pair in again.iter().skip(40) {
-        pairs.push(*pair).expect(rt, "memory");
-    }
-    cover(rt, alloc, 40, &costs, &pairs)
+    let mut builder = costing(rt, alloc, &costs);
+    add_ring(rt, alloc, &mut builder, 40, 0, &[1, 2]);
+    add_ring(rt, alloc, &mut builder, 40, 20, &[1, 2]);
+    finished(rt, builder, 40)
 }
 
 /// The least choice of two of three, turned round the ring so far.
@@ -184,15 +200,21 @@ fn turned(rt: &impl Abort, alloc: Global, turn: u32) -> Assignment {
     assignment(rt, alloc, 40, &list)
 }
 
+/// All other turns of it.
+fn turned_in_turn(rt: &impl Abort, alloc: Global) -> Vec<Assignment> {
+    let mut lent = Vec::new(alloc);
+    for turn in 1..40u32 {
+        lent.push(turned(rt, alloc, turn)).expect(rt, "memory");
+    }
+    lent
+}
+
 /// Turned round the ring a choice costs the same, so what is handed over on the way may come before the best so far.
 #[test]
 fn equal_costs_handed_over_on_the_way(rt: HostRuntime) {
     let alloc = rt.alloc();
     let cover = two_of_three(&rt, alloc);
-    let mut lent = Vec::new(alloc);
-    for turn in 1..40u32 {
-        lent.push(turned(&rt, alloc, turn)).expect(&rt, "memory");
-    }
+    let lent = turned_in_turn(&rt, alloc);
     let held = found_on_the_way(&rt, alloc, &cover, lent, 160);
     let want = solution(&rt, alloc, 27, &turned(&rt, alloc, 0));
     assert!(rt; held.as_str() == want.as_str());

@@ -1,0 +1,143 @@
+#!/usr/bin/env python3
+"""Searches worked instances by `bench search`, and prints where that takes more decisions than it is to take.
+
+    tests/runs/efforts.py [PROGRAM ..]
+    tests/runs/efforts.py --measure [PROGRAM]
+
+A PROGRAM is a build of `bench`; without one it takes those that the merge gate built. Each family needs a part of the search that
+others can do without; its comment tells how many times as many decisions it takes where that part is lost. A search makes the same
+decisions in each run, so that their number needs no clock. With --measure it prints the decisions of today in place of the bounds.
+"""
+import re
+import subprocess
+import sys
+import tempfile
+from dataclasses import dataclass
+from pathlib import Path
+
+sys.dont_write_bytecode = True
+sys.path.insert(0, str(Path(__file__).resolve().parents[1]))
+from lib import SECONDS, built, ran, side_by_side
+from lib.draws import Random
+from lib.efforts import chain, crowd_behind_ring, failing_behind_ring, filled_cover, gated_cover, packing, ring_cover, schedule
+
+
+@dataclass(frozen=True)
+class Effort:
+    """Instances, and how many decisions the searches of all of them may take together."""
+
+    most: int
+    instances: list
+
+
+def clauses(state, variables, count, costs=()):
+    """Random clauses of three literals, and these costs of variables."""
+    return Random(state).clauses(variables, costs, count)
+
+
+def few_costs(state):
+    """375 random clauses over 150 variables, of which every fifth costs something, from 1 to 7."""
+    return clauses(state, 150, 375, [(place % 7 + 1, place + 1) for place in range(0, 150, 5)])
+
+
+FAMILIES = {
+    # Propagation gives all its values.
+    "a chain needs no more than propagation": [Effort(0, [chain(60)])],
+    # Pigeons without room behind a ring whose variables occur more often. After the first conflicts the pigeons come before the
+    # ring; else choices on the ring search them anew, which takes twenty times as many decisions.
+    "conflicts bring their variables forward": [Effort(1_780, [crowd_behind_ring(20, 4)])],
+    # Short rings are searched soon, where the dear and the much needed are decided first.
+    "costs and occurrences lead the search": [Effort(380, [ring_cover(size) for size in (36, 40, 44, 48)])],
+    # Without the bound of the multipliers five longer rings take over a thousand times as many decisions, and where the search does
+    # not step back to its root at the first solution four times as many.
+    "multipliers keep long rings short": [Effort(3_270, [ring_cover(size) for size in (80, 120, 160, 200, 240)])],
+    # Where the search dives from its root the least cost of still longer rings is known at once; else two of them take over six
+    # times as many decisions.
+    "dives find the least cost early": [Effort(2_880, [ring_cover(size) for size in (390, 500)])],
+    # With a budget a dive turns where the bound tells that nothing below costs less than what is held; else a ring takes seven
+    # decisions more.
+    "dives wait for the bound": [Effort(1_141, [ring_cover(420)])],
+    # Once the gates are known to be closed, the multipliers are improved beside what that leaves. Beside no literal at all they count
+    # on open gates, and the covers take fifty times as many decisions. Where gates are not tried at the root, or the search does not
+    # dive from there, it is over twice as many.
+    "multipliers follow what the root forces": [Effort(740, [gated_cover(size, 8) for size in (60, 80)])],
+    # Where the best cost falls at the root, or its trail grows, all multipliers are improved anew. Else covers with one gate take five
+    # times as many decisions.
+    "multipliers are improved anew at the root": [Effort(465, [gated_cover(size, 1) for size in (60, 80, 100)])],
+    # What the root forces leaves rows that need less than their coefficients. With these as they are the relaxation is a fourth of what
+    # it could be, and the two covers take a hundred times as many decisions.
+    "rows count no more than what they need": [Effort(340, [filled_cover(size) for size in (80, 90)])],
+    # The first-order method comes near to the best multipliers of jobs that are in each other's way, which one row after the other does
+    # not: without it three schedules take eighteen times as many decisions.
+    "all rows are shifted at once": [Effort(270, [schedule(jobs) for jobs in (5, 6, 7)])],
+    # A literal that fails at the root is not met again below each decision on the ring, of which there are 600; else it takes five times
+    # as many.
+    "literals that fail are fixed": [Effort(780, [failing_behind_ring()])],
+    # Thirteen things find no room in four bins of three each. Thing by thing two million decisions tell that; the multipliers do once
+    # the search has gone on for a while.
+    "a packing without room is refuted": [Effort(2_820, [packing(13, 4, 3)])],
+    # A few clauses leave most values free, so after the first solution only the order of assignments is left. Settled anew below each
+    # decision of the first way down it takes ten times as many decisions.
+    "ties are settled once": [Effort(6_080, [clauses(1, 300, 750)])],
+    # Where nearly all values are free they are settled in order, from the first variable to the last. Up to the first difference alone
+    # that takes nineteen times as many decisions, since each improvement begins it again.
+    "ties are settled in order": [Effort(900, [clauses(1, 400, 800)])],
+    # Before the first difference to the best assignment a variable has nothing to give where it is true. Tried with both values they
+    # take five times as many decisions.
+    "ties have one side": [Effort(1_600, [clauses(9, 180, 650)])],
+    # The same where some variables cost something, and the least cost is found soon. Where the search does not step back to its root it
+    # takes six times as many decisions, and where conflicts bring no variables forward seven times as many.
+    "ties of a cost are settled once": [Effort(5_100, [clauses(1, 300, 750, [(1, place) for place in range(291, 301)])])],
+    # Clauses without a solution. Where what led to a conflict does not come forward with the row that could not be met, that takes three
+    # times as many decisions, and so it does where what was long ago counts for as much.
+    "what led to conflicts comes forward": [Effort(3_970, [clauses(25, 130, 570)])],
+    # Decided first, a few variables with a cost tell early what the rest will cost. Else one search takes nine times as many decisions,
+    # and the other five times.
+    "few costs come first": [Effort(175, [few_costs(4)]), Effort(320, [few_costs(52)])],
+    # Of two values the one that costs less by the multipliers is decided first. Else one search takes six times as many decisions, and
+    # the other nearly ten times.
+    "the cheaper value comes first": [Effort(240, [few_costs(12)]), Effort(410, [few_costs(23)])],
+}
+
+
+def decisions(program, folder, name, instance):
+    """How many decisions the search of the instance takes; none where the program does not tell in time."""
+    file = folder / f"{program.name}-{name}.opb"
+    file.write_text(instance.text())
+    try:
+        said = ran([program, "search", file]).err
+    except subprocess.TimeoutExpired:
+        said = ""
+    told = re.match(r"cost .+, (\d+) decisions, ", said)
+    return int(told[1]) if told else None
+
+
+def counted(program, folder, name, effort):
+    """The same of all instances of the effort together."""
+    counts = [decisions(program, folder, f"{name}-{number}", it) for number, it in enumerate(effort.instances)]
+    return None if None in counts else sum(counts)
+
+
+def complaint(family, effort, count):
+    """What is wrong with so many decisions, or None."""
+    if count is None:
+        return f"{family}: no count within {SECONDS} seconds"
+    return f"{family}: {count} decisions, where {effort.most} are enough" if count > effort.most else None
+
+
+def main(words):
+    programs = [Path(it).absolute() for it in words if it != "--measure"] or built(["bench"])
+    jobs = [(it, family, effort) for it in programs for family, efforts in FAMILIES.items() for effort in efforts]
+    with tempfile.TemporaryDirectory() as folder:
+        counts = side_by_side(lambda number, job: counted(job[0], Path(folder), number, job[2]), range(len(jobs)), jobs)
+    if "--measure" in words:
+        print(*[f"{family}: {count} of {effort.most}" for (_, family, effort), count in zip(jobs, counts)], sep="\n")
+        return 0
+    said = [complaint(family, effort, count) for (_, family, effort), count in zip(jobs, counts)]
+    wrong = [f"efforts: {program.name}: {it}" for (program, _, _), it in zip(jobs, said) if it]
+    print(*wrong, f"efforts: {len(jobs) - len(wrong)} passed, {len(wrong)} failed", sep="\n")
+    return 1 if wrong else 0
+
+
+if __name__ == "__main__":
+    sys.exit(main(sys.argv[1:]))
