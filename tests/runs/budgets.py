@@ -9,6 +9,7 @@ to 20, and with some of them in pieces and with two workers. The numbers of some
 `s UNSATISFIABLE` must be the whole answer; with `s SATISFIABLE` the values must be feasible and the `o` line their cost; `s UNKNOWN`
 stands alone. With one worker a greater budget never does worse, and once it is enough it stays so. Where some assignments are pieces
 of their own, a run that makes no decision tells the first of these, or the whole answer where the other piece needs no decision.
+Two worked instances end within a budget that is enough only where each decision has a bound before it.
 """
 import random
 import sys
@@ -21,6 +22,7 @@ sys.dont_write_bytecode = True
 sys.path.insert(0, str(Path(__file__).resolve().parents[1]))
 from lib import PROCESSORS, STATUSES, built, ran
 from lib.draws import instances
+from lib.efforts import ring_cover
 from lib.reports import values_line
 
 INSTANCES = 300
@@ -28,6 +30,25 @@ GIVEN = 3  # assignments that are pieces of their own
 BUDGETS = range(21)
 AMPLE = 1000  # more than any of these instances needs
 UNKNOWN = "s UNKNOWN\n"
+
+# A cover whose search comes to a tie of several variables.
+TIED = """\
+min: 1 x1 1 x2 1 x3 1 x4 1 x5 1 x6 1 x7 1 x8 1 x9 1 x10 1 x11 ;
+1 x2 1 x4 1 x6 1 x7 >= 2 ;
+1 x10 1 x9 1 x8 1 x7 >= 1 ;
+1 x8 1 x5 1 x10 1 x1 >= 1 ;
+1 ~x7 1 x10 1 ~x11 1 x9 >= 2 ;
+1 ~x1 1 x10 1 x6 1 x4 >= 1 ;
+1 x6 1 ~x3 1 x10 1 x2 >= 1 ;
+1 x3 1 x7 1 x2 1 x6 >= 1 ;
+1 x8 1 x3 1 x4 1 x2 >= 2 ;
+1 x11 1 x7 1 x5 1 ~x2 >= 2 ;
+1 ~x8 1 x4 1 x9 1 x6 >= 2 ;
+"""
+# Budgets that are enough for these, where each decision has a bound before it. Where a bound from above is used again at a tie, the
+# first one takes a decision more. Where a dive goes on though the bound tells that nothing below it costs less than what is held,
+# the ring takes seven more.
+ENOUGH = [("a tie", TIED, 22), ("a dive", ring_cover(420).text(), 1141)]
 
 
 def found(instance, report):
@@ -116,6 +137,15 @@ def judged(program, folder, number, instance):
     return len(divisions) + 3, [f"{what}: {why}\n{instance.text()}" for what, why in wrong]
 
 
+def cut_though_enough(program, folder):
+    """What of the worked instances was cut, though its budget is enough."""
+    for name, text, budget in ENOUGH:
+        file = folder / f"{Path(program).name}_{name.replace(' ', '_')}.opb"
+        file.write_text(text)
+        if ran([program, "--nodes", str(budget), file]).status != STATUSES["s OPTIMUM FOUND"]:
+            yield f"{Path(program).name}: {name}: {budget} decisions are not enough"
+
+
 def main(programs):
     runs, failed = 0, 0
     with tempfile.TemporaryDirectory() as folder, ThreadPoolExecutor(PROCESSORS) as pool:
@@ -125,6 +155,9 @@ def main(programs):
             runs, failed = runs + count, failed + len(wrong)
             for text in wrong:
                 print(f"budgets: {text}")
+        for text in [it for program in programs or built() for it in cut_though_enough(program, Path(folder))]:
+            failed += 1
+            print(f"budgets: {text}")
     print(f"budgets: {runs} runs on {INSTANCES} instances, {failed} failed")
     return 1 if failed else 0
 

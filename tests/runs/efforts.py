@@ -54,9 +54,6 @@ FAMILIES = {
     # Where the search dives from its root the least cost of still longer rings is known at once; else two of them take over six
     # times as many decisions.
     "dives find the least cost early": [Effort(2_880, [ring_cover(size) for size in (390, 500)])],
-    # With a budget a dive turns where the bound tells that nothing below costs less than what is held; else a ring takes seven
-    # decisions more.
-    "dives wait for the bound": [Effort(1_141, [ring_cover(420)])],
     # Once the gates are known to be closed, the multipliers are improved beside what that leaves. Beside no literal at all they count
     # on open gates, and the covers take fifty times as many decisions. Where gates are not tried at the root, or the search does not
     # dive from there, it is over twice as many.
