@@ -22,8 +22,8 @@ class Instance:
 
     def text(self):
         if self.is_cnf:
-            clauses = [" ".join(str(literal) for _, literal in terms) for terms, _, _ in self.constraints]
-            return "".join([f"p cnf {self.variables} {len(clauses)}\n", *(f"{clause} 0\n" for clause in clauses)])
+            clauses = ["".join(f"{literal} " for _, literal in terms) for terms, _, _ in self.constraints]
+            return "".join([f"p cnf {self.variables} {len(clauses)}\n", *(f"{clause}0\n" for clause in clauses)])
         lines = [f"* #variable= {self.variables} #constraint= {len(self.constraints)}\n"]
         if self.objective is not None:
             lines.append(f"min: {written(self.objective)};\n")

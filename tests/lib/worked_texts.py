@@ -1,6 +1,7 @@
 """Texts that were worked by hand, with the reports that they are owed: the tables of tests/runs/texts.py. A report's `s` line tells the
 exit status."""
 from .reports import TIE
+from .spelled_texts import CNF, ICNF, OPB
 
 def values(variables, true):
     """The line of the values where these variables alone are true."""
@@ -17,6 +18,12 @@ COVERED = "o 3\ns OPTIMUM FOUND\nv -x1 x2 -x3\n"
 CONTRADICTION = b"1 x1 >= 1 ;\n1 x1 = 0 ;\n"
 CLAUSE_AND_CUBE = b"p inccnf\n1 2 0\na 1 0\n"
 BAD_SPLIT = "c refused split: BadSplit\ns UNSUPPORTED\n"
+NO_HEADER = b"1 2 0\n"
+REFUSED_HEADER = "c refused: BadHeader at line 1\ns UNSUPPORTED\n"
+# Two variables that nothing constrains. A decision gives each its value, and the bound closes both second values.
+FREE_PAIR = b"min: 1 x1 1 x2 ;\n1 x1 1 x2 >= 0 ;\n"
+FREE = "o 0\ns OPTIMUM FOUND\nv -x1 -x2\n"
+UNKNOWN = "s UNKNOWN\n"
 
 # The format, the text and the report.
 WORKED = [
@@ -140,6 +147,8 @@ WORKED = [
     ("icnf", b"p inccnf\n1 2\na 1 0\n", "c refused: Unfinished at line 2\ns UNSUPPORTED\n"),
     # the empty text as CNF
     ("cnf", b"", "c refused: BadHeader at line 1\ns UNSUPPORTED\n"),
+    # a clause without a header
+    ("cnf", NO_HEADER, REFUSED_HEADER),
     # a variable of a cube alone
     ("icnf", b"p inccnf\n1 0\na -3 0\n", "s SATISFIABLE\nv 1 -2 -3 0\n"),
     # a clause over two lines and the empty cube
@@ -150,6 +159,48 @@ WORKED = [
     ("cnf", b"p cnf 2 1\n-0\n", "c refused: Unfinished at line 2\ns UNSUPPORTED\n"),
     # a zero with a sign before the end
     ("cnf", b"p cnf 2 1\n-0 0\n", "c refused: Syntax at line 2\ns UNSUPPORTED\n"),
+    # more texts that are refused, some with a fault that comes after another one
+    ("opb", b";", "c refused: Syntax at line 1\ns UNSUPPORTED\n"),
+    ("opb", b"\n\nmax: 1 x1 ;", "c refused: Syntax at line 3\ns UNSUPPORTED\n"),
+    ("opb", b"min: 1 x1 ;\nmin: 1 x1 ;", "c refused: LateObjective at line 2\ns UNSUPPORTED\n"),
+    ("opb", b"1 x1048577 >= 0 ;", "c refused: BadVariable at line 1\ns UNSUPPORTED\n"),
+    ("opb", b"1 x0 x1 >= 1", "c refused: Unfinished at line 1\ns UNSUPPORTED\n"),
+    ("opb", b"1 x0 x1 >= 1 ;", "c refused: NonLinear at line 1\ns UNSUPPORTED\n"),
+    ("opb", b"x1 >= 1 ;", "c refused: Syntax at line 1\ns UNSUPPORTED\n"),
+    ("opb", b"1 x1 >= ;", "c refused: Syntax at line 1\ns UNSUPPORTED\n"),
+    ("opb", b">= 1 ;\n\n1x1\n>= 1 ;", "c refused: Syntax at line 3\ns UNSUPPORTED\n"),
+    ("opb", b"1~x1 >= 1 ;", "c refused: Syntax at line 1\ns UNSUPPORTED\n"),
+    ("opb", b"+ 1 x1 >= 1 ;", "c refused: Syntax at line 1\ns UNSUPPORTED\n"),
+    ("opb", b"1 x1-2 >= 1 ;", "c refused: Syntax at line 1\ns UNSUPPORTED\n"),
+    ("opb", b"+1*x1 >= 1 ;", "c refused: Syntax at line 1\ns UNSUPPORTED\n"),
+    ("cnf", b"p cnf 1 1\n2 0", "c refused: BadVariable at line 2\ns UNSUPPORTED\n"),
+    ("cnf", b"p cnf 1 1\n1", "c refused: Unfinished at line 2\ns UNSUPPORTED\n"),
+    ("cnf", b"p dnf 1 1", "c refused: BadHeader at line 1\ns UNSUPPORTED\n"),
+    ("cnf", b"p inccnf\n1 0\n", "c refused: BadHeader at line 1\ns UNSUPPORTED\n"),
+    ("cnf", b"c\n\np cnf 1 1 1\n1 0\n", "c refused: BadHeader at line 3\ns UNSUPPORTED\n"),
+    ("cnf", b"c one\n%\np cnf 0 0\n", "c refused: BadHeader at line 1\ns UNSUPPORTED\n"),
+    ("cnf", b"p cnf 1048577 1\n1 0\n", "c refused: TooMany at line 1\ns UNSUPPORTED\n"),
+    ("cnf", b"p cnf 1 4194305\n1 0\n", "c refused: TooMany at line 1\ns UNSUPPORTED\n"),
+    ("cnf", b"p cnf 99999999999999999999 1\n1 0\n", "c refused: TooMany at line 1\ns UNSUPPORTED\n"),
+    ("cnf", b"p cnf 1 1\n99999999999999999999\n0\n", "c refused: BadVariable at line 2\ns UNSUPPORTED\n"),
+    ("cnf", b"p cnf 1 0\n1 x", "c refused: TooManyClauses at line 2\ns UNSUPPORTED\n"),
+    ("cnf", b"p cnf 1 2\n1 0\n+1\n0", "c refused: Syntax at line 3\ns UNSUPPORTED\n"),
+    ("cnf", b"p cnf 1 3\n1 0\nc\n1 0 %\n%\n", "c refused: Unfinished at line 4\ns UNSUPPORTED\n"),
+    ("cnf", b"p cnf 1 1\na 1 0\n", "c refused: Syntax at line 2\ns UNSUPPORTED\n"),
+    ("icnf", b"p inccnf\n1 0\na 1 0\nx\na 0\n", "c refused: ClauseAfterCube at line 4\ns UNSUPPORTED\n"),
+    ("icnf", b"p inccnf\na 1\n0", "c refused: Unfinished at line 2\ns UNSUPPORTED\n"),
+    ("icnf", b"p inccnf\na 1 0 2 0", "c refused: Syntax at line 2\ns UNSUPPORTED\n"),
+    ("icnf", b"p inccnf\n1048577 0\n", "c refused: BadVariable at line 2\ns UNSUPPORTED\n"),
+    ("icnf", b"p inccnf\na x 0\na 1\n", "c refused: Syntax at line 2\ns UNSUPPORTED\n"),
+    ("icnf", b"p inccnf 1\n1 0\n", "c refused: BadHeader at line 1\ns UNSUPPORTED\n"),
+    ("icnf", b"\nc\n", "c refused: BadHeader at line 2\ns UNSUPPORTED\n"),
+    # texts of another format
+    ("opb", CNF, "c refused: Unfinished at line 1\ns UNSUPPORTED\n"),
+    ("opb", ICNF, "c refused: Unfinished at line 1\ns UNSUPPORTED\n"),
+    ("cnf", OPB, REFUSED_HEADER),
+    ("cnf", ICNF, REFUSED_HEADER),
+    ("icnf", OPB, REFUSED_HEADER),
+    ("icnf", CNF, REFUSED_HEADER),
 ]
 
 # The same with a file of cubes and a split, of which the text is refused first and the split last.
@@ -163,7 +214,45 @@ DIVIDED = [
     ("icnf", b"p inccnf\n1 -2 0\n", b"a -2 0\na 3 0\n", 0, "c refused cubes: BadVariable at line 2\ns UNSUPPORTED\n"),
     ("opb", CONTRADICTION, b"", 2, BAD_SPLIT),
     ("opb", b"1 x1 x2 >= 1 ;\n", b"a 9 0\n", 12, "c refused: NonLinear at line 1\ns UNSUPPORTED\n"),
+    ("opb", COVER, b"a 1 -2 0\n1 0", 0, "c refused cubes: Syntax at line 2\ns UNSUPPORTED\n"),
+    ("opb", COVER, b"p inccnf\na 0\n", 0, "c refused cubes: Syntax at line 1\ns UNSUPPORTED\n"),
+    ("opb", COVER, b"aa 0\n", 0, "c refused cubes: Syntax at line 1\ns UNSUPPORTED\n"),
+    ("opb", COVER, b"a 1 -0 0\n", 0, "c refused cubes: Syntax at line 1\ns UNSUPPORTED\n"),
+    # cubes of seventeen literals, which take memory of their own
+    ("opb", COVER, b"a" + 16 * b" 1" + b" 2 0\n", 0, COVERED),
+    ("opb", COVER, b"a" + 16 * b" 1" + b" -2 0\na 0\n", 1, COVERED),
 ]
+
+# Texts, each with a file of cubes or none and a budget of decisions in each piece: the report that is owed, and which pieces are cut.
+BUDGETED = [
+    # each of two pieces has the budget for itself: a decision in either ends it, and nothing remains
+    ("opb", FREE_PAIR, b"a 1 0\na -1 0\n", 1, FREE, []),
+    # propagation alone ends these
+    ("opb", CONTRADICTION, None, 0, "s UNSATISFIABLE\n", []),
+    ("opb", b"9223372036854775806 x1 >= 1 ;\n", None, 0, "s SATISFIABLE\nv x1\n", []),
+    ("opb", b"min: ;\n", None, 0, "o 0\ns OPTIMUM FOUND\nv\n", []),
+    # what is refused is never cut
+    ("opb", b"1 x1 x2 >= 1 ;\n", None, 0, "c refused: NonLinear at line 1\ns UNSUPPORTED\n", []),
+    ("cnf", NO_HEADER, None, 0, REFUSED_HEADER, []),
+    # nothing is found
+    ("opb", COVER, None, 0, UNKNOWN, [0]),
+    ("opb", FREE_PAIR, None, 1, UNKNOWN, [0]),
+    # the budget is enough
+    ("opb", FREE_PAIR, None, 2, FREE, []),
+    ("opb", COVER, None, 1000, COVERED, []),
+    ("icnf", CLAUSE_AND_CUBE, None, 1000, "s SATISFIABLE\nv -1 2 0\n", []),
+    # the piece of the cube is one assignment, which is found, and the remainder is cut: the order of decisions does not matter
+    ("opb", COVER, b"a 1 2 3 0\n", 0, "o 6\ns SATISFIABLE\nv x1 x2 x3\n", [1]),
+    ("cnf", b"p cnf 3 2\n1 2 0\n2 3 0\n", b"a 1 2 3 0\n", 0, "s SATISFIABLE\nv 1 2 3 0\n", [1]),
+    # The piece in which something is found is cut itself. The first decision is that of the second variable, which stands in all
+    # constraints: it becomes false where it costs something, true where more clauses ask for that, and that forces the two others.
+    # What gives it the other value needs another decision.
+    ("opb", COVER, None, 1, "o 3\ns SATISFIABLE\nv x1 -x2 x3\n", [0]),
+    ("cnf", b"p cnf 3 5\n1 2 0\n2 3 0\n1 2 3 0\n-2 1 0\n-2 3 0\n", None, 1, "s SATISFIABLE\nv 1 2 3 0\n", [0]),
+]
+
+# Two of three things have to be taken, at least cost. The first assignment of cost 3 has no last variable.
+TWO_OF_THREE = "min: 1 x1 2 x2 3 x3 ;\n1 x1 1 x2 1 x3 >= 2 ;\n"
 
 # Texts whose report no division changes, and files of cubes to divide them by: none, an empty one, one cube, cubes that overlap,
 # a cube that contradicts itself beside an empty one, and one cube again and again.
@@ -213,25 +302,36 @@ BEGINNINGS = [
 SPOILED = [("opb", COVER), ("cnf", b"p cnf 2 2\n1 2 0\n-1 2 0\n"), ("icnf", b"p inccnf\n1 2 0\na 1 -1 0\na 0\na 0\n")]
 SPOILED_CUBES = b"c -\na 1 -3 0\n\na 0\n%\na x\n"
 
-# Texts as large as the limits allow, and one beyond: a part, how often it is repeated, the end, and the report.
+# Long texts: the format, the beginning, a part, how often that is repeated, the end, and the report. Some are as large as the limits
+# allow, and one is larger.
 LONG = [
     # as many constraints as there may be, in one line
-    (b">=0;", 4_194_304, b"", "s SATISFIABLE\nv\n"),
+    ("opb", b"", b">=0;", 4_194_304, b"", "s SATISFIABLE\nv\n"),
     # one constraint more
-    (b">=0;", 4_194_305, b"", "c refused: TooMany at line 1\ns UNSUPPORTED\n"),
+    ("opb", b"", b">=0;", 4_194_305, b"", "c refused: TooMany at line 1\ns UNSUPPORTED\n"),
     # a coefficient of a million digits
-    (b"9", 1_000_000, b" x1 >= 1 ;", "c refused: TooLarge at line 1\ns UNSUPPORTED\n"),
+    ("opb", b"", b"9", 1_000_000, b" x1 >= 1 ;", "c refused: TooLarge at line 1\ns UNSUPPORTED\n"),
     # a million zeros before a coefficient
-    (b"0", 1_000_000, b"1 x1 >= 1 ;", "s SATISFIABLE\nv x1\n"),
+    ("opb", b"", b"0", 1_000_000, b"1 x1 >= 1 ;", "s SATISFIABLE\nv x1\n"),
+    # a million terms, each on its line before a comment
+    ("opb", b"", b"1 x1\n* note\n", 1_000_000, b">= 1 ;", "s SATISFIABLE\nv x1\n"),
+    # a million terms and no end of their statement, which begins at line 3
+    ("opb", b"min: ;\n\n", b"1 x1\n\n", 1_000_000, b"", "c refused: Unfinished at line 3\ns UNSUPPORTED\n"),
+    # a million literals of one clause
+    ("cnf", b"p cnf 7 1\n", b"-7\n", 1_000_000, b"c note\n\n0\n", "s SATISFIABLE\nv -1 -2 -3 -4 -5 -6 -7 0\n"),
+    # a million cubes
+    ("icnf", b"p inccnf\n1 0\n", b"a -2 0\n", 1_000_000, b"", "s SATISFIABLE\nv 1 -2 0\n"),
     # twenty thousand variables of the header alone, with a gain from each, and with one clause over all of them
-    (b"* #variable= 20000 #constraint= 0\n", 1, b"", "s SATISFIABLE\n" + values(20_000, ())),
-    (b"min:" + sum_of(-1, 20_000), 1, b" ;\n", "o -20000\ns OPTIMUM FOUND\n" + values(20_000, range(1, 20_001))),
-    (sum_of(1, 20_000), 1, b" >= 1 ;\n", "s SATISFIABLE\n" + values(20_000, (20_000,))),
+    ("opb", b"", b"* #variable= 20000 #constraint= 0\n", 1, b"", "s SATISFIABLE\n" + values(20_000, ())),
+    ("opb", b"min:", sum_of(-1, 20_000), 1, b" ;\n", "o -20000\ns OPTIMUM FOUND\n" + values(20_000, range(1, 20_001))),
+    ("opb", b"", sum_of(1, 20_000), 1, b" >= 1 ;\n", "s SATISFIABLE\n" + values(20_000, (20_000,))),
 ]
 
-# Files of so many empty cubes beside the cover, with a split of so many variables: as many cubes as there may be, and one beyond.
+# Files of so many empty cubes beside the cover, after this beginning and before this end, with a split of so many variables: as many
+# cubes as there may be, and one beyond, which is refused before what comes after it.
 MANY_CUBES = [
-    (1_048_575, 0, COVERED),
-    (1_048_575, 1, "c refused cubes: TooMany\ns UNSUPPORTED\n"),
-    (1_048_576, 0, "c refused cubes: TooMany at line 1048576\ns UNSUPPORTED\n"),
+    (b"", 1_048_575, b"", 0, COVERED),
+    (b"", 1_048_575, b"", 1, "c refused cubes: TooMany\ns UNSUPPORTED\n"),
+    (b"", 1_048_576, b"", 0, "c refused cubes: TooMany at line 1048576\ns UNSUPPORTED\n"),
+    (b"\n", 1_048_576, b"a x\n", 0, "c refused cubes: TooMany at line 1048577\ns UNSUPPORTED\n"),
 ]

@@ -9,7 +9,8 @@ to 20, and with some of them in pieces and with two workers. The numbers of some
 `s UNSATISFIABLE` must be the whole answer; with `s SATISFIABLE` the values must be feasible and the `o` line their cost; `s UNKNOWN`
 stands alone. With one worker a greater budget never does worse, and once it is enough it stays so. Where some assignments are pieces
 of their own, a run that makes no decision tells the first of these, or the whole answer where the other piece needs no decision.
-Two worked instances end within a budget that is enough only where each decision has a bound before it.
+Two worked instances end within a budget that is enough only where each decision has a bound before it. Worked texts (worked_texts.py)
+have the report that is owed with their budget.
 """
 import random
 import sys
@@ -24,6 +25,7 @@ from lib import PROCESSORS, STATUSES, built, ran
 from lib.draws import instances
 from lib.efforts import ring_cover
 from lib.reports import values_line
+from lib.worked_texts import BUDGETED
 
 INSTANCES = 300
 GIVEN = 3  # assignments that are pieces of their own
@@ -146,6 +148,22 @@ def cut_though_enough(program, folder):
             yield f"{Path(program).name}: {name}: {budget} decisions are not enough"
 
 
+def unowed(program, folder):
+    """On which worked texts a run with their budget has another report than they are owed."""
+    for number, (format, text, cubes, budget, report, _) in enumerate(BUDGETED):
+        file = folder / f"{Path(program).name}_{number}.worked"
+        file.write_bytes(text)
+        file.with_suffix(".cubes").write_bytes(cubes or b"")
+        files = [file] if cubes is None else ["--cubes", file.with_suffix(".cubes"), file]
+        ended = ran([program, "--format", format, "--nodes", str(budget), *files])
+        if (ended.out, ended.status) != (report, status_of(report)):
+            yield f"{Path(program).name}: {text} {cubes} with {budget} decisions: {ended}"
+
+
+def status_of(report):
+    return next((STATUSES[line] for line in report.splitlines() if line in STATUSES), 0)
+
+
 def main(programs):
     runs, failed = 0, 0
     with tempfile.TemporaryDirectory() as folder, ThreadPoolExecutor(PROCESSORS) as pool:
@@ -155,7 +173,8 @@ def main(programs):
             runs, failed = runs + count, failed + len(wrong)
             for text in wrong:
                 print(f"budgets: {text}")
-        for text in [it for program in programs or built() for it in cut_though_enough(program, Path(folder))]:
+        tellers = [(teller, program) for program in programs or built() for teller in (cut_though_enough, unowed)]
+        for text in [it for teller, program in tellers for it in teller(program, Path(folder))]:
             failed += 1
             print(f"budgets: {text}")
     print(f"budgets: {runs} runs on {INSTANCES} instances, {failed} failed")

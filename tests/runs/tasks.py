@@ -1,6 +1,7 @@
 #!/usr/bin/env python3
 """Searches the pieces of each example in one to five tasks at the same time, alone and with a folder of notes between them, and
-prints where their reports together are not the answer on the whole instance.
+prints where their reports together are not the answer on the whole instance. Of worked texts it also looks which pieces a budget
+cuts, which a task of some of many names as done, and what a note lends.
 
     tests/runs/tasks.py [PBCUBE_TASK]
 
@@ -16,9 +17,28 @@ sys.dont_write_bytecode = True
 sys.path.insert(0, str(Path(__file__).resolve().parents[1]))
 from lib import program, ran, side_by_side
 from lib.examples import divisions_of, examples
-from lib.reports import HEADING, rank
+from lib.reports import HEADING, digest, part, rank
+from lib.worked_texts import BUDGETED, TWO_OF_THREE, UNKNOWN
 
 SPLITS = (0, 1, 3)
+
+# Tasks of so many among which the nine pieces of a text are dealt, with a budget or none, and which pieces each is done with. In a
+# cube of all variables nothing is left to decide, so a budget cuts none of these.
+DEALT = [
+    (0, 1, None, range(9)),
+    (0, 4, None, (0, 4, 8)),
+    (3, 4, 0, (3, 7)),
+    (8, 9, None, (8,)),
+    (9, 10, None, ()),
+    (4_294_967_294, 4_294_967_295, None, ()),
+]
+# What the notes of all other tasks say, a cost and values, and the claim of a task whose one piece has nothing in it: that of an
+# assignment that is feasible, of one that is not, and of one whose cost is another.
+NOTED = [
+    ("cost 3\nvalues 110\n", "o 3\ns SATISFIABLE\nv x1 x2 -x3\n"),
+    ("cost 0\nvalues 000\n", UNKNOWN),
+    ("cost -5\nvalues 101\n", "o 4\ns SATISFIABLE\nv x1 -x2 x3\n"),
+]
 
 
 def told(out):
@@ -73,10 +93,68 @@ def complaints(task, instance):
     return count, wrong
 
 
+def cut_pieces(out):
+    """The pieces that the report of the one task there is names as cut. None where it names not each piece once."""
+    numbers = [[int(word) for word in line.split()[2:] if word.isdecimal()] for line in out.splitlines()[:HEADING]]
+    if len(numbers) < HEADING:
+        return []
+    (count, *_), done, cut = numbers[1:]
+    return cut if sorted(done + cut) == list(range(count)) else None
+
+
+def wrongly_cut(task, room):
+    """On which worked texts other pieces than those that are owed are cut by their budget."""
+    for number, (format, text, cubes, budget, _, cut) in enumerate(BUDGETED):
+        file = room / f"{number}.worked"
+        file.write_bytes(text)
+        file.with_suffix(".cubes").write_bytes(cubes or b"")
+        files = [file] if cubes is None else ["--cubes", file.with_suffix(".cubes"), file]
+        ended = ran([task, "--format", format, "--nodes", str(budget), "--task", "0", "--tasks", "1", *files])
+        if cut_pieces(ended.out) != cut:
+            yield f"tasks: {text} {cubes} with {budget} decisions: {ended}"
+
+
+def wrongly_dealt(task, room):
+    """Which tasks of a worked text name other pieces than those that they are dealt, and which believe a note."""
+    file = room / "two_of_three.opb"
+    file.write_text(TWO_OF_THREE)
+    command = [task, "--workers", "2", "--split", "3", file]
+    for number, tasks, budget, done in DEALT:
+        nodes = [] if budget is None else ["--nodes", str(budget)]
+        ended = ran([*command, *nodes, "--task", str(number), "--tasks", str(tasks)])
+        named = "".join(f" {piece}" for piece in done)
+        if not ended.out.startswith(part(f"{number} of {tasks}", TWO_OF_THREE, "9 split 3 cubes none", named)):
+            yield f"tasks: task {number} of {tasks}: {ended}"
+    heading = part("8 of 9", TWO_OF_THREE, "9 split 3 cubes none", " 8")
+    for place, (note, claim) in enumerate(NOTED):
+        notes = room / f"notes-{place}"
+        notes.mkdir()
+        for other in range(8):
+            (notes / f"{other}.note").write_text(f"pbcube note of instance {digest(TWO_OF_THREE)}\n{note}")
+        ended = ran([*command, "--task", "8", "--tasks", "9", "--exchange", notes])
+        if ended.out != heading + claim:
+            yield f"tasks: the note {note!r}: {ended}"
+
+
+def miscounted(task, room):
+    """Whether a text of a million cubes has another number of pieces."""
+    text = "p inccnf\n1 0\n" + 1_000_000 * "a -2 0\n"
+    file = room / "many.icnf"
+    file.write_text(text)
+    ended = ran([task, "--format", "icnf", "--task", "0", "--tasks", "1000001", file])
+    if not ended.out.startswith(part("0 of 1000001", text, "1000001 split 0 cubes none", " 0")):
+        yield f"tasks: a million cubes: {ended}"
+
+
+def wrong_on_worked_texts(task):
+    with tempfile.TemporaryDirectory(prefix="pbcube-tasks-") as room:
+        return [line for lines in (wrongly_cut, wrongly_dealt, miscounted) for line in lines(task, Path(room))]
+
+
 def main():
     task = (sys.argv[1:] or [str(program("pbcube_task"))])[0]
     counts = side_by_side(lambda instance: complaints(task, instance), examples())
-    wrong = [line for _, lines in counts for line in lines]
+    wrong = [line for _, lines in counts for line in lines] + wrong_on_worked_texts(task)
     print(*wrong, f"tasks: {sum(count for count, _ in counts)} sets of tasks on examples, {len(wrong)} faults", sep="\n")
     sys.exit(len(wrong) > 0)
 

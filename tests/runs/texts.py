@@ -86,10 +86,10 @@ def unchanged():
 
 
 def longest():
-    for part, times, end, report in LONG:
-        yield Case("opb", times * part + end, report, divisions())
-    for times, split, report in MANY_CUBES:
-        yield Case("opb", COVER, report, divisions([split]), times * b"a 0\n")
+    for format, beginning, part, times, end, report in LONG:
+        yield Case(format, beginning + times * part + end, report, divisions())
+    for beginning, times, end, split, report in MANY_CUBES:
+        yield Case("opb", COVER, report, divisions([split]), beginning + times * b"a 0\n" + end)
 
 
 def owed(format, text, cubes, split):

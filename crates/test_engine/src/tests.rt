@@ -5,6 +5,7 @@ mod clauses;
 mod courses;
 mod effort;
 mod engines;
+mod fixing;
 mod forms;
 mod player;
 mod saddle;

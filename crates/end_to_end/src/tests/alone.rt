@@ -3,35 +3,67 @@
 use pb_solve::{Device, Format, Ran, RunFault, Status, run_without_threads};
 use std::alloc::Global;
 
-/// A budget, and what a run alone answers with it on one constraint that asks for a decision. Without a decision nothing is
-/// found, and the run says so; without a budget it ends with the least cost.
-const ANSWERS: [(Option<u64>, Ran); 2] = [
-    (
-        Some(0),
-        Ran {
-            status: Status::Unknown,
-            cut: true,
-        },
-    ),
-    (
-        None,
-        Ran {
-            status: Status::Optimum,
-            cut: false,
-        },
-    ),
+/// A text, a budget or none, and what a run alone answers with it.
+struct Row {
+    format: Format,
+    text: &'static [u8],
+    nodes: Option<u64>,
+    status: Status,
+    cut: bool,
+}
+
+/// A constraint that asks for a decision.
+const CONSTRAINT: &[u8] = b"min: 1 x1 1 x2 ;\n1 x1 1 x2 >= 1 ;\n";
+
+/// Clauses of which a variable stands in both, and a cube that is one assignment.
+const CLAUSES: &[u8] = b"p inccnf\n1 2 0\n2 3 0\na 1 2 3 0\n";
+
+const ROWS: [Row; 4] = [
+    // Without a decision nothing is found, and the run says so.
+    Row {
+        format: Format::Opb,
+        text: CONSTRAINT,
+        nodes: Some(0),
+        status: Status::Unknown,
+        cut: true,
+    },
+    Row {
+        format: Format::Opb,
+        text: CONSTRAINT,
+        nodes: None,
+        status: Status::Optimum,
+        cut: false,
+    },
+    // What is found in the piece of the cube is told, and that the remainder was cut.
+    Row {
+        format: Format::Icnf,
+        text: CLAUSES,
+        nodes: Some(0),
+        status: Status::Satisfiable,
+        cut: true,
+    },
+    Row {
+        format: Format::Icnf,
+        text: CLAUSES,
+        nodes: Some(1000),
+        status: Status::Satisfiable,
+        cut: false,
+    },
 ];
 
-fn alone(alloc: Global, nodes: Option<u64>) -> Result<Ran, RunFault> {
-    let text: &[u8] = b"min: 1 x1 1 x2 ;\n1 x1 1 x2 >= 1 ;\n";
-    let mut input = Device::new(text);
+fn alone(alloc: Global, row: &Row) -> Result<Ran, RunFault> {
+    let mut input = Device::new(row.text);
     let mut out = Device::new(Vec::new(alloc));
-    run_without_threads(alloc, &mut input, Format::Opb, nodes, &mut out)
+    run_without_threads(alloc, &mut input, row.format, row.nodes, &mut out)
 }
 
 #[test]
 fn a_run_alone_goes_as_far_as_its_budget(rt: HostRuntime) {
-    for (nodes, ran) in &ANSWERS {
-        assert!(rt; alone(rt.alloc(), *nodes) == Ok(*ran));
+    for row in &ROWS {
+        let ran = Ran {
+            status: row.status,
+            cut: row.cut,
+        };
+        assert!(rt; alone(rt.alloc(), row) == Ok(ran), "{:?}", row.nodes);
     }
 }

@@ -1,4 +1,4 @@
-//! Texts with their reports, on which several tests run.
+//! Texts with their reports, on which runs are tried whose devices fail.
 
 use pb_solve::{Format, Status};
 
@@ -11,22 +11,11 @@ pub struct Case {
     pub status: Status,
 }
 
-/// An objective and two constraints. Two assignments of three variables cost as little.
-pub const COVER_TEXT: &[u8] =
-    b"* #variable= 3 #constraint= 2\nmin: 2 x1 3 x2 1 x3 ;\n1 x1 1 x2 >= 1 ;\n1 x2 1 x3 >= 1 ;\n";
-
-/// The tie decides.
+/// An objective and two constraints. Two assignments of three variables cost as little, and the tie decides.
 pub const COVER: Case = Case {
     format: Format::Opb,
-    text: COVER_TEXT,
+    text: b"* #variable= 3 #constraint= 2\nmin: 2 x1 3 x2 1 x3 ;\n1 x1 1 x2 >= 1 ;\n1 x2 1 x3 >= 1 ;\n",
     report: b"o 3\ns OPTIMUM FOUND\nv -x1 x2 -x3\n",
-    status: Status::Optimum,
-};
-
-pub const NEGATIVE_COST: Case = Case {
-    format: Format::Opb,
-    text: b"min: -2 x1 -2 x2 ;\n1 x1 1 x2 <= 1 ;\n",
-    report: b"o -2\ns OPTIMUM FOUND\nv -x1 x2\n",
     status: Status::Optimum,
 };
 
@@ -37,7 +26,7 @@ pub const CLAUSE_AND_CUBE: Case = Case {
     status: Status::Satisfiable,
 };
 
-pub const CONTRADICTION: Case = Case {
+const CONTRADICTION: Case = Case {
     format: Format::Opb,
     text: b"1 x1 >= 1 ;\n1 x1 = 0 ;\n",
     report: b"s UNSATISFIABLE\n",
@@ -56,6 +45,14 @@ pub const NO_HEADER: Case = Case {
     text: b"1 2 0\n",
     report: b"c refused: BadHeader at line 1\ns UNSUPPORTED\n",
     status: Status::Unsupported,
+};
+
+/// A text of comments alone, of which a test gives a long one.
+pub const NOTHING: Case = Case {
+    format: Format::Opb,
+    text: b"* a comment\n",
+    report: b"s SATISFIABLE\nv\n",
+    status: Status::Satisfiable,
 };
 
 /// A case of each status that a run with ample memory has.

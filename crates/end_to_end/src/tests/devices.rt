@@ -1,4 +1,4 @@
-//! Devices that fail or that behave oddly.
+//! A reader and a writer that fail or that behave oddly.
 
 use std::io::{self, Error, ErrorKind, Read, Write};
 
@@ -10,97 +10,77 @@ pub const KINDS: [ErrorKind; 5] = [
     ErrorKind::OutOfMemory,
 ];
 
-/// Reads or writes at most so many bytes a call, and fails at the call after so many more.
-#[derive(Drop)]
-pub struct Failing<T> {
-    pub inner: T,
+/// How many bytes a device moves a call at most, and after how many calls each one fails, with a fault of this kind.
+#[derive(Clone, Copy)]
+pub struct Limits {
     pub step: usize,
     pub calls_left: usize,
+    pub kind: ErrorKind,
 }
 
-impl<T> Failing<T> {
+pub const UNLIMITED: Limits = Limits {
+    step: usize::MAX,
+    calls_left: usize::MAX,
+    kind: ErrorKind::Other,
+};
+
+impl Limits {
     fn turn(&mut self) -> io::Result<()> {
         if self.calls_left == 0 {
-            return Err(Error::from(ErrorKind::Other));
+            return Err(Error::from(self.kind));
         }
         self.calls_left -= 1;
         Ok(())
     }
 }
 
-impl<T: Read> Read for Failing<T> {
-    fn read(&mut self, buf: &mut [u8]) -> io::Result<usize> {
-        self.turn()?;
-        let len = self.step.min(buf.len());
-        self.inner.read(&mut buf[..len])
-    }
-}
-
-impl<T: Write> Write for Failing<T> {
-    fn write(&mut self, buf: &[u8]) -> io::Result<usize> {
-        self.turn()?;
-        let len = self.step.min(buf.len());
-        self.inner.write(&buf[..len])
-    }
-
-    fn flush(&mut self) -> io::Result<()> {
-        self.turn()?;
-        self.inner.flush()
-    }
-}
-
-/// Fails at each call, with a fault of this kind.
-#[derive(Clone, Copy)]
-pub struct Broken(pub ErrorKind);
-
-impl Read for Broken {
-    fn read(&mut self, _: &mut [u8]) -> io::Result<usize> {
-        Err(Error::from(self.0))
-    }
-}
-
-impl Write for Broken {
-    fn write(&mut self, _: &[u8]) -> io::Result<usize> {
-        Err(Error::from(self.0))
-    }
-
-    fn flush(&mut self) -> io::Result<()> {
-        Err(Error::from(self.0))
-    }
-}
-
 /// Gives a text, says that it has ended, and then gives more.
-#[derive(Drop)]
-pub struct Resumed {
-    pub text: &'static [u8],
-    pub more: &'static [u8],
-    pub has_ended: bool,
+#[derive(Clone, Copy)]
+pub struct Source<'t> {
+    pub text: &'t [u8],
+    pub more: &'t [u8],
+    pub limits: Limits,
 }
 
-impl Read for Resumed {
+impl Read for Source<'_> {
     fn read(&mut self, buf: &mut [u8]) -> io::Result<usize> {
-        if self.has_ended {
-            return self.more.read(buf);
+        self.limits.turn()?;
+        let len = self.limits.step.min(buf.len());
+        let given = self.text.read(&mut buf[..len])?;
+        if given == 0 {
+            self.text = self.more;
         }
-        self.has_ended = self.text.is_empty();
-        self.text.read(buf)
+        Ok(given)
     }
 }
 
-/// Keeps back what is written, and lets go of it at a flush.
+/// Has room for so many bytes, keeps them back, and lets go of them at a flush.
 #[derive(Drop)]
-pub struct KeepsBack {
+pub struct Sink {
+    pub limits: Limits,
+    pub room: usize,
     pub kept: Vec<u8>,
     pub flushed: Vec<u8>,
 }
 
-impl Write for KeepsBack {
+impl Sink {
+    /// Whether it let go of just these bytes, and keeps back none.
+    pub fn has_flushed(&self, bytes: &[u8]) -> bool {
+        self.kept.is_empty() && self.flushed.as_slice() == bytes
+    }
+}
+
+impl Write for Sink {
     fn write(&mut self, buf: &[u8]) -> io::Result<usize> {
-        self.kept.extend_from_slice(buf)?;
-        Ok(buf.len())
+        self.limits.turn()?;
+        let len = self.limits.step.min(self.room).min(buf.len());
+        self.kept.extend_from_slice(&buf[..len])?;
+        self.room -= len;
+        Ok(len)
     }
 
     fn flush(&mut self) -> io::Result<()> {
+        self.limits.turn()?;
         self.flushed.append(&mut self.kept)?;
         Ok(())
     }

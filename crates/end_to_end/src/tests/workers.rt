@@ -84,43 +84,44 @@ const ALONE: [Alone; 3] = [
     },
 ];
 
-/// Compares what one worker does with this. Its seat has a claim more than there are pieces.
-fn assert_alone(rt: &impl Abort, alloc: Global, alone: &Alone) {
-    let workers = Workers::new(1).expect(rt, "a number of workers");
-    let instance = read_opb(alloc, TWO_CLAUSES).expect(rt, "an instance");
-    let normal = normalise(alloc, &instance).expect(rt, "a normal form");
-    let pieces = pieces_of(rt, alloc, &instance, alone.cubes);
-    let (board, seat) = Board::new(alloc, workers, instance.vars()).expect(rt, "a board");
-    let nodes = alone.nodes;
-    let (part, seat) = work(
-        alloc, &instance, &normal, &pieces, &board, seat, 0, &OpenGate, nodes,
-    )
-    .expect(rt, "a part");
-    let claims = seat.claims();
-    board.close(seat);
-    assert_part(rt, &part, alone);
-    assert!(rt; claims == 4);
-}
+impl Alone {
+    /// Whether one worker does this. Its seat has a claim more than there are pieces.
+    fn comes_out(&self, rt: &impl Abort, alloc: Global) -> bool {
+        let workers = Workers::new(1).expect(rt, "a number of workers");
+        let instance = read_opb(alloc, TWO_CLAUSES).expect(rt, "an instance");
+        let normal = normalise(alloc, &instance).expect(rt, "a normal form");
+        let pieces = pieces_of(rt, alloc, &instance, self.cubes);
+        let (board, seat) = Board::new(alloc, workers, instance.vars()).expect(rt, "a board");
+        let nodes = self.nodes;
+        let (part, seat) = work(
+            alloc, &instance, &normal, &pieces, &board, seat, 0, &OpenGate, nodes,
+        )
+        .expect(rt, "a part");
+        let claims = seat.claims();
+        board.close(seat);
+        self.is_part(&part) && claims == 4
+    }
 
-/// Compares what a part names and holds with this.
-fn assert_part(rt: &impl Abort, part: &Part<'_>, alone: &Alone) {
-    assert!(rt; part.pieces() == alone.done);
-    assert!(rt; part.cut() == alone.cut);
-    assert!(rt; part.decisions() == alone.decisions);
-    assert!(rt; part.cut_decisions() == alone.cut_decisions);
-    assert!(rt; held(part.best()) == Some(alone.held));
+    /// Whether the part names and holds this.
+    fn is_part(&self, part: &Part<'_>) -> bool {
+        part.pieces() == self.done
+            && part.cut() == self.cut
+            && part.decisions() == self.decisions
+            && part.cut_decisions() == self.cut_decisions
+            && held(part.best()) == Some(self.held)
+    }
 }
 
 // One worker names all pieces, those that were cut apart.
 #[test]
 fn work_alone(rt: HostRuntime) {
     for alone in &ALONE {
-        assert_alone(&rt, rt.alloc(), alone);
+        assert!(rt; alone.comes_out(&rt, rt.alloc()), "{:?}", alone.nodes);
     }
 }
 
-/// A text and its cubes, what is held at the gate of so many workers with a budget, how many pieces there are, and what is to
-/// be held. No piece is to be cut.
+/// A text and its cubes, what is held at the gate of so many workers with a budget, how many pieces there are, how many of them
+/// each of the first two may get where that is told, and what is to be held. No piece is to be cut.
 #[derive(Clone, Copy)]
 struct Together {
     text: &'static [u8],
@@ -129,45 +130,46 @@ struct Together {
     nodes: Option<u64>,
     rule: Rule,
     pieces: usize,
+    shares: &'static [(u64, u64)],
     held: (Number, u64),
 }
 
-/// Compares what the workers answer with this, and answers how many pieces each of the first two got.
-fn assert_together<R: Abort + Threads + Sync>(
-    rt: &R,
-    alloc: Global,
-    together: &Together,
-) -> (u64, u64) {
-    let workers = Workers::new(together.workers).expect(rt, "a number of workers");
-    let instance = read_opb(alloc, together.text).expect(rt, "an instance");
-    let pieces = pieces_of(rt, alloc, &instance, together.cubes);
-    let (gate, nodes) = (Passes::new(together.rule), together.nodes);
-    let answer = solve(rt, alloc, &instance, &pieces, workers, &gate, nodes).expect(
-        rt,
-        "an answer",
-    );
-    assert!(rt; gate.are_met(), "those that were held met");
-    assert!(rt;
-        gate.are_each_once(together.pieces),
-        "each piece passed once"
-    );
-    assert!(rt; !answer.cut);
-    assert!(rt; held(&answer.best) == Some(together.held));
-    gate.shares()
+impl Together {
+    /// Whether the workers answer this: those that were held met, and each piece passed once.
+    fn comes_out<R: Abort + Threads + Sync>(&self, rt: &R, alloc: Global) -> bool {
+        let workers = Workers::new(self.workers).expect(rt, "a number of workers");
+        let instance = read_opb(alloc, self.text).expect(rt, "an instance");
+        let pieces = pieces_of(rt, alloc, &instance, self.cubes);
+        let (gate, nodes) = (Passes::new(self.rule), self.nodes);
+        let answer = solve(rt, alloc, &instance, &pieces, workers, &gate, nodes).expect(
+            rt,
+            "an answer",
+        );
+        !answer.cut && held(&answer.best) == Some(self.held) && self.is_passed(&gate)
+    }
+
+    fn is_passed(&self, gate: &Passes) -> bool {
+        gate.are_met()
+            && gate.are_each_once(self.pieces)
+            && (self.shares.is_empty() || self.shares.contains(&gate.shares()))
+    }
 }
+
+const FREE: Rule = Rule {
+    meeting: 0,
+    first: None,
+    order: &[],
+    crowd: 0,
+};
 
 const TWO: Together = Together {
     text: TWO_CLAUSES,
     cubes: TWO_CUBES,
     workers: 2,
     nodes: None,
-    rule: Rule {
-        meeting: 2,
-        first: None,
-        order: &[],
-        crowd: 0,
-    },
+    rule: Rule { meeting: 2, ..FREE },
     pieces: 3,
+    shares: &[],
     held: (0, 2),
 };
 
@@ -175,28 +177,24 @@ const TWO: Together = Together {
 fn two_workers_meet(rt: HostRuntime) {
     for first in [None, Some(0), Some(1)] {
         let rule = Rule { first, ..TWO.rule };
-        assert_together(&rt, rt.alloc(), &Together { rule, ..TWO });
+        let together = Together { rule, ..TWO };
+        assert!(rt; together.comes_out(&rt, rt.alloc()), "{first:?}");
     }
 }
 
-/// The very first pass is held until all five have begun.
+/// The very first pass is held until all five have begun. While one worker is held at its first piece the other one gets all
+/// others: with fixed shares they would wait in vain.
 const CROWD: Together = Together {
     cubes: b"a 0\na 0\na 0\na 0\n",
-    rule: Rule {
-        meeting: 0,
-        first: None,
-        order: &[],
-        crowd: 5,
-    },
+    rule: Rule { crowd: 5, ..FREE },
     pieces: 5,
+    shares: &[(1, 4), (4, 1)],
     ..TWO
 };
 
-// While one worker is held at its first piece the other one gets all others: with fixed shares they would wait in vain.
 #[test]
 fn pieces_are_claimed(rt: HostRuntime) {
-    let shares = assert_together(&rt, rt.alloc(), &CROWD);
-    assert!(rt; shares == (1, 4) || shares == (4, 1), "{shares:?}");
+    assert!(rt; CROWD.comes_out(&rt, rt.alloc()));
 }
 
 /// Piece 0 finds the best assignment while the worker on piece 1 is held. That one then needs no decision, since what it
@@ -206,10 +204,8 @@ const BORROWED: Together = Together {
     cubes: b"a -1 2 0\na 1 0\n",
     nodes: Some(0),
     rule: Rule {
-        meeting: 0,
-        first: None,
         order: &[(0, 1), (1, 2)],
-        crowd: 0,
+        ..FREE
     },
     held: (1, 2),
     ..TWO
@@ -217,25 +213,19 @@ const BORROWED: Together = Together {
 
 #[test]
 fn borrowed_bound(rt: HostRuntime) {
-    assert_together(&rt, rt.alloc(), &BORROWED);
+    assert!(rt; BORROWED.comes_out(&rt, rt.alloc()));
 }
 
-/// As many pieces as workers.
+/// As many pieces as workers, of which each has a number of its own, and all of them work at the same time.
 const FOUR: Together = Together {
     cubes: b"a 0\na 0\na 0\n",
     workers: 4,
-    rule: Rule {
-        meeting: 4,
-        first: None,
-        order: &[],
-        crowd: 0,
-    },
+    rule: Rule { meeting: 4, ..FREE },
     pieces: 4,
     ..TWO
 };
 
-// Each worker has a number of its own, and all of them work at the same time.
 #[test]
 fn four_workers_meet(rt: HostRuntime) {
-    assert_together(&rt, rt.alloc(), &FOUR);
+    assert!(rt; FOUR.comes_out(&rt, rt.alloc()));
 }

@@ -117,28 +117,57 @@ fn all_are_copied(rt: &impl Abort, alloc: Global, instance: &Instance) -> bool {
     true
 }
 
+/// Whether what is built is as it is written, and its terms are copied as they are lent.
+fn is_built(rt: &impl Abort, alloc: Global, written: &Written) -> bool {
+    let instance = built(rt, alloc, written);
+    is_written(&instance, written) && all_are_copied(rt, alloc, &instance)
+}
+
 #[test]
 fn what_was_added_is_built(rt: HostRuntime) {
-    for written in [WORKED, OF_BOTH_WIDTHS] {
-        let instance = built(&rt, rt.alloc(), &written);
-        assert!(rt; is_written(&instance, &written));
-        assert!(rt; all_are_copied(&rt, rt.alloc(), &instance));
-    }
+    assert!(rt; is_built(&rt, rt.alloc(), &WORKED));
+    assert!(rt; is_built(&rt, rt.alloc(), &OF_BOTH_WIDTHS));
+}
+
+/// The instance that the builder makes of so many variables.
+fn finished(rt: &impl Abort, builder: InstanceBuilder, vars: u32) -> Instance {
+    builder.finish(vars).ok().expect(rt, "an instance")
 }
 
 #[test]
 fn what_is_reopened_is_as_it_was(rt: HostRuntime) {
     let instance = built(&rt, rt.alloc(), &WORKED);
     let builder = InstanceBuilder::reopen(rt.alloc(), instance);
-    let instance = builder.finish(3).ok().expect(&rt, "an instance");
+    let instance = finished(&rt, builder, 3);
     assert!(rt; is_written(&instance, &WORKED));
+}
+
+/// What the builder says against a constraint.
+fn refusal(
+    rt: &impl Abort,
+    alloc: Global,
+    builder: &mut InstanceBuilder,
+    (sum, relation, bound): Inequality,
+) -> Option<InstFault> {
+    let terms = terms_of(rt, alloc, sum);
+    builder.add(&terms, relation, bound).err()
+}
+
+/// What the builder says against an objective.
+fn objective_refusal(
+    rt: &impl Abort,
+    alloc: Global,
+    builder: &mut InstanceBuilder,
+    sum: Sum,
+) -> Option<InstFault> {
+    let terms = terms_of(rt, alloc, sum);
+    builder.set_objective(&terms).err()
 }
 
 /// Whether all that lies beyond the ends is too large for the builder.
 fn refuses_all(rt: &impl Abort, alloc: Global, builder: &mut InstanceBuilder) -> bool {
-    for (sum, relation, bound) in BEYOND_THE_ENDS {
-        let terms = terms_of(rt, alloc, sum);
-        if builder.add(&terms, *relation, *bound) != Err(InstFault::TooLarge) {
+    for inequality in BEYOND_THE_ENDS {
+        if refusal(rt, alloc, builder, *inequality) != Some(InstFault::TooLarge) {
             return false;
         }
     }
@@ -148,8 +177,7 @@ fn refuses_all(rt: &impl Abort, alloc: Global, builder: &mut InstanceBuilder) ->
 /// Whether all objectives that lie beyond the ends are too large for the builder.
 fn refuses_all_objectives(rt: &impl Abort, alloc: Global, builder: &mut InstanceBuilder) -> bool {
     for sum in OBJECTIVES_BEYOND_THE_ENDS {
-        let terms = terms_of(rt, alloc, sum);
-        if builder.set_objective(&terms) != Err(InstFault::TooLarge) {
+        if objective_refusal(rt, alloc, builder, sum) != Some(InstFault::TooLarge) {
             return false;
         }
     }
@@ -164,7 +192,7 @@ fn refusals_change_nothing(rt: HostRuntime) {
     assert!(rt; refuses_all_objectives(&rt, alloc, &mut builder));
     let small = builder.finish(0).err().expect(&rt, "a variable over 0");
     assert!(rt; small.fault == InstFault::BadVariable);
-    let instance = small.builder.finish(3).ok().expect(&rt, "an instance");
+    let instance = finished(&rt, small.builder, 3);
     assert!(rt; is_written(&instance, &AT_THE_ENDS));
 }
 
@@ -214,19 +242,46 @@ fn nothing_yet<'i>(rt: &impl Abort, alloc: Global, instance: &'i Instance) -> Be
     Best::none(alloc, instance).expect(rt, "a place for the best")
 }
 
+/// How many leading zeros what is held has, where the values are taken.
+fn taken(best: &mut Best<'_>, values: &Assignment) -> Option<u32>
+    requires { length values.now ≡ best.old.problem.vars }
+    ensures { best.new.problem ≡ best.old.problem }
+{
+    if best.take(values) {
+        return Some(best.leading_zeros());
+    }
+    None
+}
+
+/// What is taken of assignments that cost as much, of which the first comes later, and of one that is not feasible.
+fn taken_in_turn(rt: &impl Abort, alloc: Global, best: &mut Best<'_>) -> [Option<u32>; 4]
+    requires { best.old.problem.vars ≡ 3 }
+{
+    let later = assignment(rt, alloc, [true, false, true]);
+    let first = assignment(rt, alloc, [false, true, false]);
+    let none = assignment(rt, alloc, [false, false, false]);
+    [
+        taken(best, &later),
+        taken(best, &first),
+        taken(best, &later),
+        taken(best, &none),
+    ]
+}
+
 #[test]
 fn what_comes_before_is_taken(rt: HostRuntime) {
-    let alloc = rt.alloc();
-    let instance = built(&rt, alloc, &WORKED);
+    let instance = built(&rt, rt.alloc(), &WORKED);
     assert!(rt; instance.vars() == 3);
-    let later = assignment(&rt, alloc, [true, false, true]);
-    let first = assignment(&rt, alloc, [false, true, false]);
-    let none = assignment(&rt, alloc, [false, false, false]);
-    assert!(rt; precedes(3, &first, 3, &later));
-    let mut best = nothing_yet(&rt, alloc, &instance);
+    let mut best = nothing_yet(&rt, rt.alloc(), &instance);
     assert!(rt; best.assignment().is_none());
-    assert!(rt; best.take(&later) && best.leading_zeros() == 0);
-    assert!(rt; best.take(&first) && best.leading_zeros() == 1);
-    assert!(rt; !best.take(&later) && !best.take(&none));
+    let taken = taken_in_turn(&rt, rt.alloc(), &mut best);
+    assert!(rt; taken == [Some(0), Some(1), None, None]);
     assert!(rt; best.cost() == Some(3));
+}
+
+#[test]
+fn of_equal_costs_the_order_decides(rt: HostRuntime) {
+    let later = assignment(&rt, rt.alloc(), [true, false, true]);
+    let first = assignment(&rt, rt.alloc(), [false, true, false]);
+    assert!(rt; precedes(3, &first, 3, &later));
 }

@@ -186,12 +186,16 @@ const WIDTHS: &[Case] = &[
 
 /// Whether these are the terms.
 fn are<C: Coefficient>(terms: &[FormTerm<C>], expected: &[(Magnitude, i32)]) -> bool {
-    for (term, (coef, literal)) in terms.iter().zip(expected) {
-        if term.coef().number() != *coef || !is_literal(term.lit(), *literal) {
+    if terms.len() != expected.len() {
+        return false;
+    }
+    for i in 0..terms.len() {
+        let (coef, literal) = expected[i];
+        if terms[i].coef().number() != coef || !is_literal(terms[i].lit(), literal) {
             return false;
         }
     }
-    terms.len() == expected.len()
+    true
 }
 
 fn has_rows<C: Coefficient>(form: &Form<C>, rows: &[(Magnitude, Terms)]) -> bool {

@@ -104,22 +104,29 @@ pub fn is_written(instance: &Instance, written: &Written) -> bool {
 
 /// Whether the cube has these literals.
 fn is_cube(cube: &Cube, literals: &[i32]) -> bool {
-    for (lit, literal) in cube.lits().iter().zip(literals) {
-        if !is_literal(*lit, *literal) {
+    let lits = cube.lits();
+    if lits.len() != literals.len() {
+        return false;
+    }
+    for i in 0..lits.len() {
+        if !is_literal(lits[i], literals[i]) {
             return false;
         }
     }
-    cube.lits().len() == literals.len()
+    true
 }
 
 /// Whether these are the cubes.
 pub fn are_cubes(cubes: &[Cube], written: &[Literals]) -> bool {
-    for (cube, literals) in cubes.iter().zip(written) {
-        if !is_cube(cube, literals) {
+    if cubes.len() != written.len() {
+        return false;
+    }
+    for i in 0..cubes.len() {
+        if !is_cube(&cubes[i], written[i]) {
             return false;
         }
     }
-    cubes.len() == written.len()
+    true
 }
 
 fn lit(rt: &impl Abort, literal: i32) -> Lit {
@@ -174,9 +181,19 @@ pub fn cube_of(rt: &impl Abort, alloc: Global, literals: &[i32]) -> Cube {
     }
 }
 
+/// Whether memory was refused, which is the only fault that there may be.
+fn is_to_be_repeated(rt: &impl Abort, told: Result<(), InstFault>) -> bool {
+    match told {
+        Ok(()) => false,
+        Err(fault) => {
+            assert!(rt; fault == InstFault::Memory);
+            true
+        }
+    }
+}
+
 fn set_objective(rt: &impl Abort, builder: &mut InstanceBuilder, terms: &[Term]) {
-    if let Err(fault) = builder.set_objective(terms) {
-        assert!(rt; fault == InstFault::Memory);
+    if is_to_be_repeated(rt, builder.set_objective(terms)) {
         builder.set_objective(terms).expect(rt, "an objective");
     }
 }
@@ -188,8 +205,7 @@ fn add(
     relation: Relation,
     bound: Number,
 ) {
-    if let Err(fault) = builder.add(terms, relation, bound) {
-        assert!(rt; fault == InstFault::Memory);
+    if is_to_be_repeated(rt, builder.add(terms, relation, bound)) {
         builder
             .add(terms, relation, bound)
             .expect(rt, "a constraint");
@@ -197,8 +213,7 @@ fn add(
 }
 
 fn add_clause(rt: &impl Abort, builder: &mut InstanceBuilder, lits: &[Lit]) {
-    if let Err(fault) = builder.add_clause(lits) {
-        assert!(rt; fault == InstFault::Memory);
+    if is_to_be_repeated(rt, builder.add_clause(lits)) {
         builder.add_clause(lits).expect(rt, "a clause");
     }
 }

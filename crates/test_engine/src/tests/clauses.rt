@@ -7,9 +7,9 @@ use pb_engine::Step;
 use pb_inst::Number;
 use std::process::Abort;
 
-#[test]
-fn a_cube_that_is_nearly_true_forces_a_literal(rt: HostRuntime) {
-    let course = Course {
+const OF_CUBES: [Course<'static>; 4] = [
+    // a cube that is nearly true forces a literal
+    Course {
         vars: 3,
         costs: &[],
         rows: &[],
@@ -28,13 +28,9 @@ fn a_cube_that_is_nearly_true_forces_a_literal(rt: HostRuntime) {
             Move::Propagate(Step::Fixed),
             Move::Value(1, Some(false)),
         ],
-    };
-    assert!(rt; course.comes_out(&rt, rt.alloc()));
-}
-
-#[test]
-fn repeats_in_a_cube_count_once(rt: HostRuntime) {
-    let course = Course {
+    },
+    // repeats in a cube count once
+    Course {
         vars: 3,
         costs: &[],
         rows: &[],
@@ -47,13 +43,9 @@ fn repeats_in_a_cube_count_once(rt: HostRuntime) {
             Move::Propagate(Step::Fixed),
             Move::Value(1, Some(false)),
         ],
-    };
-    assert!(rt; course.comes_out(&rt, rt.alloc()));
-}
-
-#[test]
-fn a_cube_that_contradicts_itself_gives_no_clause(rt: HostRuntime) {
-    let course = Course {
+    },
+    // a cube that contradicts itself gives no clause
+    Course {
         vars: 3,
         costs: &[],
         rows: &[],
@@ -65,13 +57,9 @@ fn a_cube_that_contradicts_itself_gives_no_clause(rt: HostRuntime) {
             Move::Value(2, Some(false)),
             Move::Value(3, None),
         ],
-    };
-    assert!(rt; course.comes_out(&rt, rt.alloc()));
-}
-
-#[test]
-fn the_empty_cube_conflicts_at_once(rt: HostRuntime) {
-    let course = Course {
+    },
+    // the empty cube conflicts at once
+    Course {
         vars: 3,
         costs: &[],
         rows: &[],
@@ -81,8 +69,14 @@ fn the_empty_cube_conflicts_at_once(rt: HostRuntime) {
             Move::UndoTo(0),
             Move::Propagate(Step::Conflict),
         ],
-    };
-    assert!(rt; course.comes_out(&rt, rt.alloc()));
+    },
+];
+
+#[test]
+fn cubes_are_clauses(rt: HostRuntime) {
+    for (row, course) in OF_CUBES.iter().enumerate() {
+        assert!(rt; course.comes_out(&rt, rt.alloc()), "course {row}");
+    }
 }
 
 /// Makes the variables before `last` false one by one, and says whether each time `last` has no value before the rows are

@@ -1,0 +1,112 @@
+//! One run over devices in memory, and how it is to end.
+
+use super::cases::Case;
+use super::devices::{Limits, Sink, Source, UNLIMITED};
+use pb_inst::Workers;
+use pb_solve::{Device, Options, Ran, RunFault, run};
+use std::alloc::Global;
+use std::process::Abort;
+use std::thread::Threads;
+
+/// A run by so many workers over these devices, and the one of them that is to fail in it. Where none is, the report of the case
+/// is to be written.
+#[derive(Clone, Copy)]
+pub struct Trial<'t> {
+    pub case: Case,
+    pub workers: u32,
+    pub split: u32,
+    pub input: Source<'t>,
+    pub cubes: Source<'t>,
+    pub has_cubes: bool,
+    pub out: Limits,
+    pub room: usize,
+    pub fault: Option<RunFault>,
+}
+
+/// A run of the case by two workers over devices that do not fail, without a cube file.
+pub fn trial(case: Case) -> Trial<'static> {
+    Trial {
+        case,
+        workers: 2,
+        split: 0,
+        input: source(case.text),
+        cubes: source(CUBE_FILE),
+        has_cubes: false,
+        out: UNLIMITED,
+        room: usize::MAX,
+        fault: None,
+    }
+}
+
+pub const CUBE_FILE: &[u8] = b"c a note\na 1 0\na -1 2 0\n";
+
+/// A reader of the text that does not fail.
+pub fn source(text: &[u8]) -> Source<'_> {
+    Source {
+        text,
+        more: b"",
+        limits: UNLIMITED,
+    }
+}
+
+impl<'t> Trial<'t> {
+    /// The same with these limits on the device that the fault names.
+    pub fn limited(self, device: RunFault, limits: Limits) -> Trial<'t> {
+        let mut trial = self;
+        match device {
+            RunFault::ReadInput => trial.input.limits = limits,
+            RunFault::ReadCubes => {
+                trial.cubes.limits = limits;
+                trial.has_cubes = true;
+            }
+            RunFault::Write => trial.out = limits,
+        }
+        trial
+    }
+
+    /// Whether the run ends as it is to.
+    pub fn comes_out<R: Abort + Threads + Sync>(&self, rt: &R, alloc: Global) -> bool {
+        let options = Options {
+            format: self.case.format,
+            workers: Workers::new(self.workers).expect(rt, "a number of workers"),
+            split: self.split,
+            nodes: None,
+        };
+        let mut input = Device::new(self.input);
+        let mut cubes = Device::new(self.cubes);
+        let mut out = Device::new(Sink {
+            limits: self.out,
+            room: self.room,
+            kept: Vec::new(alloc),
+            flushed: Vec::new(alloc),
+        });
+        let cube_file = if self.has_cubes {
+            Some(&mut cubes)
+        } else {
+            None
+        };
+        let answer = run(rt, alloc, &mut input, cube_file, options, &mut out);
+        let failed = [input.failed(), cubes.failed(), out.failed()];
+        self.is_end(answer, failed, &out.into_inner())
+    }
+
+    /// Whether the run is to end with this answer, with the devices that failed, and with what was written. Where a reader fails
+    /// nothing is.
+    fn is_end(&self, answer: Result<Ran, RunFault>, failed: [bool; 3], written: &Sink) -> bool {
+        let Some(fault) = self.fault else {
+            let ran = Ran {
+                status: self.case.status,
+                cut: false,
+            };
+            return answer == Ok(ran)
+                && failed == [false; 3]
+                && written.has_flushed(self.case.report);
+        };
+        let is_failed = [
+            fault == RunFault::ReadInput,
+            fault == RunFault::ReadCubes,
+            fault == RunFault::Write,
+        ];
+        answer == Err(fault) && failed == is_failed && (is_failed[2] || written.has_flushed(b""))
+    }
+}
