@@ -12,7 +12,7 @@ the form of a must-fail edit. Nothing is proved: a plant is a bug that no contra
     efforts FAMILY   searches of this family take more decisions than tests/runs/efforts.py allows
     requests NAME    on this instance a run makes more requests for memory than tests/work.py allows
     program SCRIPT   the program, built without proof, fails in tests/runs/SCRIPT.py: examples, commands, texts, budgets, faults, threads
-                     or memory; a plant in another program than pbcube is tried in that one
+                     or memory, or pbcube_task in tasks; a plant in another program than pbcube is tried in that one
 
 With no names all are planted: an hour or more, so this is no part of the gate. The scripts for faults, threads and memory want a
 C compiler. With --check nothing is planted: it looks only whether each plant still can be, and whether its guard is there, which
@@ -74,7 +74,8 @@ class PlantedCopy(copies.Copy):
             write(after)
             guard, *words = plant.guard.split()
             if guard == "program":
-                return self.by_program(*words, plant.crate if plant.crate in PROGRAMS else "pbcube")
+                usual = "pbcube_task" if words == ["tasks"] else "pbcube"
+                return self.by_program(*words, plant.crate if plant.crate in PROGRAMS else usual)
             return getattr(self, f"by_{guard}")(*words)
         finally:
             write(before)

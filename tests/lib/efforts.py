@@ -34,6 +34,11 @@ def ring_cover(size):
     return of(size, ring_costs(size), [clause(*pair) for pair in ring(size, CHORDS)])
 
 
+def ring_before_others(size, others):
+    """One of any two near each other on a ring is chosen, and there are so many variables more, which no row names."""
+    return of(size + others, [], [clause(*pair) for pair in ring(size, (1, 2))])
+
+
 def gated_cover(size, gates):
     """The same where each row is met by an open gate too: so many gates, each of as many rows one after the other. What follows
     from an open one contradicts itself, so none is; but the relaxation opens half of each."""
@@ -59,6 +64,11 @@ def crowd(after, holes):
     return [clause(*it) for it in [*seats, *pairs]]
 
 
+def pigeons(holes):
+    """The same alone."""
+    return of((holes + 1) * holes, [], crowd(0, holes))
+
+
 def crowd_behind_ring(size, holes):
     """More pigeons than holes behind a ring of so many variables, of which one of any two near each other is chosen."""
     near = [clause(*pair) for pair in ring(size, (1, 2, 3, 4))]
@@ -77,6 +87,13 @@ def packing(things, bins, room):
     places = [[thing * bins + bin + 1 for bin in range(bins)] for thing in range(things)]
     lies = [(tuple((1, it) for it in row), "=", 1) for row in places]
     return of(things * bins, [], lies + [(tuple((1, it) for it in column), "<=", room) for column in zip(*places)])
+
+
+def things_without_a_place(things, places):
+    """So many things, each of which lies at one of the places, and no two at one. The first thing costs something at the first place."""
+    at = [[thing * places + place + 1 for place in range(places)] for thing in range(things)]
+    alone = [(tuple((1, it) for it in column), "<=", 1) for column in zip(*at)]
+    return of(things * places, [(1, 1)], [clause(*row) for row in at] + alone)
 
 
 def schedule(jobs):

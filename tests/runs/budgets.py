@@ -9,7 +9,8 @@ to 20, and with some of them in pieces and with two workers. The numbers of some
 `s UNSATISFIABLE` must be the whole answer; with `s SATISFIABLE` the values must be feasible and the `o` line their cost; `s UNKNOWN`
 stands alone. With one worker a greater budget never does worse, and once it is enough it stays so. Where some assignments are pieces
 of their own, a run that makes no decision tells the first of these, or the whole answer where the other piece needs no decision.
-Two worked instances end within a budget that is enough only where each decision has a bound before it. Worked texts (worked_texts.py)
+Two worked instances end within a budget that is enough only where each decision has a bound before it, one is cut by each budget that
+is less than its dives need, and others owe a report within each of some budgets (worked_budgets.py). Worked texts (worked_texts.py)
 have the report that is owed with their budget.
 """
 import random
@@ -25,6 +26,7 @@ from lib import PROCESSORS, STATUSES, built, ran
 from lib.draws import instances
 from lib.efforts import ring_cover
 from lib.reports import values_line
+from lib.worked_budgets import WITHIN
 from lib.worked_texts import BUDGETED
 
 INSTANCES = 300
@@ -51,6 +53,8 @@ min: 1 x1 1 x2 1 x3 1 x4 1 x5 1 x6 1 x7 1 x8 1 x9 1 x10 1 x11 ;
 # first one takes a decision more. Where a dive goes on though the bound tells that nothing below it costs less than what is held,
 # the ring takes seven more.
 ENOUGH = [("a tie", TIED, 22), ("a dive", ring_cover(420).text(), 1141)]
+# A search that dives from its root, and budgets of fewer decisions than it needs, those of its dives among them.
+DIVING, FEWER = ring_cover(390).text(), (0, 64, 300)
 
 
 def found(instance, report):
@@ -139,13 +143,25 @@ def judged(program, folder, number, instance):
     return len(divisions) + 3, [f"{what}: {why}\n{instance.text()}" for what, why in wrong]
 
 
-def cut_though_enough(program, folder):
-    """What of the worked instances was cut, though its budget is enough."""
+def worked_complaints(program, folder):
+    """What is wrong with runs on worked instances, one line for each."""
+    instance, file = folder / f"{Path(program).name}.opb", folder / f"{Path(program).name}.cubes"
+
+    def within(budget, text, cubes=None):
+        instance.write_text(text)
+        file.write_text(cubes or "")
+        return ran([program, "--nodes", str(budget), *(["--cubes", file] if cubes else []), instance])
+
     for name, text, budget in ENOUGH:
-        file = folder / f"{Path(program).name}_{name.replace(' ', '_')}.opb"
-        file.write_text(text)
-        if ran([program, "--nodes", str(budget), file]).status != STATUSES["s OPTIMUM FOUND"]:
-            yield f"{Path(program).name}: {name}: {budget} decisions are not enough"
+        if within(budget, text).status != STATUSES["s OPTIMUM FOUND"]:
+            yield f"{name}: {budget} decisions are not enough"
+    for budget in FEWER:
+        if within(budget, DIVING).status not in (0, STATUSES["s SATISFIABLE"]):
+            yield f"a dive: {budget} decisions are enough"
+    for text, cubes, owed in WITHIN:
+        for budget, report in owed.items():
+            if (said := within(budget, text, cubes).out) != report:
+                yield f"{text}{cubes or ''}{budget} decisions: {said!r}, where {report!r} is owed"
 
 
 def unowed(program, folder):
@@ -157,7 +173,7 @@ def unowed(program, folder):
         files = [file] if cubes is None else ["--cubes", file.with_suffix(".cubes"), file]
         ended = ran([program, "--format", format, "--nodes", str(budget), *files])
         if (ended.out, ended.status) != (report, status_of(report)):
-            yield f"{Path(program).name}: {text} {cubes} with {budget} decisions: {ended}"
+            yield f"{text} {cubes} with {budget} decisions: {ended}"
 
 
 def status_of(report):
@@ -173,8 +189,8 @@ def main(programs):
             runs, failed = runs + count, failed + len(wrong)
             for text in wrong:
                 print(f"budgets: {text}")
-        tellers = [(teller, program) for program in programs or built() for teller in (cut_though_enough, unowed)]
-        for text in [it for teller, program in tellers for it in teller(program, Path(folder))]:
+        tellers = [(teller, program) for program in programs or built() for teller in (worked_complaints, unowed)]
+        for text in [f"{program}: {it}" for teller, program in tellers for it in teller(program, Path(folder))]:
             failed += 1
             print(f"budgets: {text}")
     print(f"budgets: {runs} runs on {INSTANCES} instances, {failed} failed")

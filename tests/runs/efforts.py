@@ -6,7 +6,9 @@
 
 A PROGRAM is a build of `bench`; without one it takes those that the merge gate built. Each family needs a part of the search that
 others can do without; its comment tells how many times as many decisions it takes where that part is lost. A search makes the same
-decisions in each run, so that their number needs no clock. With --measure it prints the decisions of today in place of the bounds.
+decisions in each run, so that their number needs no clock. A search asks for what others found at its beginning and whenever 256 more
+decisions have passed, trials and those of dives among them, and offers nothing where nothing is feasible. With --measure it prints the
+decisions of today in place of the bounds.
 """
 import re
 import subprocess
@@ -19,7 +21,9 @@ sys.dont_write_bytecode = True
 sys.path.insert(0, str(Path(__file__).resolve().parents[1]))
 from lib import SECONDS, built, ran, side_by_side
 from lib.draws import Random
-from lib.efforts import chain, crowd_behind_ring, failing_behind_ring, filled_cover, gated_cover, packing, ring_cover, schedule
+from lib.efforts import chain, crowd_behind_ring, failing_behind_ring, filled_cover, gated_cover, packing, pigeons, ring_cover, schedule
+
+INTERVAL = 256  # decisions after which a search asks again
 
 
 @dataclass(frozen=True)
@@ -28,6 +32,20 @@ class Effort:
 
     most: int
     instances: list
+
+
+@dataclass(frozen=True)
+class Told:
+    """What a program told of a search: whether it found something, its decisions, and how often it offered something and asked."""
+
+    is_feasible: bool
+    decisions: int
+    offered: int
+    asked: int
+
+    @property
+    def is_shared_rightly(self):
+        return self.asked == self.decisions // INTERVAL + 1 and (self.offered > 0) == self.is_feasible
 
 
 def clauses(state, variables, count, costs=()):
@@ -70,6 +88,8 @@ FAMILIES = {
     # A literal that fails at the root is not met again below each decision on the ring, of which there are 600; else it takes five times
     # as many.
     "literals that fail are fixed": [Effort(780, [failing_behind_ring()])],
+    # Of eight pigeons one finds no hole, which takes thousands of decisions.
+    "pigeons without a hole are refuted": [Effort(28_400, [pigeons(7)])],
     # Thirteen things find no room in four bins of three each. Thing by thing two million decisions tell that; the multipliers do once
     # the search has gone on for a while.
     "a packing without room is refuted": [Effort(2_820, [packing(13, 4, 3)])],
@@ -97,28 +117,36 @@ FAMILIES = {
 }
 
 
-def decisions(program, folder, name, instance):
-    """How many decisions the search of the instance takes; none where the program does not tell in time."""
+def told(program, folder, name, instance):
+    """What the program tells of the search of the instance; none where it does not end in time."""
     file = folder / f"{program.name}-{name}.opb"
     file.write_text(instance.text())
     try:
         said = ran([program, "search", file]).err
     except subprocess.TimeoutExpired:
         said = ""
-    told = re.match(r"cost .+, (\d+) decisions, ", said)
-    return int(told[1]) if told else None
+    words = re.fullmatch(r"cost (.+), (\d+) decisions, searched in .+, (\d+) improvements, asked (\d+) times\n", said)
+    return Told(words[1] != "None", *map(int, words.groups()[1:])) if words else None
 
 
-def counted(program, folder, name, effort):
-    """The same of all instances of the effort together."""
-    counts = [decisions(program, folder, f"{name}-{number}", it) for number, it in enumerate(effort.instances)]
-    return None if None in counts else sum(counts)
+def told_of_all(program, folder, name, effort):
+    """The same of each instance of the effort."""
+    return [told(program, folder, f"{name}-{number}", it) for number, it in enumerate(effort.instances)]
 
 
-def complaint(family, effort, count):
-    """What is wrong with so many decisions, or None."""
+def counted(told):
+    """The decisions of all searches together; none where one did not end in time."""
+    return None if None in told else sum(it.decisions for it in told)
+
+
+def complaint(family, effort, told):
+    """What is wrong with what was told, or None."""
+    count = counted(told)
     if count is None:
         return f"{family}: no count within {SECONDS} seconds"
+    unshared = [it for it in told if not it.is_shared_rightly]
+    if unshared:
+        return f"{family}: wrongly asked or offered: {unshared}"
     return f"{family}: {count} decisions, where {effort.most} are enough" if count > effort.most else None
 
 
@@ -126,11 +154,11 @@ def main(words):
     programs = [Path(it).absolute() for it in words if it != "--measure"] or built(["bench"])
     jobs = [(it, family, effort) for it in programs for family, efforts in FAMILIES.items() for effort in efforts]
     with tempfile.TemporaryDirectory() as folder:
-        counts = side_by_side(lambda number, job: counted(job[0], Path(folder), number, job[2]), range(len(jobs)), jobs)
+        every = side_by_side(lambda number, job: told_of_all(job[0], Path(folder), number, job[2]), range(len(jobs)), jobs)
     if "--measure" in words:
-        print(*[f"{family}: {count} of {effort.most}" for (_, family, effort), count in zip(jobs, counts)], sep="\n")
+        print(*[f"{family}: {counted(told)} of {effort.most}" for (_, family, effort), told in zip(jobs, every)], sep="\n")
         return 0
-    said = [complaint(family, effort, count) for (_, family, effort), count in zip(jobs, counts)]
+    said = [complaint(family, effort, told) for (_, family, effort), told in zip(jobs, every)]
     wrong = [f"efforts: {program.name}: {it}" for (program, _, _), it in zip(jobs, said) if it]
     print(*wrong, f"efforts: {len(jobs) - len(wrong)} passed, {len(wrong)} failed", sep="\n")
     return 1 if wrong else 0

@@ -5,8 +5,10 @@
 
 It takes the library that is built. Each instance is small; some have no objective, some no solution. Between the questions of one
 instance more is told of it, and values are suggested. A question is for the least assignment under literals, why there is none, or
-which variables are fixed, some with a budget of decisions. A row of questions on a larger instance must take no memory but for its
-first ones. Where there is no cargo Rust is left out, and all where there is no C compiler.
+which variables are fixed, some with a budget of decisions; the literals may repeat, contradict each other and be of a variable that
+nothing names. Worked questions are cut, and those after them are not, since what is known takes no decision. A row of questions on a
+larger instance must take no memory but for its first ones. Where there is no cargo Rust is left out, and all where there is no C
+compiler.
 """
 import itertools
 import os
@@ -24,9 +26,14 @@ from lib.instance import HOLDS, value
 from lib.reports import values_line
 
 pbcube = callers.package()
-INSTANCES = 300
+INSTANCES = 340
 QUESTIONS = 20
+VARIABLES, OTHER_VARIABLES, EVERY = (2, 7), (1, 10), 6  # the others are of one in so many instances
 ROW, ROW_ITEMS, ROW_QUESTIONS = 1000, 60, 10_000
+# Costs and rows: x1 and x3 cost 3, and so does x2, which comes first. Without a decision nothing is known, and once it was solved all is.
+TIED = (((2, 1), (3, 2), (1, 3)), ((((1, 1), (1, 2)), ">=", 1), (((1, 2), (1, 3)), ">=", 1)))
+CUT, LEAST = ("s UNKNOWN\n", 1), ("o 3\ns OPTIMUM FOUND\nv -x1 x2 -x3\n", 30)
+KINDS = (("under", 0), ("explain", 0), ("fixed", 0), ("fixed", 1))  # with which assignments they are about
 FIRST_QUESTIONS = 1  # which may take memory: for the search, and for two assignments
 STATUSES = {False: "0", True: "1", None: "2"}
 
@@ -49,7 +56,8 @@ class Known:
 
 
 def is_true(values, literal):
-    return values[abs(literal) - 1] == (literal > 0)
+    """A literal of a variable that nothing names is left out."""
+    return abs(literal) > len(values) or values[abs(literal) - 1] == (literal > 0)
 
 
 def drawn_terms(variables, count):
@@ -65,7 +73,8 @@ def drawn_constraint(variables):
 
 @dataclass(frozen=True)
 class Step:
-    """A statement ('objective', 'sum'), values to be suggested, a question, or 'new', and of a question which assignments it is about."""
+    """A statement ('objective', 'sum'), values to be suggested, a question, or 'new' with the number of variables, and of a question which
+    assignments it is about."""
 
     kind: str
     given: tuple = ()
@@ -73,6 +82,7 @@ class Step:
     decisions: int = NO_LIMIT
     listed: tuple = ()
     has_objective: bool = False
+    owed: tuple | None = None  # what has to be said and answered, where that is known
 
     def written(self):
         """As the drivers read it."""
@@ -97,17 +107,18 @@ class Step:
 
 def drawn_question(variables, listed, has_objective):
     kind = random.choice(("under", "explain", "fixed"))
-    count = random.randint(0, variables)
-    given = tuple(random.choice((1, -1)) * random.randint(1, variables) for _ in range(count))
+    count = random.randint(0, random.choice((4, variables)))
+    most = variables + (random.random() < 0.25)
+    given = tuple(random.choice((1, -1)) * random.randint(1, most) for _ in range(count))
     decisions = random.randint(0, 3) if random.random() < 0.15 else NO_LIMIT
     return Step(kind, given, random.randint(0, 1), decisions, listed, has_objective)
 
 
 def steps_of(number):
     """What is told and asked of one instance."""
-    variables = random.randint(2, 7)
+    variables = random.randint(*(OTHER_VARIABLES if number % EVERY == 0 else VARIABLES))
     known = Known(variables, None if number % 3 == 0 else drawn_terms(variables, variables))
-    yield Step("new")
+    yield Step("new", (variables,))
     if known.objective is not None:
         yield Step("objective", tuple(known.objective))
     whole = ([(1, variable) for variable in range(1, variables + 1)], ">=", 0)  # which names each variable
@@ -124,6 +135,23 @@ def steps_of(number):
         if random.random() < 0.2:
             yield Step("suggest", tuple(random.random() < 0.5 for _ in range(variables)))
         yield drawn_question(variables, listed, known.objective is not None)
+
+
+def of_tied(questions):
+    """What is told of the tied instance, and these questions on it: kind, literals, which assignments they are about, decisions, and the
+    answer that is owed, where one is given."""
+    costs, rows = TIED
+    listed = tuple(Known(len(costs), costs, rows).listed())
+    yield from (Step("new", (len(costs),)), Step("objective", costs), *(Step("sum", row) for row in rows))
+    for kind, given, among, decisions, *owed in questions:
+        yield Step(kind, given, among, decisions, listed, True, *owed)
+
+
+def worked_steps():
+    """A question that is cut, and those of each kind after it; and one that needs a decision until it was answered."""
+    under = ((), (-2,), (-1, -2), (1, -1), (4, -4))
+    yield from of_tied([("under", (), 0, 0, CUT), *((kind, it, among, NO_LIMIT) for it in under for kind, among in KINDS)])
+    yield from of_tied([("under", (), 0, decisions, owed) for decisions, owed in ((0, CUT), (NO_LIMIT, LEAST), (0, LEAST))])
 
 
 def is_least(step, said, answer):
@@ -172,7 +200,8 @@ JUDGES = {"under": is_least, "explain": is_why, "fixed": is_fixed}
 
 
 class Asked:
-    """A model of the package for Python that does what each step says."""
+    """A model of the package for Python that does what each step says. It is asked of the variables that are named, since to it all
+    variables that it is asked of are."""
 
     def __init__(self, variables):
         self.model = pbcube.Model()
@@ -198,7 +227,7 @@ class Asked:
     def ask(self, step):
         """The same as a driver answers."""
         nodes = None if step.decisions == NO_LIMIT else step.decisions
-        assuming = [self.literal(number) for number in step.given]
+        assuming = [self.literal(number) for number in step.given if abs(number) <= len(self.variables)]
         if step.kind == "under":
             answer = self.model.solve(nodes, assuming=assuming, start=self.start)
             return report_of(answer.cost, answer.values, answer.status.value, step.has_objective), answer.status.value
@@ -214,10 +243,9 @@ class Asked:
 
 def by_python(every):
     asked, reports = None, []
-    for at, step in enumerate(every):
+    for step in every:
         if step.kind == "new":
-            whole = next(it for it in every[at:] if it.kind == "sum")
-            asked = Asked(len(whole.given[0]))
+            asked = Asked(*step.given)
         elif step.kind in JUDGES:
             reports.append(asked.ask(step))
         else:
@@ -230,7 +258,7 @@ def wrong_answers(way, every, reports):
     if len(reports) != len(questions):
         yield f"{way}: {len(reports)} answers to {len(questions)} questions"
     for step, (said, answer) in zip(questions, reports):
-        if not JUDGES[step.kind](step, said, answer):
+        if not JUDGES[step.kind](step, said, answer) or step.owed not in (None, (said, answer)):
             yield f"{way}: {said!r} with {answer} to {step.written()!r} on {step.listed[:8]}"
 
 
@@ -261,7 +289,7 @@ def memory_of_a_row(command):
 
 def main():
     random.seed(10)
-    every = [step for number in range(INSTANCES) for step in steps_of(number)]
+    every = [*worked_steps(), *(step for number in range(INSTANCES) for step in steps_of(number))]
     with tempfile.TemporaryDirectory() as name:
         commands = dict(drivers(Path(name)))
         ways = {way: by_driver(command, every) for way, command in commands.items()}

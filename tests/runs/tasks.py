@@ -1,13 +1,15 @@
 #!/usr/bin/env python3
 """Searches the pieces of each example in one to five tasks at the same time, alone and with a folder of notes between them, and
 prints where their reports together are not the answer on the whole instance. Of worked texts it also looks which pieces a budget
-cuts, which a task of some of many names as done, and what a note lends.
+cuts, which a task of some of many names as done, and what a note lends. Each piece of other worked instances is searched by a task
+of its own, whose report is owed.
 
     tests/runs/tasks.py [PBCUBE_TASK]
 
 Without a word it takes the program that the merge gate built by LLVM.
 """
 import hashlib
+import itertools
 import sys
 import tempfile
 from concurrent.futures import ThreadPoolExecutor
@@ -15,7 +17,8 @@ from pathlib import Path
 
 sys.dont_write_bytecode = True
 sys.path.insert(0, str(Path(__file__).resolve().parents[1]))
-from lib import program, ran, side_by_side
+from lib import Ended, program, ran, side_by_side
+from lib.efforts import ring_before_others
 from lib.examples import divisions_of, examples
 from lib.reports import HEADING, digest, part, rank
 from lib.worked_texts import BUDGETED, TWO_OF_THREE, UNKNOWN
@@ -39,6 +42,17 @@ NOTED = [
     ("cost 0\nvalues 000\n", UNKNOWN),
     ("cost -5\nvalues 101\n", "o 4\ns SATISFIABLE\nv x1 -x2 x3\n"),
 ]
+
+# Texts with cubes, and for each piece the first of its assignments, where it has any.
+WORKED = [
+    # one cube, and the remainder
+    ("p inccnf\n1 2 0\na 1 0\n", ["1 -2", "-1 2"]),
+    # a cube that contradicts itself, empty cubes, and a remainder without assignments
+    ("p inccnf\n1 2 0\na 1 -1 0\na 0\na 0\n", [None, "-1 2", "-1 2", None]),
+]
+# All cubes over nine variables that no constraint names leave nothing. The search of the remainder sees it within so many decisions where
+# it begins with these variables.
+RING, BESIDE, ENOUGH = 40, range(41, 50), 767
 
 
 def told(out):
@@ -111,7 +125,7 @@ def wrongly_cut(task, room):
         files = [file] if cubes is None else ["--cubes", file.with_suffix(".cubes"), file]
         ended = ran([task, "--format", format, "--nodes", str(budget), "--task", "0", "--tasks", "1", *files])
         if cut_pieces(ended.out) != cut:
-            yield f"tasks: {text} {cubes} with {budget} decisions: {ended}"
+            yield f"{text} {cubes} with {budget} decisions: {ended}"
 
 
 def wrongly_dealt(task, room):
@@ -124,7 +138,7 @@ def wrongly_dealt(task, room):
         ended = ran([*command, *nodes, "--task", str(number), "--tasks", str(tasks)])
         named = "".join(f" {piece}" for piece in done)
         if not ended.out.startswith(part(f"{number} of {tasks}", TWO_OF_THREE, "9 split 3 cubes none", named)):
-            yield f"tasks: task {number} of {tasks}: {ended}"
+            yield f"task {number} of {tasks}: {ended}"
     heading = part("8 of 9", TWO_OF_THREE, "9 split 3 cubes none", " 8")
     for place, (note, claim) in enumerate(NOTED):
         notes = room / f"notes-{place}"
@@ -133,7 +147,7 @@ def wrongly_dealt(task, room):
             (notes / f"{other}.note").write_text(f"pbcube note of instance {digest(TWO_OF_THREE)}\n{note}")
         ended = ran([*command, "--task", "8", "--tasks", "9", "--exchange", notes])
         if ended.out != heading + claim:
-            yield f"tasks: the note {note!r}: {ended}"
+            yield f"the note {note!r}: {ended}"
 
 
 def miscounted(task, room):
@@ -143,12 +157,38 @@ def miscounted(task, room):
     file.write_text(text)
     ended = ran([task, "--format", "icnf", "--task", "0", "--tasks", "1000001", file])
     if not ended.out.startswith(part("0 of 1000001", text, "1000001 split 0 cubes none", " 0")):
-        yield f"tasks: a million cubes: {ended}"
+        yield f"a million cubes: {ended}"
+
+
+def is_owed(said, text, number, pieces, cubes, values):
+    """Whether this is the report of a task that has this piece alone, which is done, with these values or none."""
+    claim = f"s SATISFIABLE\nv {values} 0\n" if values else "s UNKNOWN\n"
+    division = f"{pieces} split 0 cubes {digest(cubes) if cubes else 'none'}"
+    return said == Ended(part(f"{number} of {pieces}", text, division, f" {number}") + claim, "", 10 if values else 0)
+
+
+def wrong_pieces(task, folder):
+    """What is wrong with searches of single pieces, one line for each."""
+    file, beside = folder / "text", folder / "cubes"
+    for text, claims in WORKED:
+        file.write_text(text)
+        for number, values in enumerate(claims):
+            said = ran([task, "--format", "icnf", "--tasks", str(len(claims)), "--task", str(number), file])
+            if not is_owed(said, text, number, len(claims), None, values):
+                yield f"piece {number} of {text!r}: {said}"
+    cubes = "".join(f"a {' '.join(map(str, it))} 0\n" for it in itertools.product(*((it, -it) for it in BESIDE)))
+    text, rest = ring_before_others(RING, len(BESIDE)).text(), 2 ** len(BESIDE)
+    file.write_text(text)
+    beside.write_text(cubes)
+    said = ran([task, "--cubes", beside, "--nodes", str(ENOUGH), "--tasks", str(rest + 1), "--task", str(rest), file])
+    if not is_owed(said, text, rest, rest + 1, cubes, None):
+        yield f"a remainder without assignments: {said}"
 
 
 def wrong_on_worked_texts(task):
+    tellers = (wrongly_cut, wrongly_dealt, miscounted, wrong_pieces)
     with tempfile.TemporaryDirectory(prefix="pbcube-tasks-") as room:
-        return [line for lines in (wrongly_cut, wrongly_dealt, miscounted) for line in lines(task, Path(room))]
+        return [f"tasks: {line}" for lines in tellers for line in lines(task, Path(room))]
 
 
 def main():

@@ -1,7 +1,8 @@
-//! Searches an instance as one piece and says on standard error what it found, how many decisions that took, and how
-//! long. The first word is a file of clauses, where its name ends in `.cnf`, and else of linear constraints. A second
-//! one is a number k: the instance is then searched in the pieces of its split over k variables. With `anew` as the third
-//! one each piece has a search of its own, which knows nothing of the conflicts and multipliers of the pieces before.
+//! Searches an instance as one piece and says on standard error what it found, how many decisions that took, how long, how
+//! often it improved what it held, and how often it asked for what other searches found. The first word is a file of clauses,
+//! where its name ends in `.cnf`, and else of linear constraints. A second one is a number k: the instance is then searched in
+//! the pieces of its split over k variables. With `anew` as the third one each piece has a search of its own, which knows
+//! nothing of the conflicts and multipliers of the pieces before.
 
 ghost use Rattle.std.specs.Prelude.{◌≡◌, ◌+◌, ◌≤◌, false, length, IfSome};
 
@@ -14,10 +15,11 @@ use std::alloc::Global;
 use std::time::{CpuClock, Duration};
 use std::{env, fs, io};
 
-/// Counts the assignments that it is offered, and lends nothing.
+/// Counts the assignments that it is offered, and how often it is asked for one, and lends nothing.
 #[derive(Clone, Copy, Debug)]
 struct Counter {
     offered: u64,
+    asked: u64,
 }
 
 impl Share for Counter {
@@ -34,6 +36,7 @@ impl Share for Counter {
     }
 
     fn borrow(&mut self, _below: Number, _into: &mut Assignment) -> bool {
+        self.asked = self.asked.saturating_add(1);
         false
     }
 }
@@ -65,6 +68,7 @@ struct Measured {
     cost: Option<Number>,
     decisions: u64,
     improvements: u64,
+    asked: u64,
     searching: Duration,
 }
 
@@ -101,13 +105,17 @@ fn timed(
     requires same_instance { best.old.problem ≡ search.old.division.problem }
     ensures same_instance { best.new.problem ≡ best.old.problem }
 {
-    let mut counter = Counter { offered: 0 };
+    let mut counter = Counter {
+        offered: 0,
+        asked: 0,
+    };
     let start = rt.process_cpu_time().ok()?;
     let decisions = search_pieces(search, first, end, best, &mut counter);
     let taken = rt.process_cpu_time().ok()?.saturating_sub(start);
     measured.cost = best.cost();
     measured.decisions = measured.decisions.saturating_add(decisions);
     measured.improvements = measured.improvements.saturating_add(counter.offered);
+    measured.asked = measured.asked.saturating_add(counter.asked);
     measured.searching = measured.searching.saturating_add(taken);
     Some(())
 }
@@ -125,6 +133,7 @@ fn measure(rt: &HostRuntime, instance: &Instance, k: u32, anew: bool) -> Option<
         cost: None,
         decisions: 0,
         improvements: 0,
+        asked: 0,
         searching: Duration::ZERO,
     };
     let count = pieces.len();
@@ -142,9 +151,10 @@ fn print(rt: &HostRuntime, measured: &Measured) -> io::Result<()> {
     let cost = measured.cost;
     let decisions = measured.decisions;
     let improvements = measured.improvements;
+    let asked = measured.asked;
     let searching = measured.searching;
     eprintln!(rt;
-        "cost {cost:?}, {decisions} decisions, searched in {searching:?}, {improvements} improvements"
+        "cost {cost:?}, {decisions} decisions, searched in {searching:?}, {improvements} improvements, asked {asked} times"
     )
 }
 
