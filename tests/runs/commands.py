@@ -38,12 +38,17 @@ OWN_CUBES = "p inccnf\n1 20 0\na 1 0\n"  # one, of twenty variables
 FIRST = "o 3\ns OPTIMUM FOUND\nv x1 -x2 x3\n"
 SECOND = "o 3\ns OPTIMUM FOUND\nv -x1 x2 -x3\n"
 ATTAINED = "o 3\ns SATISFIABLE\nv -x1 x2 -x3\n"
+FIRST_ATTAINED = "o 3\ns SATISFIABLE\nv x1 -x2 x3\n"
+WORSE = "o 4\ns SATISFIABLE\nv -x1 x2 x3\n"
+FREE = "1 x1 1 x2 >= 1 ;\n1 x2 1 x3 >= 1 ;\n"  # the constraints of the tie, without its objective
+FEASIBLE = "s SATISFIABLE\nv -x1 x2 -x3\n"
+NONE, UNKNOWN, UNSUPPORTED = "s UNSATISFIABLE\n", "s UNKNOWN\n", "s UNSUPPORTED\n"
 
 
 # reports of two tasks, of three pieces, and others that are none of their parts
 IN_THREE = "3 split 1 cubes none"
 PARTS = {
-    "parts/first.report": part("0 of 2", TIE, IN_THREE, " 0 2") + "o 3\ns SATISFIABLE\nv x1 -x2 x3\n",
+    "parts/first.report": part("0 of 2", TIE, IN_THREE, " 0 2") + FIRST_ATTAINED,
     "parts/second.report": part("1 of 2", TIE, IN_THREE, " 1") + ATTAINED,
     "cut.part": part("1 of 2", TIE, IN_THREE, "", " 1") + "s UNKNOWN\n",
     "unnamed.part": part("0 of 2", TIE, IN_THREE, " 0") + ATTAINED,
@@ -52,12 +57,13 @@ PARTS = {
     "no_pieces.part": part("1 of 2", TIE, "0 split 1 cubes none", "") + "s UNKNOWN\n",
     "divided.part": part("1 of 2", TIE, "3 split 2 cubes none", " 1") + ATTAINED,
     "claims.part": part("1 of 2", TIE, IN_THREE, " 1") + SECOND,
-    "costs.part": part("1 of 2", TIE, IN_THREE, " 1") + ATTAINED.replace("o 3", "o 2"),
     "torn.part": part("1 of 2", TIE, IN_THREE, " 1") + "o 3\ns SATISFIABLE\nv -x1 x2\n",
     "others.part": part("1 of 2", TIE, IN_THREE, " 1 2") + ATTAINED,
 }
 FILES = {
     "tie.opb": TIE,
+    "free.opb": FREE,
+    "pair.opb": "1 x1 1 x2 >= 1 ;\n",
     "none_feasible.opb": "1 x1 >= 1 ;\n1 x1 = 0 ;\n",
     "no_objective.opb": "* #variable= 3 #constraint= 1\n1 x2>=1;\n",
     "product.opb": "1 x1 x2 >= 1 ;\n",
@@ -159,6 +165,7 @@ class Row:
     may_write_files: bool = True
     files: dict = field(default_factory=dict)  # the texts of some files that are there afterwards
     absent: tuple = ()  # what is not there then
+    given: dict = field(default_factory=dict)  # the texts of files that are made for it
 
 
 def refused(words, *parts):
@@ -216,7 +223,6 @@ def told_version(name, why=f": {NO_ROOM}"):
     return [Row("--version", told), Row("-V", told), Row("--version", err=f"{name}: cannot write{why}\n", status=1, out_to=FULL)]
 
 
-UNSUPPORTED = "s UNSUPPORTED\n"
 PRODUCT = hinted("product.opb", "NonLinear", f"line 1, column 6: 'x2': {NO_PRODUCT}")
 SHORT_HELP = """\
 Finds the least assignment of a pseudo-Boolean instance
@@ -523,7 +529,75 @@ def rejected(words, why):
     return Row(words, err=f"pbcube_join: {why}\n", status=1)
 
 
+def of_task(task, done, claim, cut="", tasks=2, division=IN_THREE, text=TIE):
+    """The report of one of so many tasks, which has done these pieces."""
+    return part(f"{task} of {tasks}", text, division, done, cut) + claim
+
+
+FIRST_PART = of_task(0, " 0 2", FIRST_ATTAINED)
+# an instance, the numbers of some pieces with their reports, and what these make, or the place of the one that is rejected, and why
+OF_THREE_PIECES = [
+    ("tie.opb", [(0, FIRST), (2, NONE)], FIRST_ATTAINED, states([1]), 10),
+    ("tie.opb", [(0, FIRST), (1, WORSE), (2, NONE)], FIRST_ATTAINED, states([1], [1]), 10),
+    ("tie.opb", [(0, UNKNOWN), (1, UNSUPPORTED), (2, NONE)], UNKNOWN, states([0, 1], [0, 1])),
+    ("tie.opb", [], UNKNOWN, states([0, 1, 2])),
+    ("tie.opb", [(0, NONE), (1, NONE), (2, NONE)], NONE, "", 20),
+    ("free.opb", [(0, NONE), (1, FEASIBLE), (2, NONE)], FEASIBLE, "", 10),
+    ("tie.opb", [(0, FIRST), (1, SECOND), (0, FIRST)], 2, "there are two reports of this piece"),
+    ("tie.opb", [(3, FIRST)], 0, "no piece has this number"),
+    ("tie.opb", [(0, "s OPTIMUM FOUND\nv -x1 -x2 x3\n")], 0, "the assignment is infeasible"),
+    ("tie.opb", [(2, NONE), (0, FIRST.replace("o 3", "o 2"))], 1, "the o line is not the cost of the assignment"),
+    ("pair.opb", [(0, SECOND)], 0, "BadVariable at line 3"),
+]
+# the same, of reports of tasks: the first has the pieces 0 and 2, the second has piece 1
+OF_TWO_TASKS = [
+    # the second task found nothing that is better than what the first one lent it
+    ("tie.opb", [of_task(0, " 0 2", ATTAINED), of_task(1, " 1", ATTAINED)], SECOND, "", 30),
+    ("tie.opb", [FIRST_PART], FIRST_ATTAINED, again(1), 10),
+    ("tie.opb", [of_task(0, " 0", FIRST_ATTAINED, " 2"), of_task(1, " 1", WORSE)], FIRST_ATTAINED, again(0), 10),
+    # piece 0 is named by no report
+    ("tie.opb", [of_task(0, " 2", UNKNOWN), of_task(1, "", UNKNOWN)], UNKNOWN, again(0, 1)),
+    ("tie.opb", [], UNKNOWN, again(0, 1)),
+    ("tie.opb", [of_task(0, " 0 2", UNKNOWN), of_task(1, " 1", UNKNOWN)], NONE, "", 20),
+    ("free.opb", [of_task(0, " 0 2", UNKNOWN, text=FREE), of_task(1, " 1", FEASIBLE, text=FREE)], FEASIBLE, "", 10),
+    ("tie.opb", [of_task(0, " 0 2", FIRST_ATTAINED, text=FREE)], 0, "the part is of another instance"),
+    ("tie.opb", [of_task(0, " 0", FIRST_ATTAINED, tasks=3)], 0, "the part is of another number of tasks"),
+    *(
+        ("tie.opb", [FIRST_PART, of_task(1, " 1", ATTAINED, division=other)], 1, "the first part is of other pieces")
+        for other in ("4 split 1 cubes none", f"3 split 1 cubes {digest(FREE)}")
+    ),
+    (
+        "tie.opb",
+        [of_task(0, " 0", FIRST_ATTAINED), of_task(1, " 1", ATTAINED), of_task(0, " 2", UNKNOWN)],
+        2,
+        "there are two reports of this task",
+    ),
+    *(("tie.opb", [of_task(0, " 0 2", claim)], 0, "a part has no such answer") for claim in (NONE, UNSUPPORTED)),
+    ("tie.opb", [of_task(0, " 0 2", "o 1\ns SATISFIABLE\nv -x1 -x2 x3\n")], 0, "the assignment is infeasible"),
+    (
+        "tie.opb",
+        [of_task(1, " 1", ATTAINED), of_task(0, " 0 2", FIRST_ATTAINED.replace("o 3", "o 2"))],
+        1,
+        "the o line is not the cost of the assignment",
+    ),
+]
+
+
+def joined(words, folder, cases):
+    """A row for each of these cases, whose reports stand in files of their own."""
+    for at, (instance, reports, *end) in enumerate(cases):
+        given = {f"{folder}/{at}/{place}-{number}.out": text for place, (number, text) in enumerate(reports)}
+        line = " ".join([words, instance, *given])
+        if isinstance(end[0], int):
+            place, why = end
+            yield Row(line, err=f"pbcube_join: {[*given][place]}: {why}\n", status=1, given=given)
+        else:
+            yield Row(line, *end, given=given)
+
+
 JOIN = [
+    *joined("--pieces 3", "of_pieces", OF_THREE_PIECES),
+    *joined("--tasks 2", "of_tasks", [(instance, enumerate(reports), *end) for instance, reports, *end in OF_TWO_TASKS]),
     Row("--pieces 3 tie.opb 2 out/0.out piece-001.out", SECOND, status=30),
     Row(
         "--pieces 3 tie.opb out/0.out cut-1.out",
@@ -577,7 +651,6 @@ JOIN = [
     rejected("--tasks 3 tie.opb cut.part", "cut.part: the part is of another number of tasks"),
     rejected("--tasks 2 tie.opb unnamed.part divided.part", "divided.part: the first part is of other pieces"),
     rejected("--tasks 2 tie.opb claims.part", "claims.part: a part has no such answer"),
-    rejected("--tasks 2 tie.opb costs.part", "costs.part: the o line is not the cost of the assignment"),
     rejected("--tasks 2 tie.opb torn.part", "torn.part: Unfinished at line 7"),
     rejected("--tasks 2 tie.opb others.part", "others.part: OtherTask at line 3"),
     rejected("--tasks 1 tie.opb out/0.out", "out/0.out: Heading at line 1"),
@@ -603,8 +676,9 @@ JOIN = [
 ROWS = {"pbcube": PBCUBE, "pbcube_pieces": PIECES, "pbcube_task": TASK, "pbcube_join": JOIN}
 
 
-def make_files(room):
-    for name, text in {**FILES, **dict.fromkeys(NUMBERS, "s UNKNOWN\n")}.items():
+def make_files(room, rows):
+    given = {name: text for row in rows for name, text in row.given.items()}
+    for name, text in {**FILES, **dict.fromkeys(NUMBERS, UNKNOWN), **given}.items():
         (room / name).parent.mkdir(parents=True, exist_ok=True)
         (room / name).write_text(text)
     for name, data in BYTES.items():
@@ -669,7 +743,7 @@ def judge(program):
     """How many rows of the program went well, and how many did not."""
     rows = ROWS[name_of(program)]
     with tempfile.TemporaryDirectory(prefix="pbcube-commands-") as room:
-        make_files(Path(room))
+        make_files(Path(room), rows)
         answers = side_by_side(lambda row: complaints(program, row, Path(room)), rows)
     for row, found in zip(rows, answers):
         if found:
