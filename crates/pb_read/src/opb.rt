@@ -32,7 +32,7 @@ pub fn read_opb(alloc: Global, text: &[u8]) -> Result<Instance, ReadFault>
     }
     let builder = read_statements(alloc, text)?;
     let vars = builder.greatest.max(least);
-    match builder.instance.finish(vars) {
+    match builder.into_instance().finish(vars) {
         Ok(instance) => Ok(instance),
         Err(_) => unreachable!(),
     }

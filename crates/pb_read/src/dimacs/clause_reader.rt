@@ -28,7 +28,6 @@ pub(crate) fn greatest_var(literals: &[Lit]) -> u32
 }
 
 /// The clauses so far, and the words of one that has begun.
-#[derive(Drop)]
 pub(crate) struct ClauseReader {
     pub(crate) builder: InstanceBuilder,
     /// How many clauses there are to be, where the text says so.
@@ -40,6 +39,21 @@ pub(crate) struct ClauseReader {
     pub(crate) scan: Scan,
     /// The line of the first word of the clause that has begun.
     pub(crate) begun: Option<u64>,
+}
+
+// By hand, so that letting go of a reader is a call wherever it is done, and its parts are written out here alone.
+impl Drop for ClauseReader {
+    fn drop(self) {
+        let ClauseReader {
+            builder: _,
+            announced: _,
+            count: _,
+            literal_count: _,
+            greatest: _,
+            scan: _,
+            begun: _,
+        } = self;
+    }
 }
 
 impl ClauseReader {
@@ -181,6 +195,22 @@ impl ClauseReader {
             self.take_line(line, number)?;
         }
         Ok(None)
+    }
+
+    /// The builder of the clauses so far.
+    pub(crate) fn into_builder(self) -> InstanceBuilder
+        ensures { result ≡ self.builder }
+    {
+        let ClauseReader {
+            builder,
+            announced: _,
+            count: _,
+            literal_count: _,
+            greatest: _,
+            scan: _,
+            begun: _,
+        } = self;
+        builder
     }
 
     /// Looks for a clause that has begun where no more words come.

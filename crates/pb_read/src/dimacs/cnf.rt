@@ -71,7 +71,7 @@ pub fn read_cnf(alloc: Global, text: &[u8]) -> Result<Instance, ReadFault>
             line: lines.last(),
         });
     }
-    match reader.builder.finish(vars) {
+    match reader.into_builder().finish(vars) {
         Ok(instance) => Ok(instance),
         Err(_) => unreachable!(),
     }

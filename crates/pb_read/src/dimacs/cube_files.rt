@@ -20,5 +20,5 @@ pub fn read_cubes(alloc: Global, text: &[u8], n: u32) -> Result<Vec<Cube>, ReadF
     let mut lines = ContentLines::new(text);
     let mut reader = CubeReader::new(alloc, n.min(MAX_VARS));
     reader.take_rest(alloc, &mut lines, ReadKind::Syntax)?;
-    Ok(reader.cubes)
+    Ok(reader.into_cubes())
 }

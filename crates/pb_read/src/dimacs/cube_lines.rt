@@ -46,11 +46,21 @@ pub(crate) fn is_cube_line(line: &[u8]) -> bool
 }
 
 /// What was read of a list of cubes.
-#[derive(Drop)]
 pub(crate) struct CubeReader {
     pub(crate) cubes: Vec<Cube>,
     pub(crate) literal_count: usize,
     pub(crate) scan: Scan,
+}
+
+// By hand, so that letting go of a reader is a call wherever it is done, and its parts are written out here alone.
+impl Drop for CubeReader {
+    fn drop(self) {
+        let CubeReader {
+            cubes: _,
+            literal_count: _,
+            scan: _,
+        } = self;
+    }
 }
 
 impl CubeReader {
@@ -96,14 +106,28 @@ impl CubeReader {
         if let Some(kind) = self.scan.fault(too_many) {
             return Err(ReadFault { kind, line: number });
         }
+        // Room comes first, so that nothing can fail once the cube is there.
+        let Ok(()) = self.cubes.reserve(1) else {
+            return Err(ReadFault::MEMORY);
+        };
         let Ok(cube) = Cube::new(alloc, &self.scan.literals) else {
             return Err(ReadFault::MEMORY);
         };
-        let Ok(()) = self.cubes.push(cube) else {
-            return Err(ReadFault::MEMORY);
-        };
+        self.cubes.push_reserved(cube);
         self.literal_count = total;
         Ok(())
+    }
+
+    /// The cubes so far.
+    pub(crate) fn into_cubes(self) -> Vec<Cube>
+        ensures { result.items ≡ self.cubes.items }
+    {
+        let CubeReader {
+            cubes,
+            literal_count: _,
+            scan: _,
+        } = self;
+        cubes
     }
 
     /// Reads the cube lines that are left.
@@ -152,5 +176,5 @@ pub(crate) fn read_cube_lines(
     let mut reader = CubeReader::new(alloc, MAX_VARS);
     reader.take_line(alloc, line, number, ReadKind::ClauseAfterCube)?;
     reader.take_rest(alloc, lines, ReadKind::ClauseAfterCube)?;
-    Ok(reader.cubes)
+    Ok(reader.into_cubes())
 }

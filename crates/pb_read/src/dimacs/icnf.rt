@@ -51,7 +51,7 @@ pub fn read_icnf(alloc: Global, text: &[u8]) -> Result<(Instance, Vec<Cube>), Re
     reader.end()?;
     let cubes = read_cube_lines(alloc, first_cube, &mut lines)?;
     let vars = reader.greatest.max(greatest_var_of(&cubes));
-    match reader.builder.finish(vars) {
+    match reader.into_builder().finish(vars) {
         Ok(instance) => Ok((instance, cubes)),
         Err(_) => unreachable!(),
     }

@@ -27,7 +27,6 @@ pub(crate) enum StatementError {
 }
 
 /// The statements so far, the greatest index in them, and the statement that has begun, with the line of its first token.
-#[derive(Drop)]
 pub(crate) struct OpbBuilder {
     pub(crate) instance: InstanceBuilder,
     pub(crate) greatest: u32,
@@ -57,6 +56,19 @@ fn statement_error(fault: InstFault) -> StatementError
     }
 }
 
+// By hand, so that letting go of a builder is a call wherever it is done, and its parts are written out here alone.
+impl Drop for OpbBuilder {
+    fn drop(self) {
+        let OpbBuilder {
+            instance: _,
+            greatest: _,
+            is_empty: _,
+            draft: _,
+            line: _,
+        } = self;
+    }
+}
+
 impl OpbBuilder {
     pub(crate) fn new(alloc: Global) -> OpbBuilder
         ensures built { HasBuilt result.instance result.greatest result.is_empty [] }
@@ -69,6 +81,20 @@ impl OpbBuilder {
             draft: Draft::new(alloc),
             line: 0,
         }
+    }
+
+    /// The builder of the statements so far.
+    pub(crate) fn into_instance(self) -> InstanceBuilder
+        ensures { result ≡ self.instance }
+    {
+        let OpbBuilder {
+            instance,
+            greatest: _,
+            is_empty: _,
+            draft: _,
+            line: _,
+        } = self;
+        instance
     }
 
     /// Takes the terms of the draft as an objective.

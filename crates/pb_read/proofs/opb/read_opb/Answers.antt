@@ -1,7 +1,9 @@
-use Rattle.std.proofs.Common.{◌≡◌, ◌<◌, arith, sym, subst, false, ltb, max, inr}
+use Rattle.std.proofs.Common.{◌≡◌, ◌∙◌, ◌<◌, ap, arith, sym, subst, false, ltb, max, inr}
 use Rattle.std.proofs.lemmas.Bool.{le-ltb, lt-ltb, false≢true}
 use Rattle.std.proofs.lemmas.Result.{err_from_is_err_and}
 use Rattle.pb_inst.specs.declared.limits.TheConstants.{MAX_VARS}
+use Rattle.pb_inst.specs.Limits.{HasVariablesWithin}
+use Rattle.pb_inst.specs.Problem.{Statements}
 use Rattle.pb_read.specs.Opb.{header, OpbText}
 use Rattle.pb_read.specs.Terms.{greatest_index}
 use Rattle.pb_read.specs.Building.{terms_of}
@@ -22,7 +24,8 @@ unreachable-requires c =
     let h = c.in_ok-builder.ensures.ok in
     let vars : c.max-vars.result ≡ max (header c.args.text.now) (greatest_index (terms_of b.instance.objective b.instance.constraints)) = omega (arith, c.max-vars.ensures, c.announced_vars-least.ensures, c.if-least-gt-MAX_VARS.false, h.1.index) in
     let t = built_spells c.args.text.now b.instance.objective b.instance.constraints c.max-vars.result small h.0 h.1.same vars in
-    false≢true (c.in-Err.ensures.accepts.1 (t.limits.variable_count, t.limits.variables))
+    let within : HasVariablesWithin c.max-vars.result c.into_instance.result = subst (λ (s : Statements). HasVariablesWithin c.max-vars.result s) (sym c.into_instance.ensures) t.limits.variables in
+    false≢true (c.in-Err.ensures.accepts.1 (t.limits.variable_count, within))
 
 pub returns-clause-found : goal.returns-clause-found
 returns-clause-found c =
@@ -31,7 +34,8 @@ returns-clause-found c =
     let h = c.in_ok-builder.ensures.ok in
     let vars : c.max-vars.result ≡ max (header c.args.text.now) (greatest_index (terms_of b.instance.objective b.instance.constraints)) = omega (arith, c.max-vars.ensures, c.announced_vars-least.ensures, c.if-least-gt-MAX_VARS.false, h.1.index) in
     let t = built_spells c.args.text.now b.instance.objective b.instance.constraints c.max-vars.result small h.0 h.1.same vars in
-    subst (OpbText c.args.text.now) (sym c.in-Ok.ensures.finished) t
+    let is = c.in-Ok.ensures.finished ∙ ap (λ (s : Statements). record { vars = c.max-vars.result; objective = s.objective; constraints = s.constraints }) c.into_instance.ensures in
+    subst (OpbText c.args.text.now) (sym is) t
 
 pub returns-clause-only : goal.returns-clause-only
 returns-clause-only c = λ i u. one_instance c.args.text.now c.in-Ok.instance i (returns-clause-found c) u

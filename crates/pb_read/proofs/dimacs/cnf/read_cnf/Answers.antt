@@ -74,7 +74,7 @@ unreachable-requires c =
     let taken = c.in_ok-take_rest.ensures.ok (Some h.clauses) h.vars [] c.new-reader.ensures in
     let whole = c.in_ok-end.ensures.ok (Some h.clauses) h.vars (placed_words (content_from (c.header.new.self.before + 1) c.header.new.self.rest)) taken in
     let read = all_read c.args.text.now c.in_ok-head.head.now c.in_ok-head.number (content_from (c.header.new.self.before + 1) c.header.new.self.rest) lines h header vars clauses c.take_rest.new.self whole c.if-reader-count.false in
-    let within : HasVariablesWithin h.vars c.take_rest.new.self.builder = subst (λ (s : Statements). HasVariablesWithin h.vars s) (sym whole.holds.built) read.3 in
+    let within : HasVariablesWithin h.vars c.into_builder.result = subst (λ (s : Statements). HasVariablesWithin h.vars s) (sym (c.into_builder.ensures ∙ whole.holds.built)) read.3 in
     false≢true (c.in-Err.ensures.accepts.1 (vars, within))
 
 pub returns-clause-found : goal.returns-clause-found
@@ -87,7 +87,7 @@ returns-clause-found c =
     let taken = c.in_ok-take_rest.ensures.ok (Some h.clauses) h.vars [] c.new-reader.ensures in
     let whole = c.in_ok-end.ensures.ok (Some h.clauses) h.vars (placed_words (content_from (c.header.new.self.before + 1) c.header.new.self.rest)) taken in
     let read = all_read c.args.text.now c.in_ok-head.head.now c.in_ok-head.number (content_from (c.header.new.self.before + 1) c.header.new.self.rest) lines h header vars clauses c.take_rest.new.self whole c.if-reader-count.false in
-    let is = c.in-Ok.ensures.finished ∙ ap (λ (s : Statements). record { vars = h.vars; objective = s.objective; constraints = s.constraints }) whole.holds.built in
+    let is = c.in-Ok.ensures.finished ∙ ap (λ (s : Statements). record { vars = h.vars; objective = s.objective; constraints = s.constraints }) (c.into_builder.ensures ∙ whole.holds.built) in
     subst (CnfText c.args.text.now) (sym is) read.2
 
 pub returns-clause-only : goal.returns-clause-only

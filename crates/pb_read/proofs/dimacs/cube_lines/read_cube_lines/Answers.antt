@@ -1,6 +1,7 @@
 use Rattle.std.proofs.Common.{◌≡◌, ◌∙◌, ◌+◌, ◌∷◌, [], List, ℕ, Some, refl, sym, subst}
 use Rattle.std.specs.Prelude.{◌⊎◌}
 use Rattle.std.proofs.lemmas.Result.{err_from_is_err_and}
+use Rattle.pb_inst.specs.Literal.{Literal}
 use Rattle.pb_inst.specs.declared.limits.TheConstants.{MAX_VARS}
 use Rattle.pb_read.specs.declared.fault.ReadKind.TheVariants.{ClauseAfterCube}
 use Rattle.pb_read.specs.Text.{Placed, items}
@@ -39,4 +40,5 @@ returns-clause-ok c = λ all next.
     let first = (c.in_ok-take_line.ensures.ok [] c.new-reader.ensures.none).0 in
     let read = (c.in_ok-take_rest.ensures.ok (at c.in-Some.line.now c.in-Some.number ∷ []) first).lines in
     let here = subst (λ (m : ℕ). CubeLines (items (at c.in-Some.line.now c.in-Some.number ∷ (content_from (c.args.lines.now.before + 1) c.args.lines.now.rest))) m c.take_rest.new.self.cubes.items) (c.take_line.ensures.same_limit ∙ limit) read in
-    subst (λ (ls : List (Placed (List ℕ))). CubeLines (items ls) MAX_VARS c.take_rest.new.self.cubes.items) (sym e) here
+    let cubes = subst (λ (ls : List (Placed (List ℕ))). CubeLines (items ls) MAX_VARS c.take_rest.new.self.cubes.items) (sym e) here in
+    subst (λ (cs : List (List Literal)). CubeLines (items all) MAX_VARS cs) (sym c.into_cubes.ensures) cubes

@@ -67,7 +67,7 @@ unreachable-requires c =
     let of_cubes : c.greatest_var_of.result ≡ greatest_var c.in_ok-cubes.cubes.items = rw c.deref.ensures.value at c.greatest_var_of.ensures ∙ greatest_by_lists c.in_ok-cubes.cubes.items in
     let vars : c.max-vars.result ≡ max (greatest_var whole.read) (greatest_var c.in_ok-cubes.cubes.items) = omega (arith, c.max-vars.ensures, whole.holds.greatest, of_cubes) in
     let read = all_read c.args.text.now c.in_ok-head.head.now c.in_ok-head.number (content_from (c.header.new.self.before + 1) c.header.new.self.rest) lines header c.take_clauses.new.self whole cubes lists c.max-vars.result vars in
-    let within : HasVariablesWithin c.max-vars.result c.take_clauses.new.self.builder = subst (λ (s : Statements). HasVariablesWithin c.max-vars.result s) (sym whole.holds.built) read.2 in
+    let within : HasVariablesWithin c.max-vars.result c.into_builder.result = subst (λ (s : Statements). HasVariablesWithin c.max-vars.result s) (sym (c.into_builder.ensures ∙ whole.holds.built)) read.2 in
     false≢true (c.in-Err.ensures.accepts.1 (read.1, within))
 
 pub returns-clause-found : goal.returns-clause-found
@@ -81,7 +81,7 @@ returns-clause-found c =
     let of_cubes : c.greatest_var_of.result ≡ greatest_var c.in_ok-cubes.cubes.items = rw c.deref.ensures.value at c.greatest_var_of.ensures ∙ greatest_by_lists c.in_ok-cubes.cubes.items in
     let vars : c.max-vars.result ≡ max (greatest_var whole.read) (greatest_var c.in_ok-cubes.cubes.items) = omega (arith, c.max-vars.ensures, whole.holds.greatest, of_cubes) in
     let read = all_read c.args.text.now c.in_ok-head.head.now c.in_ok-head.number (content_from (c.header.new.self.before + 1) c.header.new.self.rest) lines header c.take_clauses.new.self whole cubes lists c.max-vars.result vars in
-    let is = c.in-Ok.ensures.finished ∙ ap (λ (s : Statements). record { vars = c.max-vars.result; objective = s.objective; constraints = s.constraints }) whole.holds.built in
+    let is = c.in-Ok.ensures.finished ∙ ap (λ (s : Statements). record { vars = c.max-vars.result; objective = s.objective; constraints = s.constraints }) (c.into_builder.ensures ∙ whole.holds.built) in
     subst (λ (i : Problem). IcnfText c.args.text.now i c.in_ok-cubes.cubes.items) (sym is) read.0
 
 pub returns-clause-only : goal.returns-clause-only

@@ -32,4 +32,4 @@ returns-clause-ok c = λ earlier read.
     let more = one_more c.args.other c.take_words.new.self.limit earlier c.args.line.now c.args.self.now.cubes.items c.args.self.now.literal_count here isline
     c.take_words.new.self.literals.items c.take_words.new.self.ended c.take_words.new.self.broken c.take_words.new.self.over h c.len-2.result c.saturating_add-total.result
     (c.len-2.ensures ∙ c.args.self.now.cubes.ok.0) (omega (arith, c.saturating_add-total.ensures, c.len.ensures ∙ c.take_words.new.self.literals.ok.0)) clear in
-    (rw (c.in-Ok-push.ensures.items, c.in-Ok-new.ensures.made, c.deref.ensures.value) more, subst (λ (m : ℕ). first_kind (cube_faults c.args.other m earlier c.args.line.now) ≡ None) same clear)
+    (rw (c.push_reserved.ensures.items, c.in-Ok-reserve.ensures.items, c.in-Ok-new.ensures.made, c.deref.ensures.value) more, subst (λ (m : ℕ). first_kind (cube_faults c.args.other m earlier c.args.line.now) ≡ None) same clear)
