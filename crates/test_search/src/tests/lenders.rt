@@ -2,9 +2,9 @@
 
 ghost use Rattle.std.specs.Prelude.{⊤, true};
 
+use super::values::{Values, set};
 use pb_inst::{Assignment, Number};
 use pb_search::Share;
-use std::alloc::Global;
 
 /// What a share was asked and told.
 #[derive(Clone, Copy)]
@@ -21,28 +21,18 @@ pub struct Notes {
     pub last_offered: Option<Number>,
 }
 
-impl Notes {
-    fn ask(&mut self, below: Number) {
-        self.asked = self.asked.saturating_add(1);
-        if self.first_below.is_none() {
-            self.first_below = Some(below);
-        }
-        self.last_below = Some(below);
-    }
-}
-
-/// Hands over assignments in turn, beginning anew after the last one. Without any it may pretend that it handed something over,
-/// and leave the bits as they are.
-#[derive(Drop)]
-pub struct Lender {
-    lent: Vec<Assignment>,
+/// Hands over values in turn, beginning anew after the last ones. Without any it may pretend that it handed something over, and
+/// leave the bits as they are.
+#[derive(Clone, Copy)]
+pub struct Lender<'a> {
+    lent: &'a [Values],
     next: usize,
     pretends: bool,
     pub notes: Notes,
 }
 
-impl Lender {
-    pub fn new(lent: Vec<Assignment>, pretends: bool) -> Lender {
+impl<'a> Lender<'a> {
+    pub fn new(lent: &'a [Values], pretends: bool) -> Lender<'a> {
         let notes = Notes {
             asked: 0,
             first_below: None,
@@ -57,14 +47,9 @@ impl Lender {
             notes,
         }
     }
-
-    /// One that hands over nothing.
-    pub fn alone(alloc: Global) -> Lender {
-        Lender::new(Vec::new(alloc), false)
-    }
 }
 
-impl Share for Lender {
+impl<'a> Share for Lender<'a> {
     ghost keeps = { λ s t. ⊤ };
 
     ghost lends = { λ s. true };
@@ -79,17 +64,16 @@ impl Share for Lender {
     }
 
     fn borrow(&mut self, below: Number, into: &mut Assignment) -> bool {
-        self.notes.ask(below);
+        self.notes.asked = self.notes.asked.saturating_add(1);
+        self.notes.first_below = self.notes.first_below.or(Some(below));
+        self.notes.last_below = Some(below);
         if self.next >= self.lent.len() {
             self.next = 0;
         }
-        let Some(lent) = self.lent.get(self.next) else {
+        let Some(values) = self.lent.get(self.next) else {
             return self.pretends;
         };
-        if into.len() != lent.len() {
-            return false;
-        }
-        into.copy_from(lent);
+        set(into, *values);
         self.next += 1;
         true
     }

@@ -1,101 +1,88 @@
 //! What a search makes of the bits that are handed over, and what it tells its share.
 
-use super::instances::{
-    Row, add_ring, assignment, costing, crowd, finished, instance, ring_cover, tied,
-};
+ghost use Rattle.std.specs.Prelude.{◌≡◌};
+
+use super::instances::{Cover, Ring, instance, ring_cover};
 use super::lenders::{Lender, Notes};
-use super::searches::{found_after, holding, search_whole, solution};
-use pb_inst::{Assignment, Instance, Number, Relation, SUM_BOUND};
+use super::searches::{WHOLE, found_after, search_each};
+use super::values::{Values, holding};
+use pb_inst::{Instance, Number, SUM_BOUND};
 use std::alloc::Global;
 use std::process::Abort;
 
-/// What is found where these assignments are handed over in turn, and how often the search asks for them.
-fn found_with(
-    rt: &impl Abort,
-    alloc: Global,
-    instance: &Instance,
-    lent: Vec<Assignment>,
-) -> (String, u64) {
-    let mut share = Lender::new(lent, false);
-    let held = found_after(rt, alloc, instance, None, &mut share);
-    (held, share.notes.asked)
-}
-
-/// What the search of the tied instance ends with, where it is lent the assignment that makes these variables alone true.
-fn found_with_lent(rt: &impl Abort, alloc: Global, made_true: &[u32]) -> String {
-    let tied = tied(rt, alloc);
-    let mut lent = Vec::new(alloc);
-    lent.push(assignment(rt, alloc, 3, made_true))
-        .expect(rt, "memory");
-    let (held, _) = found_with(rt, alloc, &tied, lent);
-    held
-}
-
-#[test]
-fn infeasible_bits_are_dropped(rt: HostRuntime) {
-    let held = found_with_lent(&rt, rt.alloc(), &[]);
-    assert!(rt; held.as_str() == "3: x2");
-}
-
-#[test]
-fn a_costly_assignment_is_improved(rt: HostRuntime) {
-    let held = found_with_lent(&rt, rt.alloc(), &[1, 2, 3]);
-    assert!(rt; held.as_str() == "3: x2");
-}
+/// `min: 2 x1 3 x2 1 x3` with `x1 + x2 >= 1` and `x2 + x3 >= 1`: x1 and x3 cost 3, and so does x2, which comes first.
+const TIED: Cover<'_> = Cover {
+    vars: 3,
+    costs: &[(2, 1), (3, 2), (1, 3)],
+    pairs: &[(1, 2), (2, 3)],
+};
 
 /// `min: 1 x1 1 x65` with `x1 + x65 = 1`.
-fn first_or_last(rt: &impl Abort, alloc: Global) -> Instance {
-    let sum: &[(Number, i32)] = &[(1, 1), (1, 65)];
-    let rows: &[Row<'_>] = &[(sum, Relation::Equal, 1)];
-    instance(rt, alloc, 65, sum, rows)
-}
+const FIRST_OR_LAST: Cover<'_> = Cover {
+    vars: 65,
+    costs: &[(1, 1), (1, 65)],
+    pairs: &[(1, 65), (-1, -65)],
+};
 
-/// Of 65 variables the first and the last are true, or none, or the first alone, or all.
-fn some_of_all(rt: &impl Abort, alloc: Global, number: u32) -> Assignment {
-    let mut list = Vec::new(alloc);
-    for place in 0..65u32 {
-        let is_true = match number % 4 {
-            0 => place == 0 || place == 64,
-            1 => false,
-            2 => place == 0,
-            _ => true,
-        };
-        if is_true {
-            list.push(place + 1).expect(rt, "memory");
-        }
-    }
-    assignment(rt, alloc, 65, &list)
-}
+/// What is held at first, if anything is, what is handed over in turn, and whether the share pretends where that is nothing.
+type Lending<'a> = (Option<Values>, &'a [Values], bool);
 
-/// Four assignments in turn, beginning at one of them.
-fn turns(rt: &impl Abort, alloc: Global, first: u32) -> Vec<Assignment> {
-    let mut turns = Vec::new(alloc);
-    for turn in 0..4u32 {
-        let next = some_of_all(rt, alloc, first.wrapping_add(turn));
-        turns.push(next).expect(rt, "memory");
-    }
-    turns
-}
+/// Infeasible bits are dropped, and a costly assignment is improved. What is held is replaced by what costs as much and comes first,
+/// whether the share has nothing to hand over or pretends that it handed something over.
+const TO_TIED: &[Lending<'_>] = &[
+    (None, &[(0, 0)], false),
+    (None, &[(0b111, 0)], false),
+    (Some((0b101, 0)), &[], false),
+    (Some((0b101, 0)), &[], true),
+];
+
+const BOTH: Values = (1, 1);
+
+const NEITHER: Values = (0, 0);
+
+const FIRST: Values = (1, 0);
+
+const ALL: Values = (u64::MAX, u64::MAX);
 
 /// Of what is handed over in turn one assignment is feasible, and comes second.
-#[test]
-fn assignments_handed_over_in_turn(rt: HostRuntime) {
-    let alloc = rt.alloc();
-    let one_of_two = first_or_last(&rt, alloc);
-    for first in 0..4u32 {
-        let lent = turns(&rt, alloc, first);
-        let (held, _) = found_with(&rt, alloc, &one_of_two, lent);
-        assert!(rt; held.as_str() == "1: x65", "from {first}");
+const TO_FIRST_OR_LAST: &[Lending<'_>] = &[
+    (None, &[BOTH, NEITHER, FIRST, ALL], false),
+    (None, &[NEITHER, FIRST, ALL, BOTH], false),
+    (None, &[FIRST, ALL, BOTH, NEITHER], false),
+    (None, &[ALL, BOTH, NEITHER, FIRST], false),
+];
+
+/// In each case the search ends with this cost and these values.
+fn ends_with(
+    rt: &impl Abort,
+    alloc: Global,
+    cover: Cover<'_>,
+    lendings: &[Lending<'_>],
+    want: (Number, u64, u64),
+) -> bool {
+    let instance = instance(rt, alloc, cover);
+    let mut is_right = true;
+    for (held, lent, pretends) in lendings {
+        let mut share = Lender::new(lent, *pretends);
+        is_right &= found_after(rt, alloc, &instance, *held, &mut share) == Some(want);
     }
+    is_right
+}
+
+#[test]
+fn whatever_is_handed_over_the_least_is_found(rt: HostRuntime) {
+    let alloc = rt.alloc();
+    assert!(rt; ends_with(&rt, alloc, TIED, TO_TIED, (3, 0b10, 0)));
+    assert!(rt; ends_with(&rt, alloc, FIRST_OR_LAST, TO_FIRST_OR_LAST, (1, 0, 1)));
 }
 
 /// What the share was asked and told by so many searches of the tied instance, each with what the one before it left.
 fn told_by_searches(rt: &impl Abort, alloc: Global, count: u32) -> Notes {
-    let tied = tied(rt, alloc);
-    let mut share = Lender::alone(alloc);
+    let tied = instance(rt, alloc, TIED);
+    let mut share = Lender::new(&[], false);
     let mut best = holding(rt, alloc, &tied, None);
     for _turn in 0..count {
-        search_whole(rt, alloc, &tied, None, &mut best, &mut share);
+        assert!(rt; search_each(rt, alloc, &tied, &[WHOLE], &mut best, &mut share));
     }
     share.notes
 }
@@ -115,96 +102,73 @@ fn the_share_is_asked_and_told(rt: HostRuntime) {
     assert!(rt; twice.offered == once.offered);
 }
 
-/// Eight pigeons do not fit into seven holes, which takes thousands of decisions.
-#[test]
-fn the_share_is_asked_on_the_way(rt: HostRuntime) {
-    let alloc = rt.alloc();
-    let crowded = crowd(&rt, alloc, 7);
-    let mut share = Lender::alone(alloc);
-    let held = found_after(&rt, alloc, &crowded, None, &mut share);
-    assert!(rt; held.as_str() == "none");
-    let notes = share.notes;
-    assert!(rt; notes.asked > 10);
-    assert!(rt; notes.asked <= 1200);
-    assert!(rt; notes.offered == 0);
-}
-
-/// What is found where these assignments are handed over in turn. The search asks for more than five of them, and for so
-/// many at most.
+/// What is found where these values are handed over in turn. The search asks for more than five of them, and for so many at
+/// most.
 fn found_on_the_way(
     rt: &impl Abort,
     alloc: Global,
     instance: &Instance,
-    lent: Vec<Assignment>,
+    lent: &[Values],
     most: u64,
-) -> String {
-    let (held, asked) = found_with(rt, alloc, instance, lent);
+) -> Option<(Number, u64, u64)> {
+    let mut share = Lender::new(lent, false);
+    let found = found_after(rt, alloc, instance, None, &mut share);
+    let asked = share.notes.asked;
     assert!(rt; 5 < asked && asked <= most, "asked {asked} times");
-    held
+    found
 }
 
-/// All of 120 variables but the first few of every eighth.
-fn nearly_all(rt: &impl Abort, alloc: Global, free: u32) -> Assignment {
-    let mut list = Vec::new(alloc);
-    for place in 0..120u32 {
-        let is_free = place % 8 == 1 && place < free.saturating_mul(8);
-        if !is_free {
-            list.push(place + 1).expect(rt, "memory");
-        }
-    }
-    assignment(rt, alloc, 120, &list)
-}
+/// All variables but the second of each of the first few eights, of none at first and at last of eleven.
+const NEARLY_ALL: &[Values] = &[
+    ALL,
+    (0xffff_ffff_ffff_fffd, u64::MAX),
+    (0xffff_ffff_ffff_fdfd, u64::MAX),
+    (0xffff_ffff_fffd_fdfd, u64::MAX),
+    (0xffff_ffff_fdfd_fdfd, u64::MAX),
+    (0xffff_fffd_fdfd_fdfd, u64::MAX),
+    (0xffff_fdfd_fdfd_fdfd, u64::MAX),
+    (0xfffd_fdfd_fdfd_fdfd, u64::MAX),
+    (0xfdfd_fdfd_fdfd_fdfd, u64::MAX),
+    (0xfdfd_fdfd_fdfd_fdfd, 0xffff_ffff_ffff_fffd),
+    (0xfdfd_fdfd_fdfd_fdfd, 0xffff_ffff_ffff_fdfd),
+    (0xfdfd_fdfd_fdfd_fdfd, 0xffff_ffff_fffd_fdfd),
+];
 
-/// The twelve of these.
-fn nearly_all_in_turn(rt: &impl Abort, alloc: Global) -> Vec<Assignment> {
-    let mut lent = Vec::new(alloc);
-    for free in 0..12u32 {
-        lent.push(nearly_all(rt, alloc, free)).expect(rt, "memory");
-    }
-    lent
-}
+const WITH_CHORDS: Ring<'_> = Ring {
+    size: 120,
+    factor: 7,
+    steps: &[1, 2, 5, 11],
+    doubled: 120,
+};
 
 /// Whatever is handed over on the way, the answer is the same.
 #[test]
 fn assignments_handed_over_on_the_way(rt: HostRuntime) {
     let alloc = rt.alloc();
-    let cover = ring_cover(&rt, alloc, 120, &[1, 2, 5, 11]);
-    let want = found_on_the_way(&rt, alloc, &cover, Vec::new(alloc), 28);
-    let lent = nearly_all_in_turn(&rt, alloc);
-    let held = found_on_the_way(&rt, alloc, &cover, lent, 28);
-    assert!(rt; held.as_str() == want.as_str());
+    let cover = ring_cover(&rt, alloc, WITH_CHORDS);
+    let want = found_on_the_way(&rt, alloc, &cover, &[], 28);
+    let found = found_on_the_way(&rt, alloc, &cover, NEARLY_ALL, 28);
+    assert!(rt; want.is_some() && found == want);
 }
 
 /// Of any three neighbours on a ring of 40 two are chosen, as few as can be. Pairs that are there twice let the search begin
 /// elsewhere than the answer does.
-fn two_of_three(rt: &impl Abort, alloc: Global) -> Instance {
-    let mut costs: Vec<(Number, i32)> = Vec::new(alloc);
-    for place in 0..40i32 {
-        costs.push((1, place + 1)).expect(rt, "memory");
-    }
-    let mut builder = costing(rt, alloc, &costs);
-    add_ring(rt, alloc, &mut builder, 40, 0, &[1, 2]);
-    add_ring(rt, alloc, &mut builder, 40, 20, &[1, 2]);
-    finished(rt, builder, 40)
-}
+const TWO_OF_THREE: Ring<'_> = Ring {
+    size: 40,
+    factor: 0,
+    steps: &[1, 2],
+    doubled: 20,
+};
 
-/// The least choice of two of three, turned round the ring so far.
-fn turned(rt: &impl Abort, alloc: Global, turn: u32) -> Assignment {
-    let mut list = Vec::new(alloc);
-    for place in 0..40u32 {
-        let turned_back = place.wrapping_add(turn) % 40;
-        if turned_back % 3 != 0 || turned_back == 39 {
-            list.push(place + 1).expect(rt, "memory");
-        }
-    }
-    assignment(rt, alloc, 40, &list)
-}
+/// The least choice of two of three: all places but those that three divides, and the last.
+const LEAST_CHOICE: u64 = 0xed_b6db_6db6;
 
-/// All other turns of it.
-fn turned_in_turn(rt: &impl Abort, alloc: Global) -> Vec<Assignment> {
+/// It turned round the ring in all other ways.
+fn turned(rt: &impl Abort, alloc: Global) -> Vec<Values> {
     let mut lent = Vec::new(alloc);
     for turn in 1..40u32 {
-        lent.push(turned(rt, alloc, turn)).expect(rt, "memory");
+        let turned = LEAST_CHOICE.wrapping_shr(turn) | LEAST_CHOICE.wrapping_shl(40 - turn);
+        lent.push((turned & 0xff_ffff_ffff, 0)).expect(rt, "memory");
     }
     lent
 }
@@ -213,9 +177,8 @@ fn turned_in_turn(rt: &impl Abort, alloc: Global) -> Vec<Assignment> {
 #[test]
 fn equal_costs_handed_over_on_the_way(rt: HostRuntime) {
     let alloc = rt.alloc();
-    let cover = two_of_three(&rt, alloc);
-    let lent = turned_in_turn(&rt, alloc);
-    let held = found_on_the_way(&rt, alloc, &cover, lent, 160);
-    let want = solution(&rt, alloc, 27, &turned(&rt, alloc, 0));
-    assert!(rt; held.as_str() == want.as_str());
+    let cover = ring_cover(&rt, alloc, TWO_OF_THREE);
+    let lent = turned(&rt, alloc);
+    let found = found_on_the_way(&rt, alloc, &cover, &lent, 160);
+    assert!(rt; found == Some((27, LEAST_CHOICE, 0)));
 }
