@@ -15,7 +15,7 @@ use Rattle.pb_inst.specs.Problem.{Problem}
 use Rattle.pb_inst.specs.Incumbent.{Solution}
 use Rattle.pb_inst.specs.Meaning.{cost, literal_value}
 use Rattle.pb_inst.proofs.SumProofs.{literal_cases}
-use Rattle.pb_subtree.proofs.LeafLemmas.{bit_of_true}
+use Rattle.pb_prune.proofs.ClosedLemmas.{bit_of_true}
 use Rattle.pb_subtree.proofs.PathLemmas.{negated_true}
 use Rattle.pb_questions.specs.declared.fixing.Among.{Among}
 use Rattle.pb_questions.specs.declared.fixing.Among.TheVariants.{Feasible, Least}

@@ -20,9 +20,9 @@ use Rattle.pb_cubes.specs.Done.{Division, IsCandidate, IsDone}
 use Rattle.pb_subtree.specs.Held.{IsImprovement}
 use Rattle.pb_subtree.specs.Solutions.{SameConstraints, Satisfies, SatisfiesUnder}
 use Rattle.pb_subtree.specs.SearchState.{IsOwn}
-use Rattle.pb_subtree.proofs.Engines.{value_on-true}
+use Rattle.pb_prune.proofs.ValueLemmas.{value_on-true}
 use Rattle.pb_subtree.proofs.Moves.{All_front, All_last}
-use Rattle.pb_subtree.proofs.LeafLemmas.{sign_is}
+use Rattle.pb_prune.proofs.ClosedLemmas.{sign_is}
 use Rattle.pb_subtree.proofs.SearchLemmas.{same_solution, back_solution}
 
 -- there is no cube past the last

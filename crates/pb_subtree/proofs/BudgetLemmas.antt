@@ -1,9 +1,9 @@
 -- What is left of a budget of decisions.
 use Rattle.std.proofs.Common.{◌≡◌, ◌<◌, ◌≤◌, ℕ, ◌+◌, refl, sym, subst, arith, length, Option, None, Some}
 use Rattle.pb_dive.specs.Budget.{with_more}
+use Rattle.pb_subtree.specs.Left.{IsLeftOf, IsPaidFrom, IsDescentPaid}
 use Rattle.pb_dive.proofs.BudgetLemmas.{none_counted, counted_onward}
 use Rattle.pb_engine.specs.EngineState.{EngineState}
-use Rattle.pb_subtree.specs.Left.{IsDescentPaid, IsLeftOf, IsPaidFrom}
 
 pub left_itself : (budget : Option ℕ) → IsLeftOf budget budget
 left_itself None = refl

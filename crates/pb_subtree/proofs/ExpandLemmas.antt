@@ -1,18 +1,20 @@
--- Nodes that are expanded again, after a dive or a look at the share.
-use Rattle.std.proofs.Common.{◌≡◌, Bool, false, subst, sym, Option}
+-- Nodes that are expanded, and expanded again after a dive or a look at the share.
+use Rattle.std.proofs.Common.{◌≡◌, Bool, false, inl, inr, refl, subst, sym, Option, None, Some}
 use Rattle.std.specs.Prelude.{IfNone, IfSome}
 use Rattle.pb_inst.specs.Incumbent.{Incumbent, Solution}
+use Rattle.pb_inst.specs.Literal.{Literal}
 use Rattle.pb_inst.specs.Problem.{Problem}
 use Rattle.pb_engine.specs.EngineState.{EngineState}
 use Rattle.pb_engine.specs.Free.{IsFree}
 use Rattle.pb_engine.specs.Soundness.{IsSoundTrail}
 use Rattle.pb_subtree.specs.declared.branch.Branch.{Branch}
 use Rattle.pb_subtree.specs.declared.search_state.SearchState.{SearchState}
-use Rattle.pb_subtree.specs.Held.{MovesOn}
+use Rattle.pb_prune.specs.Held.{MovesOn}
 use Rattle.pb_subtree.specs.Nodes.{IsBackFromDive, IsExpanded, IsFoundAt}
-use Rattle.pb_subtree.specs.SearchState.{IsClosed, IsFreshOrOneSided, IsSameBeside, SameBranches}
+use Rattle.pb_prune.specs.Subtree.{IsClosed, IsOpenOnOneSide}
+use Rattle.pb_subtree.specs.SearchState.{IsFreshOrOneSided, IsSameBeside, SameBranches}
 use Rattle.pb_subtree.proofs.DivingLemmas.{own_later, same_branches_back, same_branches_itself, same_branches_onward}
-use Rattle.pb_subtree.proofs.HeldLemmas.{moves_onward}
+use Rattle.pb_subtree.proofs.HeldLemmas.{moves_itself, moves_onward}
 
 -- what is held stayed the same, or was found at the place before
 own_stays : (s : EngineState) (x y z : Incumbent) → IsFoundAt s x y → z ≡ y → IsFoundAt s x z
@@ -68,3 +70,33 @@ pub expanded_again : {C : Type 0} (lends : Bool) (s t d u : SearchState C) (x y 
 expanded_again lends s t d u x y z w first next e dived again =
     expanded_onward lends s d u x z w next (same_branches_onward s t d e.same_branches dived.same_branches) (subst (λ (r : EngineState). IsSoundTrail r) (sym dived.taken_back) e.sound) (moves_onward x y z e.moves_on dived.moves_on)
     (λ alone. own_dived t d x y z dived.taken_back e.sound (e.own alone) (dived.own alone)) again
+
+-- a node where nothing was found, and nothing is left
+pub nothing_left : {C : Type 0} (lends : Bool) (s u : SearchState C) (x : Incumbent) → SameBranches s u → IsSoundTrail u.engine → IsClosed x.problem u.engine x.held → IsExpanded lends s u x x None
+nothing_left lends s u x same sound closed = record { free = tt; sides = tt; closed = closed; same_branches = same; sound = sound; moves_on = moves_itself x; own = λ alone. inl refl }
+
+-- a node where a decision is to be made
+pub some_left : {C : Type 0} (lends : Bool) (s u : SearchState C) (x : Incumbent) (b : Branch) → SameBranches s u → IsSoundTrail u.engine → IsFree u.engine b.lit → IsFreshOrOneSided x.problem u.engine x.held b → IsExpanded lends s u x x (Some b)
+some_left lends s u x b same sound free sides = record { free = free; sides = sides; closed = tt; same_branches = same; sound = sound; moves_on = moves_itself x; own = λ alone. inl refl }
+
+-- the same for a literal whose negation has nothing to give
+pub one_side_left : {C : Type 0} (lends : Bool) (s u : SearchState C) (x : Incumbent) (b : Branch) (l : Literal) → b.lit ≡ l → SameBranches s u → IsSoundTrail u.engine → u.engine.conflict ≡ false → IsOpenOnOneSide x.problem u.engine x.held l → IsExpanded lends s u x x (Some b)
+one_side_left lends s u x b l is same sound none side =
+    let here : IsOpenOnOneSide x.problem u.engine x.held b.lit = subst (λ (m : Literal). IsOpenOnOneSide x.problem u.engine x.held m) (sym is) side in
+    some_left lends s u x b same sound (record { variable = here.variable; no_value = here.no_value; no_conflict = none }) (inr here.one_sided)
+
+-- a full trail was handed over, and the engine is the same
+pub leaf_left : {C : Type 0} (lends : Bool) (s t u : SearchState C) (x y : Incumbent) → SameBranches s t → IsSoundTrail t.engine → u.engine ≡ t.engine → IsSameBeside t u → IsClosed x.problem t.engine y.held → MovesOn x y → IsFoundAt t.engine x y → IsExpanded lends s u x y None
+leaf_left lends s t u x y same sound is beside closed moves own = record {
+  free = tt;
+  sides = tt;
+  closed = subst (λ (e : EngineState). IsClosed x.problem e y.held) (sym is) closed;
+  same_branches = same_branches_onward s t u same (same_branches_back t u is beside);
+  sound = subst (λ (e : EngineState). IsSoundTrail e) (sym is) sound;
+  moves_on = moves;
+  own = λ alone. subst (λ (e : EngineState). IsFoundAt e x y) (sym is) own;
+}
+
+-- nothing but what stands beside the engine changed
+pub beside_left : {C : Type 0} (s t u : SearchState C) → SameBranches s t → u.engine ≡ t.engine → IsSameBeside t u → SameBranches s u
+beside_left s t u same is beside = same_branches_onward s t u same (same_branches_back t u is beside)

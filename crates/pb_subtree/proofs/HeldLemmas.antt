@@ -7,7 +7,7 @@ use Rattle.pb_inst.specs.Meaning.{IsFeasible, cost}
 use Rattle.pb_inst.specs.Order.{Precedes, IsBefore}
 use Rattle.pb_inst.specs.Incumbent.{Incumbent, Solution, IsSolution, IsSound, Improves, solution_of}
 use Rattle.pb_inst.proofs.OrderProofs.{before_is_transitive}
-use Rattle.pb_subtree.specs.Held.{IsImprovement, IsNotAfter, MovesOn}
+use Rattle.pb_prune.specs.Held.{IsImprovement, IsNotAfter, MovesOn}
 
 -- what improves on the later improves on the earlier
 pub improvement_on_earlier : (p : Problem) (a : List Bool) (old new : Option Solution) → IsNotAfter p old new → IsImprovement p a new → IsImprovement p a old

@@ -2,7 +2,6 @@ pub mod HeldLemmas
 pub mod PathLemmas
 pub mod Engines
 pub mod LeafLemmas
-pub mod AgreedPrefixLemmas
 pub mod Moves
 pub mod SearchLemmas
 pub mod RootLemmas

@@ -13,10 +13,10 @@ use Rattle.pb_engine.specs.Propagation.{AddsForced}
 use Rattle.pb_engine.specs.EngineState.{EngineState, trail_before}
 use Rattle.pb_engine.specs.Soundness.{assumptions, IsSoundTrail}
 use Rattle.pb_trail.proofs.EngineLemmas.{kept_front}
-use Rattle.pb_subtree.specs.Held.{IsImprovement}
-use Rattle.pb_subtree.specs.Solutions.{SameConstraints, Completes}
+use Rattle.pb_prune.specs.Held.{IsImprovement}
+use Rattle.pb_prune.specs.Solutions.{SameConstraints, Completes}
 use Rattle.pb_engine.specs.Free.{IsFree}
-use Rattle.pb_subtree.specs.SearchState.{IsClosed, IsOpenOnOneSide}
+use Rattle.pb_prune.specs.Subtree.{IsClosed, IsOpenOnOneSide}
 use Rattle.pb_subtree.proofs.Engines.{same_constraints}
 use Rattle.pb_subtree.proofs.PathLemmas.{negated_true}
 use Rattle.pb_subtree.proofs.SearchLemmas.{same_solution, assumptions_true}

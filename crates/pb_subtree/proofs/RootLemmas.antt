@@ -12,11 +12,11 @@ use Rattle.pb_engine.specs.Trail.{value_on}
 use Rattle.pb_engine.specs.Completion.{HasNoCompletion}
 use Rattle.pb_engine.specs.EngineState.{EngineState}
 use Rattle.pb_engine.specs.Soundness.{assumptions, literal_at, IsSoundTrail}
-use Rattle.pb_subtree.specs.Solutions.{SameConstraints, Satisfies, SatisfiesUnder}
+use Rattle.pb_prune.specs.Solutions.{SameConstraints, Satisfies, SatisfiesUnder}
 use Rattle.pb_subtree.specs.SearchState.{IsOwn}
-use Rattle.pb_subtree.proofs.Engines.{value_on-true}
+use Rattle.pb_prune.proofs.ValueLemmas.{value_on-true}
 use Rattle.pb_subtree.proofs.Moves.{All_front, All_last}
-use Rattle.pb_subtree.proofs.LeafLemmas.{sign_is}
+use Rattle.pb_prune.proofs.ClosedLemmas.{sign_is}
 use Rattle.pb_subtree.proofs.SearchLemmas.{same_solution, back_solution}
 
 abbrev True : List Bool → Literal → Type 0

@@ -10,17 +10,17 @@ use Rattle.pb_inst.specs.Cubes.{MakesTrue}
 use Rattle.pb_inst.specs.Incumbent.{Incumbent, Solution}
 use Rattle.pb_normal.specs.NormalForm.{PositiveRow, NormalForm, MeetsRows, KeepsCost}
 use Rattle.pb_engine.specs.EngineState.{EngineState}
-use Rattle.pb_engine.specs.Completion.{HasNoCompletion}
 use Rattle.pb_engine.specs.Propagation.{AddsForced}
 use Rattle.pb_engine.specs.Soundness.{assumptions, literal_at, IsSoundTrail}
 use Rattle.pb_subtree.specs.declared.branch.Branch.{Branch}
 use Rattle.pb_subtree.specs.declared.search_state.SearchState.{SearchState}
 use Rattle.pb_subtree.specs.declared.root_work.RootWork.{RootWork}
-use Rattle.pb_subtree.specs.Held.{IsNotAfter}
+use Rattle.pb_prune.specs.Held.{IsNotAfter}
 use Rattle.pb_subtree.specs.Paths.{decided, search_steps, LiesOpen, LeavesOpen, IsOtherValue}
-use Rattle.pb_subtree.specs.Solutions.{SameConstraints, Satisfies, SatisfiesUnder, Completes}
+use Rattle.pb_prune.specs.Solutions.{SameConstraints, Satisfies, SatisfiesUnder, Completes}
 use Rattle.pb_engine.specs.Free.{IsFree}
-use Rattle.pb_subtree.specs.SearchState.{IsEngineOf, IsStateOf, IsAtPath, IsClosed, IsFreshOrOneSided, IsOpenOnOneSide, SameBranches, IsUnderWay, IsLeaving, IsNext, LeavesFewer, IsOwn}
+use Rattle.pb_prune.specs.Subtree.{IsEngineOf, IsClosed, IsOpenOnOneSide}
+use Rattle.pb_subtree.specs.SearchState.{IsStateOf, IsAtPath, IsFreshOrOneSided, SameBranches, IsUnderWay, IsLeaving, IsNext, LeavesFewer, IsOwn}
 use Rattle.pb_subtree.specs.Nodes.{IsFoundAt}
 use Rattle.pb_subtree.proofs.HeldLemmas.{improvement_on_earlier}
 use Rattle.pb_subtree.proofs.PathLemmas.{decide_keeps, decide_keeps_one_sided, back_keeps, leaves_open, leaves_last, turn_keeps}
@@ -66,10 +66,6 @@ below_start root s t path a same at h = record {
   solution = back_solution s t a same h.solution;
   makes_true = All_front (λ l. literal_value a l ≡ 1) root (decided path) (subst (λ (x : List Literal). MakesTrue a x) at.assumed (assumptions_true a t at.sound h.makes_true));
 }
-
--- where a trail has no completion nothing is left to find
-pub none_closed : (p : Problem) (s : EngineState) (held : Option Solution) → HasNoCompletion s.rows s.trail → IsClosed p s held
-none_closed p s held none a h better = none a (record { makes_true = h.makes_true; meets_rows = h.solution.meets_rows })
 
 -- expanding a node keeps the place in the search tree
 expanded_at : {C : Type 0} (root : List Literal) (t u : SearchState C) → SameBranches t u → IsSoundTrail u.engine → IsAtPath root t.engine t.branches.items → IsAtPath root u.engine u.branches.items

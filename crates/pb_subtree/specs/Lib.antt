@@ -1,9 +1,8 @@
-pub mod Held
-pub mod Solutions
 pub mod Left
 pub mod Paths
 pub mod SearchState
 pub mod Made
 pub mod Nodes
-pub mod AgreedPrefix
 pub mod Goal
+pub use Rattle.pb_prune.specs.Held
+pub use Rattle.pb_prune.specs.Solutions

@@ -6,9 +6,10 @@ use Rattle.pb_engine.specs.Free.{IsFree}
 use Rattle.pb_engine.specs.Soundness.{IsSoundTrail}
 use Rattle.pb_subtree.specs.declared.branch.Branch.{Branch}
 use Rattle.pb_subtree.specs.declared.search_state.SearchState.{SearchState}
-use Rattle.pb_subtree.specs.Held.{MovesOn}
-use Rattle.pb_subtree.specs.Solutions.{SameConstraints, Completes}
-use Rattle.pb_subtree.specs.SearchState.{IsStateOf, IsClosed, IsFreshOrOneSided, SameBranches, IsUnderWay, IsNext, IsSearched, IsOwn}
+use Rattle.pb_prune.specs.Held.{MovesOn}
+use Rattle.pb_prune.specs.Solutions.{SameConstraints, Completes}
+use Rattle.pb_subtree.specs.SearchState.{IsStateOf, IsFreshOrOneSided, SameBranches, IsUnderWay, IsNext, IsSearched, IsOwn}
+use Rattle.pb_prune.specs.Subtree.{IsClosed}
 
 -- what is held is as before, or completes the trail
 abbrev pub IsFoundAt : EngineState → Incumbent → Incumbent → Type 0

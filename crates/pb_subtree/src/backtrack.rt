@@ -1,20 +1,20 @@
 //! Back to the last decision on the trail whose other value is still to be tried.
 
-ghost use Rattle.std.specs.Prelude.{◌≡◌, ◌++◌, ◌∷◌, [], List, IfSome, IfNone, vec_capacity};
+ghost use Rattle.std.specs.Prelude.{◌≡◌, ◌++◌, ◌∷◌, [], ◌⊎◌, false, true, List, IsTrue, IfSome, IfNone, vec_capacity};
 ghost use Rattle.pb_inst.specs.Literal.{Literal};
 ghost use Rattle.pb_engine.specs.EngineState.{EngineState};
 ghost use Rattle.pb_subtree.specs.Paths.{IsOtherValue};
-ghost use Rattle.pb_subtree.specs.Solutions.{SameConstraints};
-ghost use Rattle.pb_subtree.specs.AgreedPrefix.{KnowsHeldPrefix};
+ghost use Rattle.pb_prune.specs.Solutions.{SameConstraints};
+ghost use Rattle.pb_prune.specs.AgreedPrefix.{KnowsHeldPrefix};
+ghost use Rattle.pb_prune.specs.Subtree.{IsClosed, IsEngineOf};
 ghost use Rattle.pb_engine.specs.Free.{IsFree};
 ghost use Rattle.pb_subtree.specs.SearchState.{IsStateOf, IsAtPath, IsAtSomePath, IsLeaving, IsNext, IsSearched, LeavesFewer};
 
-use crate::agreed_prefix::AgreedPrefix;
 use crate::branch::Branch;
-use crate::pruning::is_spent;
 use crate::search_state::SearchState;
 use pb_engine::{Coefficient, EngineAt};
 use pb_inst::Best;
+use pb_prune::{AgreedPrefix, is_closed_since};
 
 /// Takes back the last decision, and gives it; none where there is none.
 pub fn undo_decision<C: Coefficient>(
@@ -65,6 +65,27 @@ pub fn backtrack<C: Coefficient>(
         }
     }
     None
+}
+
+/// Whether nothing is left to try at a branch whose decision was taken back: both values were tried, or by now no
+/// completion of the trail before it comes before the best assignment, which may have improved since the first value was decided.
+fn is_spent<C: Coefficient>(
+    engine: &mut EngineAt<C>,
+    branch: &Branch,
+    best: &Best<'_>,
+    agreed: &mut AgreedPrefix,
+) -> bool
+    requires engine { IsEngineOf best.now.problem engine.old }
+    requires known { KnowsHeldPrefix engine.old.trail best.now.held agreed.old }
+    ensures spent { IsTrue result → (branch.now.flipped ≡ true) ⊎ IsClosed best.now.problem engine.old best.now.held }
+    ensures fresh { result ≡ false → branch.now.flipped ≡ false }
+    ensures unchanged { engine.new ≡ engine.old }
+    ensures known { KnowsHeldPrefix engine.old.trail best.now.held agreed.new }
+{
+    if branch.flipped {
+        return true;
+    }
+    is_closed_since(engine, branch.bound, best, agreed)
 }
 
 /// The decision for the other value.

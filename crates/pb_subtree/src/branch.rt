@@ -1,8 +1,8 @@
 //! A decision of the search, and how one is made.
 
-ghost use Rattle.std.specs.Prelude.{◌≡◌, ◌≢◌, ◌++◌, ◌∷◌, [], ◌≤◌, List, length, vec_capacity, Some};
+ghost use Rattle.std.specs.Prelude.{◌≡◌, ◌≢◌, ◌++◌, ◌∷◌, [], ◌≤◌, List, length, vec_capacity, Some, true};
 ghost use Rattle.pb_inst.specs.Literal.{Literal};
-ghost use Rattle.pb_subtree.specs.Solutions.{SameConstraints};
+ghost use Rattle.pb_prune.specs.Solutions.{SameConstraints};
 ghost use Rattle.pb_engine.specs.Free.{IsFree};
 ghost use Rattle.pb_subtree.specs.SearchState.{IsAtPath, IsAtSomePath};
 ghost use Rattle.pb_dive.specs.Budget.{one_more};
@@ -10,6 +10,7 @@ ghost use Rattle.pb_dive.specs.Budget.{one_more};
 use pb_dive::count_down;
 use pb_engine::{Coefficient, EngineAt};
 use pb_inst::{Lit, Number};
+use pb_prune::Hints;
 
 /// A decision of the search.
 #[derive(Clone, Copy)]
@@ -24,33 +25,16 @@ pub struct Branch {
     pub hints: Hints,
 }
 
-/// Where to look on at a node. No answer depends on it, so nothing is promised of it.
-#[derive(Clone, Copy)]
-pub struct Hints {
-    /// How many variables of the order of decisions were left, the others having values.
-    pub left: u32,
-    /// How many variables, from the first on, were found to have values.
-    pub settled: u32,
-    /// How many literals were decided one after another because of ties alone.
-    pub ties: u32,
-}
-
-impl Hints {
-    /// The hints at the root: none.
-    pub fn none() -> Hints {
-        Hints {
-            left: u32::MAX,
-            settled: 0,
-            ties: 0,
-        }
-    }
-
-    /// Whether a bound is to be taken here: where decisions are counted, before each one. Else, where ties alone are settled, the
-    /// one that was taken above tells of the next tie too. So it is taken anew each time twice as many literals were decided: rows
-    /// as long as the instance are not looked at for each of its variables, and what a bound would have closed is decided no more
-    /// than twice as far.
-    pub fn is_bound_due(&self, is_counted: bool) -> bool {
-        is_counted || self.ties == 0 || self.ties.is_power_of_two()
+/// The decision for a literal whose negation has nothing to give: its other value counts as tried.
+pub fn one_sided(lit: Lit, bound: Option<Number>, hints: Hints) -> Branch
+    ensures literal { result.lit ≡ lit }
+    ensures flipped { result.flipped ≡ true }
+{
+    Branch {
+        lit,
+        flipped: true,
+        bound,
+        hints,
     }
 }
 

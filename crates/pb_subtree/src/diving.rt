@@ -4,20 +4,23 @@
 ghost use Rattle.std.specs.Prelude.{◌≡◌, ◌⊎◌, List, false, true, length};
 ghost use Rattle.pb_inst.specs.Literal.{Literal};
 ghost use Rattle.pb_engine.specs.Soundness.{IsFull, IsSolved, IsSoundTrail};
-ghost use Rattle.pb_subtree.specs.Held.{MovesOn};
-ghost use Rattle.pb_subtree.specs.AgreedPrefix.{KnowsHeldPrefix};
+ghost use Rattle.pb_prune.specs.Held.{MovesOn};
+ghost use Rattle.pb_prune.specs.AgreedPrefix.{KnowsHeldPrefix};
 ghost use Rattle.pb_dive.specs.Dives.{LeadsBack};
-ghost use Rattle.pb_subtree.specs.Left.{IsDescentPaid, IsLeftOf, IsPaidFrom};
-ghost use Rattle.pb_subtree.specs.SearchState.{IsStateOf, IsEngineOf, IsSameBeside, SameBranches};
+ghost use Rattle.pb_subtree.specs.Left.{IsLeftOf, IsPaidFrom, IsDescentPaid};
 ghost use Rattle.pb_subtree.specs.Nodes.{IsFoundAt, IsBackFromDive};
+ghost use Rattle.pb_subtree.specs.SearchState.{IsStateOf, IsSameBeside, SameBranches};
+ghost use Rattle.pb_prune.specs.Subtree.{IsEngineOf};
 
 use crate::Share;
-use crate::agreed_prefix::AgreedPrefix;
-use crate::incumbent::{borrow_where_due, take_leaf};
+use crate::improvement::Origin;
+use crate::incumbent::{borrow_after, take_leaf};
+use crate::run::Run;
 use crate::search_state::SearchState;
 use pb_dive::{MAX_DECISIONS, Progress, begin_descent, descend};
-use pb_engine::{Coefficient, EngineAt};
-use pb_inst::{Assignment, Best, Number};
+use pb_engine::Coefficient;
+use pb_inst::{Best, Number};
+use pb_prune::AgreedPrefix;
 
 /// Dives from where the search stands, if that is its root and a dive is due. Answers whether it led to a better assignment;
 /// then more may be fixed at the root. The decisions of a dive count like those of the search.
@@ -25,31 +28,25 @@ pub fn dive_from_root<C: Coefficient, S: Share>(
     state: &mut SearchState<C>,
     best: &mut Best<'_>,
     share: &mut S,
-    agreed: &mut AgreedPrefix,
-    left: &mut Option<u64>,
+    run: &mut Run,
 ) -> bool
     requires state { IsStateOf best.old.problem state.old }
     requires sound { IsSoundTrail state.old.engine }
     requires no_conflict { state.old.engine.conflict ≡ false }
-    requires known { KnowsHeldPrefix state.old.engine.trail best.old.held agreed.old }
+    requires known { KnowsHeldPrefix state.old.engine.trail best.old.held run.old.agreed }
     ensures back { IsBackFromDive (S.lends share.old) state.old state.new best.old best.new }
     ensures kept { S.keeps share.old share.new }
     ensures same_lending { S.lends share.new ≡ S.lends share.old }
-    ensures known { KnowsHeldPrefix state.new.engine.trail best.new.held agreed.new }
-    ensures budget { IsLeftOf left.old left.new }
-    ensures paid { result ≡ true → IsFull state.old.engine ⊎ IsPaidFrom left.old left.new }
+    ensures known { KnowsHeldPrefix state.new.engine.trail best.new.held run.new.agreed }
+    ensures budget { IsLeftOf run.old.left run.new.left }
+    ensures paid { result ≡ true → IsFull state.old.engine ⊎ IsPaidFrom run.old.left run.new.left }
 {
     let length = state.engine.trail_len();
     let work = &mut state.root_work;
-    let Some(most) = work.take_dive(&state.branches, length, best.cost(), *left) else {
+    let Some(most) = work.take_dive(&state.branches, length, best.cost(), run.left) else {
         return false;
     };
-    let is_better = dive(state, best, share, agreed, left, most);
-    if is_better {
-        state.root_work.reopen(state.candidate.len());
-        state.engine.renew();
-    }
-    is_better
+    dive(state, best, share, run, most)
 }
 
 /// Has the multipliers improved anew where the root's trail has grown.
@@ -72,31 +69,23 @@ fn dive<C: Coefficient, S: Share>(
     state: &mut SearchState<C>,
     best: &mut Best<'_>,
     share: &mut S,
-    agreed: &mut AgreedPrefix,
-    left: &mut Option<u64>,
+    run: &mut Run,
     most: u64,
 ) -> bool
     requires state { IsStateOf best.old.problem state.old }
     requires sound { IsSoundTrail state.old.engine }
     requires no_conflict { state.old.engine.conflict ≡ false }
-    requires known { KnowsHeldPrefix state.old.engine.trail best.old.held agreed.old }
+    requires known { KnowsHeldPrefix state.old.engine.trail best.old.held run.old.agreed }
     ensures back { IsBackFromDive (S.lends share.old) state.old state.new best.old best.new }
     ensures kept { S.keeps share.old share.new }
     ensures same_lending { S.lends share.new ≡ S.lends share.old }
-    ensures known { KnowsHeldPrefix state.new.engine.trail best.new.held agreed.new }
-    ensures budget { IsLeftOf left.old left.new }
-    ensures paid { result ≡ true → IsFull state.old.engine ⊎ IsPaidFrom left.old left.new }
+    ensures known { KnowsHeldPrefix state.new.engine.trail best.new.held run.new.agreed }
+    ensures budget { IsLeftOf run.old.left run.new.left }
+    ensures paid { result ≡ true → IsFull state.old.engine ⊎ IsPaidFrom run.old.left run.new.left }
 {
     let level = state.engine.level();
-    let is_full = go_down(state, best, share, agreed, left, most);
-    let is_better = take_where_full(
-        &state.engine,
-        &mut state.candidate,
-        best,
-        share,
-        agreed,
-        is_full,
-    );
+    let is_full = go_down(state, best, share, run, most);
+    let is_better = take_where_full(state, best, share, &mut run.agreed, is_full);
     state.engine.undo_to(level);
     is_better
 }
@@ -107,8 +96,7 @@ fn go_down<C: Coefficient, S: Share>(
     state: &mut SearchState<C>,
     best: &mut Best<'_>,
     share: &mut S,
-    agreed: &mut AgreedPrefix,
-    left: &mut Option<u64>,
+    run: &mut Run,
     most: u64,
 ) -> bool
     requires state { IsStateOf best.old.problem state.old }
@@ -123,8 +111,8 @@ fn go_down<C: Coefficient, S: Share>(
     ensures own { S.lends share.old ≡ false → best.new ≡ best.old }
     ensures kept { S.keeps share.old share.new }
     ensures same_lending { S.lends share.new ≡ S.lends share.old }
-    ensures known { (trail : List Literal) → KnowsHeldPrefix trail best.old.held agreed.old → KnowsHeldPrefix trail best.new.held agreed.new }
-    ensures paid { IsDescentPaid state.old.engine state.new.engine left.old left.new }
+    ensures known { (trail : List Literal) → KnowsHeldPrefix trail best.old.held run.old.agreed → KnowsHeldPrefix trail best.new.held run.new.agreed }
+    ensures paid { IsDescentPaid state.old.engine state.new.engine run.old.left run.new.left }
 {
     let floor = state.engine.level();
     let first = begin_descent(&mut state.engine, &mut state.root_work.dive);
@@ -134,11 +122,13 @@ fn go_down<C: Coefficient, S: Share>(
     let mut rest = most.min(MAX_DECISIONS);
     for _ in 0..MAX_DECISIONS {
         let part = rest.min(state.root_work.looks.until_due());
-        let limit = limit_below(best, *left);
+        let limit = limit_below(best, run.left);
         let path = &mut state.root_work.dive;
+        let left = &mut run.left;
         let descent = descend(&mut state.engine, path, branch, floor, part, limit, left);
         rest = rest.saturating_sub(descent.decisions);
-        ask_on_the_way(state, best, share, agreed, descent.decisions);
+        let (agreed, made) = (&mut run.agreed, descent.decisions);
+        borrow_after(state, best, share, agreed, made, Origin::LentToDive);
         match descent.progress {
             Progress::Next(next) => branch = next,
             Progress::Full => return true,
@@ -156,47 +146,24 @@ fn limit_below(best: &Best<'_>, left: Option<u64>) -> Option<Number> {
     if left.is_some() { best.cost() } else { None }
 }
 
-/// A dive made so many decisions: asks the share where that is due by now.
-fn ask_on_the_way<C: Coefficient, S: Share>(
-    state: &mut SearchState<C>,
-    best: &mut Best<'_>,
-    share: &mut S,
-    agreed: &mut AgreedPrefix,
-    decisions: u64,
-)
-    requires room { length state.old.candidate ≡ best.old.problem.vars }
-    ensures engine { state.new.engine ≡ state.old.engine }
-    ensures beside { IsSameBeside state.old state.new }
-    ensures moves_on { MovesOn best.old best.new }
-    ensures own { S.lends share.old ≡ false → best.new ≡ best.old }
-    ensures kept { S.keeps share.old share.new }
-    ensures same_lending { S.lends share.new ≡ S.lends share.old }
-    ensures known { (trail : List Literal) → KnowsHeldPrefix trail best.old.held agreed.old → KnowsHeldPrefix trail best.new.held agreed.new }
-{
-    let looks = &mut state.root_work.looks;
-    looks.count(decisions);
-    let has_borrowed = borrow_where_due(&mut state.candidate, best, share, agreed, looks);
-    looks.note_borrowed(has_borrowed);
-}
-
 /// Hands the trail to the incumbent where it is full. Answers whether that was an improvement.
 fn take_where_full<C: Coefficient, S: Share>(
-    engine: &EngineAt<C>,
-    candidate: &mut Assignment,
+    state: &mut SearchState<C>,
     best: &mut Best<'_>,
     share: &mut S,
     agreed: &mut AgreedPrefix,
     is_full: bool,
 ) -> bool
-    requires engine { IsEngineOf best.old.problem engine.now }
-    requires room { length candidate.old ≡ best.old.problem.vars }
-    requires full { is_full ≡ true → IsFull engine.now }
-    requires solved { is_full ≡ true → IsSolved engine.now }
-    requires sound { IsSoundTrail engine.now }
+    requires engine { IsEngineOf best.old.problem state.old.engine }
+    requires room { length state.old.candidate ≡ best.old.problem.vars }
+    requires full { is_full ≡ true → IsFull state.old.engine }
+    requires solved { is_full ≡ true → IsSolved state.old.engine }
+    requires sound { IsSoundTrail state.old.engine }
     ensures only_full { result ≡ true → is_full ≡ true }
-    ensures same_length { length candidate.new ≡ length candidate.old }
+    ensures engine { state.new.engine ≡ state.old.engine }
+    ensures beside { IsSameBeside state.old state.new }
     ensures moves_on { MovesOn best.old best.new }
-    ensures own { IsFoundAt engine.now best.old best.new }
+    ensures own { IsFoundAt state.old.engine best.old best.new }
     ensures kept { S.keeps share.old share.new }
     ensures same_lending { S.lends share.new ≡ S.lends share.old }
     ensures known { (trail : List Literal) → KnowsHeldPrefix trail best.old.held agreed.old → KnowsHeldPrefix trail best.new.held agreed.new }
@@ -204,7 +171,5 @@ fn take_where_full<C: Coefficient, S: Share>(
     if !is_full {
         return false;
     }
-    let is_better = take_leaf(engine, candidate, best, share);
-    agreed.begin_again(best);
-    is_better
+    take_leaf(state, best, share, agreed, Origin::Dive)
 }

@@ -1,18 +1,20 @@
 //! What the order of decisions learns at a node: what led to a conflict, how far the last decision brought the bound, and the
 //! values of a new best assignment. No answer depends on it, so nothing is promised.
 
-use crate::pruning::Pruning;
 use crate::search_state::SearchState;
-use pb_engine::{Coefficient, EngineAt};
+use pb_engine::{Coefficient, EngineAt, Step};
 use pb_inst::{Best, Lit};
 use pb_order::{Gain, Order};
+use pb_prune::Pruning;
 
 /// Of how many ties one after another a bound is taken at each.
 const MOST_TIES: u32 = 2;
 
-/// Learns from the conflict that the engine found.
-pub fn learn_conflict<C: Coefficient>(order: &mut Order, engine: &EngineAt<C>) {
-    order.bump_conflict(engine.propagator());
+/// Learns from the conflict that the engine found, if the step led to one.
+pub fn learn_conflict<C: Coefficient>(order: &mut Order, engine: &EngineAt<C>, step: Step) {
+    if step == Step::Conflict {
+        order.bump_conflict(engine.propagator());
+    }
 }
 
 /// Learns from the values of the best assignment, where it is a new one.
@@ -48,8 +50,19 @@ pub fn last_decided<C: Coefficient>(state: &SearchState<C>, best: &Best<'_>) -> 
     })
 }
 
-/// By how much the bound of the multipliers may still rise at a node that was judged.
-pub fn gap_left<C: Coefficient>(
+/// Learns at a node that was classified by how much the last decision raised the bound of the multipliers.
+pub fn learn_gap<C: Coefficient>(
+    order: &mut Order,
+    engine: &EngineAt<C>,
+    best: &Best<'_>,
+    pruning: Pruning,
+    decided: Option<Decided>,
+) {
+    learn(order, decided, gap_left(engine, best, pruning));
+}
+
+/// By how much the bound of the multipliers may still rise there.
+fn gap_left<C: Coefficient>(
     engine: &EngineAt<C>,
     best: &Best<'_>,
     pruning: Pruning,

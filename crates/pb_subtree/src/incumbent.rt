@@ -4,16 +4,18 @@ ghost use Rattle.std.specs.Prelude.{◌≡◌, false, List, length};
 ghost use Rattle.pb_inst.specs.Literal.{Literal};
 ghost use Rattle.pb_inst.specs.Incumbent.{IsSound};
 ghost use Rattle.pb_engine.specs.Soundness.{IsFull, IsSolved, IsSoundTrail};
-ghost use Rattle.pb_subtree.specs.Held.{MovesOn};
-ghost use Rattle.pb_subtree.specs.AgreedPrefix.{KnowsHeldPrefix};
-ghost use Rattle.pb_subtree.specs.SearchState.{IsFilledFrom, IsClosed, IsEngineOf};
+ghost use Rattle.pb_prune.specs.Held.{MovesOn};
+ghost use Rattle.pb_prune.specs.AgreedPrefix.{KnowsHeldPrefix};
+ghost use Rattle.pb_subtree.specs.SearchState.{IsFilledFrom, IsSameBeside};
+ghost use Rattle.pb_prune.specs.Subtree.{IsClosed, IsEngineOf};
 ghost use Rattle.pb_subtree.specs.Nodes.{IsFoundAt};
 
 use crate::Share;
-use crate::agreed_prefix::AgreedPrefix;
-use crate::looks::Looks;
+use crate::improvement::{Origin, tell};
+use crate::search_state::SearchState;
 use pb_engine::{Coefficient, EngineAt};
 use pb_inst::{Assignment, Best, Number, SUM_BOUND};
+use pb_prune::AgreedPrefix;
 
 /// Writes the trail into the assignment, with 0 for every other variable.
 fn fill<C: Coefficient>(engine: &EngineAt<C>, into: &mut Assignment)
@@ -27,9 +29,36 @@ fn fill<C: Coefficient>(engine: &EngineAt<C>, into: &mut Assignment)
     }
 }
 
-/// At a full trail that meets all constraints: hands its assignment to the incumbent, and an improvement to the share.
-/// Answers whether it was one.
+/// At a full trail that meets all constraints: hands its assignment to the incumbent, and tells all that go by the best one. Answers
+/// whether it was an improvement.
 pub fn take_leaf<C: Coefficient, S: Share>(
+    state: &mut SearchState<C>,
+    best: &mut Best<'_>,
+    share: &mut S,
+    agreed: &mut AgreedPrefix,
+    origin: Origin,
+) -> bool
+    requires engine { IsEngineOf best.old.problem state.old.engine }
+    requires room { length state.old.candidate ≡ best.old.problem.vars }
+    requires full { IsFull state.old.engine }
+    requires solved { IsSolved state.old.engine }
+    requires sound { IsSoundTrail state.old.engine }
+    ensures engine { state.new.engine ≡ state.old.engine }
+    ensures beside { IsSameBeside state.old state.new }
+    ensures closed { IsClosed best.old.problem state.old.engine best.new.held }
+    ensures moves_on { MovesOn best.old best.new }
+    ensures own { IsFoundAt state.old.engine best.old best.new }
+    ensures kept { S.keeps share.old share.new }
+    ensures same_lending { S.lends share.new ≡ S.lends share.old }
+    ensures known { (trail : List Literal) → KnowsHeldPrefix trail best.new.held agreed.new }
+{
+    let is_better = hand_over(&state.engine, &mut state.candidate, best, share);
+    tell(state, best, agreed, origin, is_better);
+    is_better
+}
+
+/// Hands the assignment of a full trail to the incumbent, and an improvement to the share. Answers whether it was one.
+fn hand_over<C: Coefficient, S: Share>(
     engine: &EngineAt<C>,
     candidate: &mut Assignment,
     best: &mut Best<'_>,
@@ -48,13 +77,20 @@ pub fn take_leaf<C: Coefficient, S: Share>(
     ensures same_lending { S.lends share.new ≡ S.lends share.old }
 {
     fill(engine, candidate);
-    if !best.take(candidate) {
-        return false;
+    let is_better = best.take(candidate);
+    let cost = if is_better { best.cost() } else { None };
+    offer(share, cost, candidate);
+    is_better
+}
+
+/// Tells the share of an assignment of this cost, if it is an improvement.
+fn offer<S: Share>(share: &mut S, cost: Option<Number>, assignment: &Assignment)
+    ensures kept { S.keeps share.old share.new }
+    ensures same_lending { S.lends share.new ≡ S.lends share.old }
+{
+    if let Some(cost) = cost {
+        share.offer(cost, assignment);
     }
-    if let Some(cost) = best.cost() {
-        share.offer(cost, candidate);
-    }
-    true
 }
 
 /// Asks the share for an assignment, and takes it over where it is feasible and an improvement. Answers whether it did.
@@ -76,17 +112,19 @@ pub fn borrow<S: Share>(scratch: &mut Assignment, best: &mut Best<'_>, share: &m
     best.take(scratch)
 }
 
-/// The same on the way, where a look at the share is due. Where the best assignment changes, so does the prefix that the trail is
-/// known to agree with.
-pub fn borrow_where_due<S: Share>(
-    scratch: &mut Assignment,
+/// So many decisions were made since this was called last: asks the share where that is due by now, and tells all that go by the best
+/// assignment. Answers whether that is another one now.
+pub fn borrow_after<C: Coefficient, S: Share>(
+    state: &mut SearchState<C>,
     best: &mut Best<'_>,
     share: &mut S,
     agreed: &mut AgreedPrefix,
-    looks: &mut Looks,
+    decisions: u64,
+    origin: Origin,
 ) -> bool
-    requires room { length scratch.old ≡ best.old.problem.vars }
-    ensures same_length { length scratch.new ≡ length scratch.old }
+    requires room { length state.old.candidate ≡ best.old.problem.vars }
+    ensures engine { state.new.engine ≡ state.old.engine }
+    ensures beside { IsSameBeside state.old state.new }
     ensures moves_on { MovesOn best.old best.new }
     ensures own { S.lends share.old ≡ false → best.new ≡ best.old }
     ensures kept { S.keeps share.old share.new }
@@ -94,13 +132,15 @@ pub fn borrow_where_due<S: Share>(
     ensures refused { result ≡ false → best.new.held ≡ best.old.held }
     ensures known { (trail : List Literal) → KnowsHeldPrefix trail best.old.held agreed.old → KnowsHeldPrefix trail best.new.held agreed.new }
 {
+    let looks = &mut state.root_work.looks;
+    looks.count(decisions);
     if !looks.is_due() {
         return false;
     }
     looks.begin_again();
-    let has_borrowed = borrow(scratch, best, share);
-    if has_borrowed {
-        agreed.begin_with_borrowed(best);
+    if !borrow(&mut state.candidate, best, share) {
+        return false;
     }
-    has_borrowed
+    tell(state, best, agreed, origin, true);
+    true
 }

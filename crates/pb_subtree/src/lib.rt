@@ -1,31 +1,32 @@
 //! Branch and bound under a cube: decisions stand on the engine's trail, and a subtree is left where it holds no
 //! assignment that comes before the best one.
 //!
-//! `search_under` assumes the cube at the `root` and searches the subtree below it, `node` by node. At a node the engine
-//! propagates, `pruning` asks whether the subtree may be left, and `decisions` names the one (`branch`) to make next, by
+//! `search_under` assumes the cube at the `root` and searches the subtree below it, `node` by node. At a node (`expansion`) the engine
+//! propagates, pb_prune says whether the subtree may be left, and `decisions` names the one (`branch`) to make next, by
 //! the order of pb_order. Where there is none, `incumbent` takes the full trail, and `backtrack` goes back to a decision
 //! whose other value is still to be tried. Conflicts, and what decisions did to the bound, are told to the order
-//! (`feedback`). `root_work` says when the search takes more decisions back (`step_back`): to try literals at the root
-//! (`probing`) and to dive from there (`diving`), or since ties alone are left below them (`ties`). Now and then it asks its share
-//! for what another search found (`looks`).
+//! (`feedback`). `root_work` says when the search takes more decisions back (`step_back`): to try literals (`probing`) `at_root` and to
+//! dive from there (`diving`), or since ties alone are left below them (`ties`). Now and then it asks its share for what another
+//! search found (`looks`). All that go by the best assignment are told of another one at one place (`improvement`).
 #![tactic(auto)]
 
-mod agreed_prefix;
+mod at_root;
 mod backtrack;
 mod branch;
 mod decisions;
 mod diving;
+mod expansion;
 mod feedback;
 mod goal;
+mod improvement;
 mod incumbent;
 mod looks;
 mod node;
 mod outcome;
 mod probing;
-mod pruning;
-mod reduced_cost_fixing;
 mod root;
 mod root_work;
+mod run;
 mod search_state;
 mod share;
 mod step_back;

@@ -42,9 +42,9 @@ impl Looks {
         self.decisions = 0;
     }
 
-    /// A dive was handed a better assignment, or not.
-    pub fn note_borrowed(&mut self, has_borrowed: bool) {
-        self.has_borrowed = self.has_borrowed || has_borrowed;
+    /// A dive was handed a better assignment.
+    pub fn note_borrowed(&mut self) {
+        self.has_borrowed = true;
     }
 
     /// Whether a dive was handed a better assignment since this was asked last.

@@ -5,11 +5,11 @@ ghost use Rattle.std.specs.Prelude.{◌≡◌, ◌++◌, ◌∷◌, [], false, B
 ghost use Rattle.pb_inst.specs.Meaning.{literal_value};
 ghost use Rattle.pb_engine.specs.Propagation.{AddsForced};
 ghost use Rattle.pb_engine.specs.Soundness.{assumptions, IsSoundTrail};
-ghost use Rattle.pb_subtree.specs.Held.{IsImprovement};
-ghost use Rattle.pb_subtree.specs.Solutions.{Completes};
+ghost use Rattle.pb_prune.specs.Held.{IsImprovement};
+ghost use Rattle.pb_prune.specs.Solutions.{Completes};
 ghost use Rattle.pb_subtree.specs.Left.{IsLeftOf};
 ghost use Rattle.pb_engine.specs.Free.{IsFree};
-ghost use Rattle.pb_subtree.specs.SearchState.{IsClosed, IsEngineOf, IsOpenOnOneSide};
+ghost use Rattle.pb_prune.specs.Subtree.{IsClosed, IsEngineOf, IsOpenOnOneSide};
 
 use crate::looks::Looks;
 use pb_dive::count_down;

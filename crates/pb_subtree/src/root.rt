@@ -5,7 +5,7 @@ ghost use Rattle.pb_inst.specs.Cubes.{MakesTrue};
 ghost use Rattle.pb_inst.specs.Meaning.{literal_value};
 ghost use Rattle.pb_engine.specs.Trail.{value_on};
 ghost use Rattle.pb_engine.specs.Soundness.{assumptions, IsSoundTrail};
-ghost use Rattle.pb_subtree.specs.Solutions.{SameConstraints, Satisfies};
+ghost use Rattle.pb_prune.specs.Solutions.{SameConstraints, Satisfies};
 
 use pb_engine::{Coefficient, EngineAt, Step};
 use pb_inst::Lit;

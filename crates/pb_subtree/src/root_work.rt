@@ -1,22 +1,18 @@
-//! What is done at the root of a search: where no decision on the trail has another value to try. A search that goes down far,
+//! When something is done at the root of a search, where no decision on the trail has another value to try. A search that goes down far,
 //! as by rows of thousands of terms, may never come back there by itself. So it steps back early, while little was closed.
 
-ghost use Rattle.std.specs.Prelude.{◌≡◌, ◌+◌, ◌≤◌, false, length, IfNone, IfSome};
-ghost use Rattle.pb_engine.specs.Soundness.{IsSoundTrail};
-ghost use Rattle.pb_subtree.specs.Left.{IsLeftOf};
-ghost use Rattle.pb_subtree.specs.SearchState.{IsEngineOf, IsOpenOnOneSide};
+ghost use Rattle.std.specs.Prelude.{◌≡◌, ◌+◌, ◌≤◌, length, IfNone, IfSome};
 
 use crate::branch::Branch;
 use crate::goal::Goal;
 use crate::looks::Looks;
-use crate::probing::{Probing, find_failed};
-use crate::pruning::Pruning;
-use crate::search_state::SearchState;
+use crate::probing::Probing;
 use crate::ties::Ties;
 use pb_dive::DivePath;
-use pb_engine::{Coefficient, EngineAt};
-use pb_inst::{Best, Lit, Memory, Number};
+use pb_engine::Coefficient;
+use pb_inst::{Memory, Number};
 use pb_normal::Form;
+use pb_prune::Pruning;
 use std::alloc::Global;
 
 /// How many variables there are at least where work at the root may pay and nothing is minimised.
@@ -202,7 +198,30 @@ impl RootWork {
         if !self.is_open || (cost.is_some() && self.ties.root_bound >= cost) {
             return false;
         }
+        self.is_at_root(path)
+    }
+
+    /// Whether the search stands at its root: no decision of its path has another value to try.
+    pub fn is_at_root(&mut self, path: &[Branch]) -> bool
+        ensures { self.new.returns ≡ self.old.returns }
+    {
         self.prefix_of(path) == path.len()
+    }
+
+    /// Whether literals are to be tried at the root, whose trail has so many literals: it is worked on for more than ties, and its
+    /// trail or the best cost is another one than in the last round in which none failed.
+    pub fn is_round_due(&self, pruning: Pruning, length: usize, cost: Option<Number>) -> bool {
+        self.is_open && pruning == Pruning::Open && self.done != Some((length, cost))
+    }
+
+    /// No literal failed. A round that waits for a look at the share goes on after it.
+    pub fn end_round(&mut self, length: usize, cost: Option<Number>)
+        ensures { self.new.returns ≡ self.old.returns }
+    {
+        if !self.looks.is_due() {
+            self.done = Some((length, cost));
+            self.probing.passed = 0;
+        }
     }
 
     /// By how many decisions the search may dive at most, where it stands at its root and a dive is due: the root is worked on,
@@ -280,56 +299,4 @@ impl RootWork {
         }
         path.len()
     }
-}
-
-/// Works at the root, where the search stands there. Gives a literal whose negation has nothing to give, or none where none
-/// was found. Its trials are decisions. Once ties alone are left there is nothing to work for.
-pub fn work_at_root<C: Coefficient>(
-    state: &mut SearchState<C>,
-    best: &Best<'_>,
-    pruning: Pruning,
-    bound: Option<Number>,
-    left: &mut Option<u64>,
-) -> Option<Lit>
-    requires engine { IsEngineOf best.now.problem state.old.engine }
-    requires sound { IsSoundTrail state.old.engine }
-    requires no_conflict { state.old.engine.conflict ≡ false }
-    ensures found { IfSome result (IsOpenOnOneSide best.now.problem state.old.engine best.now.held) }
-    ensures engine { state.new.engine ≡ state.old.engine }
-    ensures branches { state.new.branches ≡ state.old.branches }
-    ensures candidate { state.new.candidate ≡ state.old.candidate }
-    ensures returns { state.new.root_work.returns ≡ state.old.root_work.returns }
-    ensures budget { IsLeftOf left.old left.new }
-{
-    let work = &mut state.root_work;
-    if work.prefix_of(&state.branches) < state.branches.len() {
-        return None;
-    }
-    note_root_bound(&mut work.ties, &mut state.engine, bound);
-    if !work.is_open || pruning != Pruning::Open {
-        return None;
-    }
-    // A round is due again where the trail or the best cost is another one.
-    let round = Some((state.engine.trail_len(), best.cost()));
-    if work.done == round {
-        return None;
-    }
-    let (probing, looks) = (&mut work.probing, &mut work.looks);
-    let found = find_failed(&mut state.engine, probing, looks, best, left);
-    // A round that waits for a look at the share goes on after it.
-    if found.is_none() && !work.looks.is_due() {
-        work.done = round;
-        work.probing.passed = 0;
-    }
-    found
-}
-
-/// Notes the bound that was taken at the root; where none was, that of disjoint rows once.
-fn note_root_bound<C: Coefficient>(ties: &mut Ties, engine: &mut EngineAt<C>, bound: Option<Number>)
-    ensures { engine.new ≡ engine.old }
-{
-    if bound.is_none() && ties.root_bound.is_none() {
-        ties.root_bound = Some(engine.bound());
-    }
-    ties.root_bound = ties.root_bound.max(bound);
 }

@@ -6,12 +6,13 @@ ghost use Rattle.pb_inst.specs.declared.limits.TheConstants.{MAX_CUBES};
 ghost use Rattle.pb_engine.specs.Tables.{AreBeside};
 ghost use Rattle.pb_subtree.specs.Made.{IsMade};
 
-use crate::branch::{Branch, Hints};
+use crate::branch::Branch;
 use crate::root_work::RootWork;
 use pb_engine::{Clauses, Coefficient, EngineAt, Rows, TablesSource};
 use pb_inst::{Assignment, Cube, Memory};
 use pb_normal::Form;
 use pb_order::Order;
+use pb_prune::Hints;
 use std::alloc::Global;
 use std::sync::Arc;
 

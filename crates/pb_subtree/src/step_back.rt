@@ -3,15 +3,15 @@
 
 ghost use Rattle.std.specs.Prelude.{◌≡◌};
 ghost use Rattle.pb_engine.specs.EngineState.{EngineState};
-ghost use Rattle.pb_subtree.specs.AgreedPrefix.{KnowsHeldPrefix};
-ghost use Rattle.pb_subtree.specs.Solutions.{SameConstraints};
+ghost use Rattle.pb_prune.specs.AgreedPrefix.{KnowsHeldPrefix};
+ghost use Rattle.pb_prune.specs.Solutions.{SameConstraints};
 ghost use Rattle.pb_subtree.specs.SearchState.{IsStateOf, IsAtSomePath, IsUnderWay};
 
-use crate::agreed_prefix::AgreedPrefix;
 use crate::backtrack::undo_decision;
 use crate::search_state::SearchState;
 use pb_engine::Coefficient;
 use pb_inst::Best;
+use pb_prune::AgreedPrefix;
 
 /// Takes back all decisions but the first so many; none of them is made again unless the order says so. What lay below them
 /// lies below the last one that is left, so what is under way stays so. Where none of them was turned to its other value,

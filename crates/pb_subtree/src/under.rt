@@ -3,8 +3,8 @@
 ghost use Rattle.std.specs.Prelude.{◌≡◌, ◌⊎◌, ◌≤◌, false, List, Bool, All, Some, IsSomeAnd};
 ghost use Rattle.pb_inst.specs.Incumbent.{IsSound};
 ghost use Rattle.pb_subtree.specs.Goal.{IsMet};
-ghost use Rattle.pb_subtree.specs.Held.{IsImprovement, MovesOn};
-ghost use Rattle.pb_subtree.specs.Solutions.{SameConstraints, SatisfiesUnder};
+ghost use Rattle.pb_prune.specs.Held.{IsImprovement, MovesOn};
+ghost use Rattle.pb_prune.specs.Solutions.{SameConstraints, SatisfiesUnder};
 ghost use Rattle.pb_subtree.specs.SearchState.{IsStateOf};
 ghost use Rattle.pb_subtree.specs.Left.{IsLeftOf};
 
@@ -14,6 +14,7 @@ use crate::incumbent::borrow;
 use crate::node::search_subtree;
 use crate::outcome::Outcome;
 use crate::root::{assume_cube, return_to_root};
+use crate::run::Run;
 use crate::search_state::SearchState;
 use pb_engine::{Coefficient, Step};
 use pb_inst::{Best, Lit};
@@ -50,5 +51,8 @@ pub fn search_under<C: Coefficient, S: Share>(
     if assume_cube(&mut state.engine, cube) == Step::Conflict {
         return Outcome::Whole;
     }
-    search_subtree(state, best, share, goal, left)
+    let mut run = Run::begin(best, *left);
+    let outcome = search_subtree(state, best, share, goal, &mut run);
+    *left = run.left;
+    outcome
 }

@@ -4,9 +4,9 @@ use Rattle.pb_engine.specs.EngineState.{EngineState}
 use Rattle.pb_subtree.specs.declared.branch.Branch.{Branch}
 use Rattle.pb_subtree.specs.declared.search_state.SearchState.{SearchState}
 use Rattle.pb_subtree.specs.Paths.{LeavesOpen, steps_left}
-use Rattle.pb_subtree.specs.AgreedPrefix.{KnowsHeldPrefix}
-use Rattle.pb_subtree.specs.Solutions.{SameConstraints}
-use Rattle.pb_subtree.specs.SearchState.{IsClosed}
+use Rattle.pb_prune.specs.AgreedPrefix.{KnowsHeldPrefix}
+use Rattle.pb_prune.specs.Solutions.{SameConstraints}
+use Rattle.pb_prune.specs.Subtree.{IsClosed}
 use Rattle.pb_subtree.proofs.Engines.{same_constraints_itself, same_constraints_onward}
 use Rattle.pb_subtree.proofs.Moves.{shortened_more}
 use Rattle.pb_subtree.proofs.PathLemmas.{turn_falls, fewer_steps}

@@ -1,12 +1,13 @@
 use Rattle.std.proofs.Common.{◌≡◌, ◌∙◌, ap, sym, subst}
 use Rattle.pb_inst.specs.Incumbent.{Incumbent}
 use Rattle.pb_inst.specs.Problem.{Problem}
+use Rattle.pb_dive.specs.Dives.{LeadsBack}
 use Rattle.pb_dive.proofs.DiveLemmas.{levels_within, back_at_start}
 use Rattle.pb_engine.specs.EngineState.{EngineState}
-use Rattle.pb_subtree.specs.AgreedPrefix.{KnowsHeldPrefix}
+use Rattle.pb_prune.specs.AgreedPrefix.{KnowsHeldPrefix}
 use Rattle.pb_subtree.specs.Nodes.{IsFoundAt}
 use Rattle.pb_subtree.specs.declared.search_state.SearchState.{SearchState}
-use Rattle.pb_subtree.specs.SearchState.{IsEngineOf}
+use Rattle.pb_prune.specs.Subtree.{IsEngineOf}
 use Rattle.pb_subtree.proofs.BudgetLemmas.{left_of_more}
 use Rattle.pb_subtree.proofs.HeldLemmas.{moves_onward}
 use Rattle.pb_subtree.proofs.SearchLemmas.{same_engine}
@@ -21,31 +22,41 @@ take_where_full-is_better-requires-clause-engine g c =
 pub take_where_full-is_better-requires-clause-room : goal.take_where_full-is_better-requires-clause-room
 take_where_full-is_better-requires-clause-room g c = c.go_down-is_full.ensures.beside.room ∙ (c.requires.state.candidate ∙ ap (λ (p : Problem). p.vars) (sym c.go_down-is_full.ensures.moves_on.same_instance))
 
+back_to_end : {C : Type 0} (start : EngineState) (mid end : SearchState C) → end.engine ≡ mid.engine → LeadsBack start mid.engine → LeadsBack start end.engine
+back_to_end start mid end same back = subst (λ (e : EngineState). LeadsBack start e) (sym same) back
+
 pub undo_to-requires : goal.undo_to-requires
-undo_to-requires g c = rw c.level-level.ensures.count (levels_within c.args.state.now.engine c.go_down-is_full.new.state.engine c.go_down-is_full.ensures.back)
+undo_to-requires g c =
+    rw c.level-level.ensures.count
+    (levels_within c.args.state.now.engine c.take_where_full-is_better.new.state.engine (back_to_end c.args.state.now.engine c.go_down-is_full.new.state c.take_where_full-is_better.new.state c.take_where_full-is_better.ensures.engine c.go_down-is_full.ensures.back))
 
 pub returns-clause-back : goal.returns-clause-back
 returns-clause-back g c =
     let start = c.args.state.now.engine in
-    let end = c.go_down-is_full.new.state.engine in
-    let same : c.undo_to.new.self ≡ start = back_at_start start end c.undo_to.new.self c.go_down-is_full.ensures.back (rw c.level-level.ensures.count at c.undo_to.ensures.undone) in
-    let back : SearchState _ = record c.go_down-is_full.new.state { engine = c.undo_to.new.self; candidate = c.take_where_full-is_better.new.candidate } in
+    let mid : SearchState _ = c.go_down-is_full.new.state in
+    let end : SearchState _ = c.take_where_full-is_better.new.state in
+    let same : c.undo_to.new.self ≡ start = back_at_start start end.engine c.undo_to.new.self (back_to_end start mid end c.take_where_full-is_better.ensures.engine c.go_down-is_full.ensures.back) (rw c.level-level.ensures.count at c.undo_to.ensures.undone) in
+    let back : SearchState _ = record end { engine = c.undo_to.new.self } in
+    let first = c.go_down-is_full.ensures.beside in
+    let second = c.take_where_full-is_better.ensures.beside in
     record {
       taken_back = same;
-      same_branches = same_branches_back c.args.state.now back same (record { branches = c.go_down-is_full.ensures.beside.branches; room = c.take_where_full-is_better.ensures.same_length ∙ c.go_down-is_full.ensures.beside.room; returns = c.go_down-is_full.ensures.beside.returns });
+      same_branches = same_branches_back c.args.state.now back same (record { branches = second.branches ∙ first.branches; room = second.room ∙ first.room; returns = second.returns ∙ first.returns });
       moves_on = moves_onward c.args.best.now c.go_down-is_full.new.best c.take_where_full-is_better.new.best c.go_down-is_full.ensures.moves_on c.take_where_full-is_better.ensures.moves_on;
       own = λ alone. subst (λ (i : Incumbent). IsFoundAt start i c.take_where_full-is_better.new.best) (c.go_down-is_full.ensures.own alone)
-          (own_at_start start end c.go_down-is_full.new.best c.take_where_full-is_better.new.best c.go_down-is_full.ensures.back c.take_where_full-is_better.ensures.own);
+          (own_at_start start mid.engine c.go_down-is_full.new.best c.take_where_full-is_better.new.best c.go_down-is_full.ensures.back c.take_where_full-is_better.ensures.own);
     }
 
 pub returns-clause-known : goal.returns-clause-known
 returns-clause-known g c =
-    let same : c.undo_to.new.self ≡ c.args.state.now.engine = back_at_start c.args.state.now.engine c.go_down-is_full.new.state.engine c.undo_to.new.self c.go_down-is_full.ensures.back (rw c.level-level.ensures.count at c.undo_to.ensures.undone) in
+    let start = c.args.state.now.engine in
+    let end : SearchState _ = c.take_where_full-is_better.new.state in
+    let same : c.undo_to.new.self ≡ start = back_at_start start end.engine c.undo_to.new.self (back_to_end start c.go_down-is_full.new.state end c.take_where_full-is_better.ensures.engine c.go_down-is_full.ensures.back) (rw c.level-level.ensures.count at c.undo_to.ensures.undone) in
     subst (λ (e : EngineState). KnowsHeldPrefix e.trail c.take_where_full-is_better.new.best.held c.take_where_full-is_better.new.agreed) (sym same)
-    (c.take_where_full-is_better.ensures.known c.args.state.now.engine.trail (c.go_down-is_full.ensures.known c.args.state.now.engine.trail c.requires.known))
+    (c.take_where_full-is_better.ensures.known start.trail (c.go_down-is_full.ensures.known start.trail c.requires.known))
 
 pub returns-clause-budget : goal.returns-clause-budget
-returns-clause-budget g c = left_of_more c.go_down-is_full.ensures.paid.decisions c.args.left.now c.go_down-is_full.new.left c.go_down-is_full.ensures.paid.counted
+returns-clause-budget g c = left_of_more c.go_down-is_full.ensures.paid.decisions c.args.run.now.left c.go_down-is_full.new.run.left c.go_down-is_full.ensures.paid.counted
 
 pub returns-clause-paid : goal.returns-clause-paid
-returns-clause-paid g c better = dive_is_paid c.args.state.now.engine c.go_down-is_full.new.state.engine c.args.left.now c.go_down-is_full.new.left c.go_down-is_full.ensures.back c.go_down-is_full.ensures.paid (c.go_down-is_full.ensures.full (c.take_where_full-is_better.ensures.only_full better))
+returns-clause-paid g c better = dive_is_paid c.args.state.now.engine c.go_down-is_full.new.state.engine c.args.run.now.left c.go_down-is_full.new.run.left c.go_down-is_full.ensures.back c.go_down-is_full.ensures.paid (c.go_down-is_full.ensures.full (c.take_where_full-is_better.ensures.only_full better))

@@ -1,7 +1,7 @@
 use Rattle.std.proofs.Common.{◌≡◌, false}
 use Rattle.pb_engine.specs.Soundness.{IsSoundTrail}
-use Rattle.pb_subtree.specs.AgreedPrefix.{KnowsHeldPrefix}
-use Rattle.pb_subtree.specs.Held.{MovesOn}
+use Rattle.pb_prune.specs.AgreedPrefix.{KnowsHeldPrefix}
+use Rattle.pb_prune.specs.Held.{MovesOn}
 use Rattle.pb_subtree.specs.Left.{IsLeftOf}
 use Rattle.pb_subtree.specs.Nodes.{IsFoundAt}
 use Rattle.pb_subtree.specs.SearchState.{SameBranches}
@@ -15,6 +15,6 @@ invariant-loop g l = record {
   own : g.S.Share.lends l.fn.share ≡ false → IsFoundAt l.state.engine l.fn.best l.best;
   kept : g.S.Share.keeps l.fn.share l.share;
   same_lending : g.S.Share.lends l.share ≡ g.S.Share.lends l.fn.share;
-  known : KnowsHeldPrefix l.state.engine.trail l.best.held l.agreed;
-  budget : IsLeftOf l.fn.left l.left;
+  known : KnowsHeldPrefix l.state.engine.trail l.best.held l.run.agreed;
+  budget : IsLeftOf l.fn.run.left l.run.left;
 }

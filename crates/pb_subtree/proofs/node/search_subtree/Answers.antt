@@ -1,15 +1,19 @@
-use Rattle.std.proofs.Common.{◌≡◌, ◌≤◌, false, ◌∙◌, ◌∷◌, [], ℕ, refl, sym, subst}
+use Rattle.std.proofs.Common.{◌≡◌, ◌<◌, ◌≤◌, false, ◌∙◌, ◌∷◌, [], ℕ, refl, sym, subst, inl}
 use Rattle.std.specs.Prelude.{vec_capacity}
 use Rattle.pb_inst.specs.Problem.{Problem}
-use Rattle.pb_subtree.specs.Held.{IsNotAfter}
+use Rattle.pb_engine.specs.EngineState.{EngineState}
+use Rattle.pb_engine.specs.Soundness.{IsSoundTrail}
+use Rattle.pb_prune.specs.AgreedPrefix.{KnowsHeldPrefix}
+use Rattle.pb_prune.specs.Held.{IsNotAfter}
+use Rattle.pb_subtree.specs.Paths.{search_steps}
 use Rattle.pb_subtree.specs.declared.search_state.SearchState.{SearchState}
-use Rattle.pb_subtree.specs.SearchState.{IsUnderWay, IsNext, IsOwn, IsSearched, IsStateOf}
-use Rattle.pb_subtree.proofs.AgreedPrefixLemmas.{knows_longer}
+use Rattle.pb_subtree.specs.SearchState.{IsUnderWay, IsNext, IsOwn, IsSearched, IsStateOf, SameBranches}
+use Rattle.pb_prune.proofs.AgreedPrefixLemmas.{knows_longer}
 use Rattle.pb_subtree.proofs.BudgetLemmas.{left_itself, left_after, left_of_more}
+use Rattle.pb_subtree.proofs.DivingLemmas.{same_branches_back}
 use Rattle.pb_subtree.proofs.Engines.{same_constraints_onward}
-use Rattle.pb_subtree.proofs.HeldLemmas.{moves_onward, moves_itself}
-use Rattle.pb_subtree.proofs.SearchLemmas.{begins, goes_on, at_problem, at_next, next_falls, own_onward, state_moves}
-use Rattle.std.proofs.Common.{inl}
+use Rattle.pb_subtree.proofs.HeldLemmas.{moves_onward, moves_itself, not_after_itself}
+use Rattle.pb_subtree.proofs.SearchLemmas.{begins, goes_on, at_problem, at_next, next_falls, own_onward, state_moves, stays_under_way}
 use Rattle.pb_subtree.proofs.node.search_subtree.Goals as goal
 
 pub loop-branch-preserved : goal.loop-branch-preserved
@@ -17,22 +21,25 @@ loop-branch-preserved g c =
     let start = c.args.state.now.engine in
     let same : c.loop-branch.best.problem ≡ c.args.best.now.problem = c.loop-branch.invariant.moves_on.same_instance in
     let now : c.next_branch.new.best.problem ≡ c.args.best.now.problem = c.next_branch.ensures.further.moves_on.same_instance ∙ same in
-    let u : SearchState _ = record { engine = c.decide.new.engine; branches = c.decide.new.path; candidate = c.borrow_where_due.new.scratch; order = c.next_branch.new.state.order; root_work = record c.next_branch.new.state.root_work { looks = c.borrow_where_due.new.looks } } in
+    let d : SearchState _ = record c.next_branch.new.state { engine = c.decide.new.engine; branches = c.decide.new.path } in
+    let u : SearchState _ = c.borrow_after.new.state in
     let next : IsNext c.args.best.now.problem start c.next_branch.new.state c.in-Some.branch c.next_branch.new.best.held =
     at_problem c.args.best.now.problem c.loop-branch.best.problem (λ p. IsUnderWay p start c.loop-branch.state c.loop-branch.best.held) (λ p. IsNext p start c.next_branch.new.state c.in-Some.branch c.next_branch.new.best.held) same (c.in-Some.ensures.further.onward start) c.loop-branch.invariant.under_way in
     let found : g.S.Share.lends c.args.share.now ≡ false → IsOwn start c.loop-branch.best c.next_branch.new.best =
     λ none. at_problem c.args.best.now.problem c.loop-branch.best.problem (λ p. IsUnderWay p start c.loop-branch.state c.loop-branch.best.held) (λ _. IsOwn start c.loop-branch.best c.next_branch.new.best) same (c.next_branch.ensures.further.own (c.loop-branch.invariant.same_lending ∙ none) start) c.loop-branch.invariant.under_way in
-    let later : IsNotAfter c.args.best.now.problem c.next_branch.new.best.held c.borrow_where_due.new.best.held = subst (λ (p : Problem). IsNotAfter p c.next_branch.new.best.held c.borrow_where_due.new.best.held) now c.borrow_where_due.ensures.moves_on.not_after in
-    let made : IsStateOf c.args.best.now.problem u = state_moves c.args.best.now.problem c.next_branch.new.state u c.decide.ensures.constraints c.decide.ensures.same_room c.borrow_where_due.ensures.same_length next.made_for in
+    let later : IsNotAfter c.args.best.now.problem c.next_branch.new.best.held c.borrow_after.new.best.held = subst (λ (p : Problem). IsNotAfter p c.next_branch.new.best.held c.borrow_after.new.best.held) now c.borrow_after.ensures.moves_on.not_after in
+    let same_after : SameBranches d u = same_branches_back d u c.borrow_after.ensures.engine c.borrow_after.ensures.beside in
+    let decided : IsStateOf c.args.best.now.problem d = state_moves c.args.best.now.problem c.next_branch.new.state d c.decide.ensures.constraints c.decide.ensures.same_room refl next.made_for in
+    let made : IsUnderWay c.args.best.now.problem start d c.next_branch.new.best.held = goes_on c.args.best.now.problem start c.next_branch.new.state d c.in-Some.branch c.next_branch.new.best.held c.next_branch.new.best.held next (not_after_itself c.args.best.now.problem c.next_branch.new.best.held) (c.decide.ensures.at_path _ next.at_path) c.decide.ensures.added c.decide.ensures.constraints decided in
     record {
-      under_way = goes_on c.args.best.now.problem start c.next_branch.new.state u c.in-Some.branch c.next_branch.new.best.held c.borrow_where_due.new.best.held next later (c.decide.ensures.at_path _ next.at_path) c.decide.ensures.added c.decide.ensures.constraints made;
-      moves_on = moves_onward c.args.best.now c.loop-branch.best c.borrow_where_due.new.best c.loop-branch.invariant.moves_on (moves_onward c.loop-branch.best c.next_branch.new.best c.borrow_where_due.new.best c.next_branch.ensures.further.moves_on c.borrow_where_due.ensures.moves_on);
-      own = λ none. own_onward start c.args.best.now c.loop-branch.best c.borrow_where_due.new.best (c.loop-branch.invariant.own none)
-          (own_onward start c.loop-branch.best c.next_branch.new.best c.borrow_where_due.new.best (found none) (inl (c.borrow_where_due.ensures.own (c.next_branch.ensures.same_lending ∙ c.loop-branch.invariant.same_lending ∙ none))));
-      kept = g.met.S.Share.keeps_onward _ _ _ c.loop-branch.invariant.kept (g.met.S.Share.keeps_onward _ _ _ c.next_branch.ensures.kept c.borrow_where_due.ensures.kept);
-      same_lending = c.borrow_where_due.ensures.same_lending ∙ c.next_branch.ensures.same_lending ∙ c.loop-branch.invariant.same_lending;
-      budget = left_after c.args.left.now c.next_branch.new.left c.decide.new.left (left_after c.args.left.now c.loop-branch.left c.next_branch.new.left c.loop-branch.invariant.budget c.next_branch.ensures.budget) (left_of_more 1 c.next_branch.new.left c.decide.new.left c.decide.ensures.counted);
-      known = c.borrow_where_due.ensures.known c.decide.new.engine.trail (knows_longer c.next_branch.new.state.engine.trail c.decide.new.engine.trail (c.in-Some.branch.lit ∷ []) c.next_branch.new.best.held c.next_branch.new.agreed c.decide.ensures.longer c.next_branch.ensures.known);
+      under_way = stays_under_way c.args.best.now.problem start d u c.next_branch.new.best.held c.borrow_after.new.best.held same_after (subst (λ (e : EngineState). IsSoundTrail e) (sym c.borrow_after.ensures.engine) made.at_path.sound) later made;
+      moves_on = moves_onward c.args.best.now c.loop-branch.best c.borrow_after.new.best c.loop-branch.invariant.moves_on (moves_onward c.loop-branch.best c.next_branch.new.best c.borrow_after.new.best c.next_branch.ensures.further.moves_on c.borrow_after.ensures.moves_on);
+      own = λ none. own_onward start c.args.best.now c.loop-branch.best c.borrow_after.new.best (c.loop-branch.invariant.own none)
+          (own_onward start c.loop-branch.best c.next_branch.new.best c.borrow_after.new.best (found none) (inl (c.borrow_after.ensures.own (c.next_branch.ensures.same_lending ∙ c.loop-branch.invariant.same_lending ∙ none))));
+      kept = g.met.S.Share.keeps_onward _ _ _ c.loop-branch.invariant.kept (g.met.S.Share.keeps_onward _ _ _ c.next_branch.ensures.kept c.borrow_after.ensures.kept);
+      same_lending = c.borrow_after.ensures.same_lending ∙ c.next_branch.ensures.same_lending ∙ c.loop-branch.invariant.same_lending;
+      budget = left_after c.args.run.now.left c.next_branch.new.run.left c.decide.new.left (left_after c.args.run.now.left c.loop-branch.run.left c.next_branch.new.run.left c.loop-branch.invariant.budget c.next_branch.ensures.budget) (left_of_more 1 c.next_branch.new.run.left c.decide.new.left c.decide.ensures.counted);
+      known = subst (λ (e : EngineState). KnowsHeldPrefix e.trail c.borrow_after.new.best.held c.borrow_after.new.agreed) (sym c.borrow_after.ensures.engine) (c.borrow_after.ensures.known c.decide.new.engine.trail (knows_longer c.next_branch.new.state.engine.trail c.decide.new.engine.trail (c.in-Some.branch.lit ∷ []) c.next_branch.new.best.held c.next_branch.new.run.agreed c.decide.ensures.longer c.next_branch.ensures.known));
     }
 
 pub returns-clause-moves_on : goal.returns-clause-moves_on
@@ -48,8 +55,8 @@ loop-branch-init g c =
       own = λ none. inl refl;
       kept = g.met.S.Share.keeps_itself _;
       same_lending = refl;
-      budget = left_itself c.args.left.now;
-      known = c.of-agreed.ensures c.args.state.now.engine.trail;
+      budget = left_itself c.args.run.now.left;
+      known = c.requires.known;
     }
 
 pub next_branch-requires-clause-state : goal.next_branch-requires-clause-state
@@ -76,7 +83,12 @@ decide-requires-clause-room g c =
 pub loop-branch-smaller : goal.loop-branch-smaller
 loop-branch-smaller g c =
     let next = at_next c.args.best.now.problem c.loop-branch.best.problem c.args.state.now.engine c.loop-branch.state c.next_branch.new.state c.in-Some.branch c.loop-branch.best.held c.next_branch.new.best.held c.loop-branch.invariant.moves_on.same_instance (c.in-Some.ensures.further.onward c.args.state.now.engine) c.loop-branch.invariant.under_way in
-    next_falls c.args.best.now.problem c.loop-branch.best.problem c.next_branch.new.state.engine.vars c.loop-branch.state c.next_branch.new.state c.decide.new.path.items c.in-Some.branch c.loop-branch.invariant.moves_on.same_instance c.in-Some.ensures.fewer c.decide.ensures.added c.decide.ensures.few next.made_for.engine.vars
+    let n = c.args.best.now.problem.vars in
+    let before = search_steps n c.loop-branch.state.root_work.returns c.loop-branch.state.branches.items in
+    let falls : search_steps n c.next_branch.new.state.root_work.returns c.decide.new.path.items < before =
+    next_falls c.args.best.now.problem c.loop-branch.best.problem c.next_branch.new.state.engine.vars c.loop-branch.state c.next_branch.new.state c.decide.new.path.items c.in-Some.branch c.loop-branch.invariant.moves_on.same_instance c.in-Some.ensures.fewer c.decide.ensures.added c.decide.ensures.few next.made_for.engine.vars in
+    subst (λ v. search_steps n c.borrow_after.new.state.root_work.returns v.items < before) (sym c.borrow_after.ensures.beside.branches)
+    (subst (λ (r : ℕ). search_steps n r c.decide.new.path.items < before) (sym c.borrow_after.ensures.beside.returns) falls)
 
 pub returns-clause-searched : goal.returns-clause-searched
 returns-clause-searched g c _ =

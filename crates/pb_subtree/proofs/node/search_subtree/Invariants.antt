@@ -1,6 +1,6 @@
 use Rattle.std.proofs.Common.{◌≡◌, false}
-use Rattle.pb_subtree.specs.Held.{MovesOn}
-use Rattle.pb_subtree.specs.AgreedPrefix.{KnowsHeldPrefix}
+use Rattle.pb_prune.specs.Held.{MovesOn}
+use Rattle.pb_prune.specs.AgreedPrefix.{KnowsHeldPrefix}
 use Rattle.pb_subtree.specs.SearchState.{IsUnderWay, IsOwn}
 use Rattle.pb_subtree.specs.Paths.{search_steps}
 use Rattle.pb_subtree.specs.Left.{IsLeftOf}
@@ -13,8 +13,8 @@ invariant-loop-branch g l = record {
   own : g.S.Share.lends l.fn.share ≡ false → IsOwn l.fn.state.engine l.fn.best l.best;
   kept : g.S.Share.keeps l.fn.share l.share;
   same_lending : g.S.Share.lends l.share ≡ g.S.Share.lends l.fn.share;
-  budget : IsLeftOf l.fn.left l.left;
-  known : KnowsHeldPrefix l.state.engine.trail l.best.held l.agreed;
+  budget : IsLeftOf l.fn.run.left l.run.left;
+  known : KnowsHeldPrefix l.state.engine.trail l.best.held l.run.agreed;
 }
 
 abbrev pub decreases-loop-branch : goal.decreases-loop-branch

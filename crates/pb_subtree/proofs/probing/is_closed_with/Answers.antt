@@ -5,11 +5,11 @@ use Rattle.pb_engine.specs.EngineState.{EngineState, is_conflict}
 use Rattle.pb_engine.specs.Fixing.{IsBelowCompletions}
 use Rattle.pb_engine.specs.Soundness.{assumptions}
 use Rattle.pb_trail.specs.declared.propagation.Step.TheVariants.{Conflict}
-use Rattle.pb_subtree.specs.Solutions.{SameConstraints}
-use Rattle.pb_subtree.specs.SearchState.{IsClosed, IsEngineOf}
+use Rattle.pb_prune.specs.Solutions.{SameConstraints}
+use Rattle.pb_prune.specs.Subtree.{IsClosed, IsEngineOf}
 use Rattle.pb_subtree.proofs.Engines.{same_constraints, same_constraints_onward, assumed, propagated}
-use Rattle.pb_subtree.proofs.LeafLemmas.{closed_over_held}
-use Rattle.pb_subtree.proofs.SearchLemmas.{none_closed, same_engine}
+use Rattle.pb_prune.proofs.ClosedLemmas.{closed_over_held, none_closed}
+use Rattle.pb_subtree.proofs.SearchLemmas.{same_engine}
 use Rattle.pb_subtree.proofs.probing.is_closed_with.Goals as goal
 
 pub returns-then-eq-clause-closed : goal.returns-then-eq-clause-closed

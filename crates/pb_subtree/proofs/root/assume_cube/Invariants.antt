@@ -1,7 +1,7 @@
 use Rattle.std.proofs.Common.{◌≡◌, List, Bool, false, take, ◌↔◌}
 use Rattle.pb_inst.specs.Cubes.{MakesTrue}
 use Rattle.pb_engine.specs.Soundness.{assumptions, IsSoundTrail}
-use Rattle.pb_subtree.specs.Solutions.{SameConstraints, Satisfies}
+use Rattle.pb_prune.specs.Solutions.{SameConstraints, Satisfies}
 use Rattle.pb_subtree.proofs.root.assume_cube.Given as goal
 
 abbrev pub invariant-loop-lit : goal.invariant-loop-lit

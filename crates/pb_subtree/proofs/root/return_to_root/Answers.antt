@@ -1,7 +1,7 @@
 use Rattle.std.proofs.Common.{◌≡◌, ◌∙◌, [], false, take}
 use Rattle.pb_engine.specs.EngineState.{trail_before, is_conflict}
 use Rattle.pb_engine.specs.Soundness.{assumptions}
-use Rattle.pb_subtree.specs.Solutions.{SameConstraints}
+use Rattle.pb_prune.specs.Solutions.{SameConstraints}
 use Rattle.pb_subtree.proofs.Engines.{same_constraints, same_constraints_onward, propagated, undone_all}
 use Rattle.pb_subtree.proofs.RootLemmas.{refuted_at_root}
 use Rattle.pb_subtree.proofs.root.return_to_root.Goals as goal

@@ -1,7 +1,7 @@
 use Rattle.std.proofs.Common.{◌≡◌, vec_len}
 use Rattle.pb_engine.specs.EngineState.{EngineState}
-use Rattle.pb_subtree.specs.Solutions.{SameConstraints}
-use Rattle.pb_subtree.specs.AgreedPrefix.{KnowsHeldPrefix}
+use Rattle.pb_prune.specs.Solutions.{SameConstraints}
+use Rattle.pb_prune.specs.AgreedPrefix.{KnowsHeldPrefix}
 use Rattle.pb_subtree.specs.SearchState.{IsStateOf, IsAtSomePath, IsUnderWay}
 use Rattle.pb_subtree.proofs.step_back.step_back.Given as goal
 

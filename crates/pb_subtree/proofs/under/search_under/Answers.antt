@@ -1,6 +1,7 @@
-use Rattle.std.proofs.Common.{rules, ◌≡◌, ◌∙◌, subst}
+use Rattle.std.proofs.Common.{rules, ◌≡◌, ◌∙◌, ℕ, Option, subst}
 use Rattle.pb_inst.specs.Problem.{Problem}
-use Rattle.pb_subtree.specs.Solutions.{SameConstraints}
+use Rattle.pb_subtree.specs.Left.{IsLeftOf}
+use Rattle.pb_prune.specs.Solutions.{SameConstraints}
 use Rattle.pb_trail.specs.declared.propagation.Step.TheVariants.{Fixed, Conflict}
 use Rattle.pb_subtree.specs.SearchState.{IsSearched}
 use Rattle.pb_subtree.proofs.HeldLemmas.{moves_onward}
@@ -19,21 +20,27 @@ returns-clause-searched g c whole a h =
     let fixed : c.assume_cube.result ≡ Fixed = search rules in
     let same : SameConstraints c.args.state.now.engine c.assume_cube.new.engine = same_constraints_onward c.args.state.now.engine c.return_to_root.new.engine c.assume_cube.new.engine c.return_to_root.ensures.constraints c.assume_cube.ensures.constraints in
     let both = c.assume_cube.ensures.fixed fixed a (same_solution c.args.state.now.engine c.return_to_root.new.engine a c.return_to_root.ensures.constraints h.solution) in
-    let done : IsSearched c.args.best.now.problem c.assume_cube.new.engine c.search_subtree.new.best.held = subst (λ (p : Problem). IsSearched p c.assume_cube.new.engine c.search_subtree.new.best.held) c.borrow.ensures.moves_on.same_instance (c.search_subtree.ensures.searched whole) in
+    let done : IsSearched c.args.best.now.problem c.assume_cube.new.engine c.search_subtree-outcome.new.best.held = subst (λ (p : Problem). IsSearched p c.assume_cube.new.engine c.search_subtree-outcome.new.best.held) c.borrow.ensures.moves_on.same_instance (c.search_subtree-outcome.ensures.searched whole) in
     done a (root_solution c.args.state.now.engine c.assume_cube.new.engine c.args.cube.now a same both h)
 
 pub returns-clause-moves_on : goal.returns-clause-moves_on
-returns-clause-moves_on g c = moves_onward c.args.best.now c.borrow.new.best c.search_subtree.new.best c.borrow.ensures.moves_on c.search_subtree.ensures.moves_on
+returns-clause-moves_on g c = moves_onward c.args.best.now c.borrow.new.best c.search_subtree-outcome.new.best c.borrow.ensures.moves_on c.search_subtree-outcome.ensures.moves_on
 
 pub returns-clause-own : goal.returns-clause-own
 returns-clause-own g c none =
     let fixed : c.assume_cube.result ≡ Fixed = search rules in
     let same : SameConstraints c.args.state.now.engine c.assume_cube.new.engine = same_constraints_onward c.args.state.now.engine c.return_to_root.new.engine c.assume_cube.new.engine c.return_to_root.ensures.constraints c.assume_cube.ensures.constraints in
-    own_at_root c.args.state.now.engine c.assume_cube.new.engine c.args.cube.now c.args.best.now c.borrow.new.best c.search_subtree.new.best same
+    own_at_root c.args.state.now.engine c.assume_cube.new.engine c.args.cube.now c.args.best.now c.borrow.new.best c.search_subtree-outcome.new.best same
     (λ a h. c.assume_cube.ensures.fixed fixed a (same_solution c.args.state.now.engine c.return_to_root.new.engine a c.return_to_root.ensures.constraints h))
-    (c.borrow.ensures.own none) (c.search_subtree.ensures.own (c.borrow.ensures.same_lending ∙ none))
+    (c.borrow.ensures.own none) (c.search_subtree-outcome.ensures.own (c.borrow.ensures.same_lending ∙ none))
 
 pub returns-then-eq-2-clause-searched : goal.returns-then-eq-2-clause-searched
 returns-then-eq-2-clause-searched g c _ a h =
     let is : c.assume_cube.result ≡ Conflict = search rules in
     absurd (c.assume_cube.ensures.conflict is a (same_solution c.args.state.now.engine c.return_to_root.new.engine a c.return_to_root.ensures.constraints h.solution) h.makes_true)
+
+pub returns-clause-budget : goal.returns-clause-budget
+returns-clause-budget g c = subst (λ (n : Option ℕ). IsLeftOf n c.search_subtree-outcome.new.run.left) c.begin-run.ensures.left c.search_subtree-outcome.ensures.budget
+
+pub search_subtree-outcome-requires-clause-known : goal.search_subtree-outcome-requires-clause-known
+search_subtree-outcome-requires-clause-known g c = c.begin-run.ensures.known c.assume_cube.new.engine.trail

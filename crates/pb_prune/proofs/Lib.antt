@@ -1,0 +1,3 @@
+pub mod ValueLemmas
+pub mod ClosedLemmas
+pub mod AgreedPrefixLemmas

@@ -1,0 +1,4 @@
+pub mod Held
+pub mod Solutions
+pub mod Subtree
+pub mod AgreedPrefix

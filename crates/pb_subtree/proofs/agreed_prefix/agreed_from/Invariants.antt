@@ -1,5 +1,0 @@
-use Rattle.pb_subtree.specs.SearchState.{HasOnesWithin}
-use Rattle.pb_subtree.proofs.agreed_prefix.agreed_from.Given as goal
-
-abbrev pub invariant-loop-place : goal.invariant-loop-place
-invariant-loop-place g l = HasOnesWithin l.engine.trail l.held 0 l.place

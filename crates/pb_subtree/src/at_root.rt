@@ -1,0 +1,58 @@
+//! The work that is done where the search stands at its root.
+
+ghost use Rattle.std.specs.Prelude.{◌≡◌, false, IfSome};
+ghost use Rattle.pb_engine.specs.Soundness.{IsSoundTrail};
+ghost use Rattle.pb_prune.specs.Subtree.{IsEngineOf, IsOpenOnOneSide};
+ghost use Rattle.pb_subtree.specs.Left.{IsLeftOf};
+ghost use Rattle.pb_subtree.specs.SearchState.{IsSameBeside};
+
+use crate::probing::find_failed;
+use crate::search_state::SearchState;
+use crate::ties::Ties;
+use pb_engine::{Coefficient, EngineAt};
+use pb_inst::{Best, Lit, Number};
+use pb_prune::Pruning;
+
+/// Works at the root, where the search stands there. Gives a literal whose negation has nothing to give, or none where none
+/// was found. Its trials are decisions. Once ties alone are left there is nothing to work for.
+pub fn work_at_root<C: Coefficient>(
+    state: &mut SearchState<C>,
+    best: &Best<'_>,
+    pruning: Pruning,
+    bound: Option<Number>,
+    left: &mut Option<u64>,
+) -> Option<Lit>
+    requires engine { IsEngineOf best.now.problem state.old.engine }
+    requires sound { IsSoundTrail state.old.engine }
+    requires no_conflict { state.old.engine.conflict ≡ false }
+    ensures found { IfSome result (IsOpenOnOneSide best.now.problem state.new.engine best.now.held) }
+    ensures engine { state.new.engine ≡ state.old.engine }
+    ensures beside { IsSameBeside state.old state.new }
+    ensures budget { IsLeftOf left.old left.new }
+{
+    let work = &mut state.root_work;
+    if !work.is_at_root(&state.branches) {
+        return None;
+    }
+    note_root_bound(&mut work.ties, &mut state.engine, bound);
+    let (length, cost) = (state.engine.trail_len(), best.cost());
+    if !work.is_round_due(pruning, length, cost) {
+        return None;
+    }
+    let (probing, looks) = (&mut work.probing, &mut work.looks);
+    let found = find_failed(&mut state.engine, probing, looks, best, left);
+    if found.is_none() {
+        work.end_round(length, cost);
+    }
+    found
+}
+
+/// Notes the bound that was taken at the root; where none was, that of disjoint rows once.
+fn note_root_bound<C: Coefficient>(ties: &mut Ties, engine: &mut EngineAt<C>, bound: Option<Number>)
+    ensures { engine.new ≡ engine.old }
+{
+    if bound.is_none() && ties.root_bound.is_none() {
+        ties.root_bound = Some(engine.bound());
+    }
+    ties.root_bound = ties.root_bound.max(bound);
+}

@@ -1,0 +1,129 @@
+//! What is done at one node: propagation, the comparison of bounds, work at the root, and the choice of the next decision.
+
+ghost use Rattle.std.specs.Prelude.{◌≡◌, ◌≤◌, false, length, None, IfNone, IfSome};
+ghost use Rattle.pb_inst.specs.declared.limits.TheConstants.{MAX_VARS};
+ghost use Rattle.pb_engine.specs.Completion.{HasNoCompletion};
+ghost use Rattle.pb_engine.specs.Propagation.{AddsForced};
+ghost use Rattle.pb_engine.specs.Soundness.{IsFull, IsSolved, IsSoundTrail};
+ghost use Rattle.pb_engine.specs.Trail.{value_on};
+ghost use Rattle.pb_prune.specs.AgreedPrefix.{KnowsHeldPrefix};
+ghost use Rattle.pb_subtree.specs.Left.{IsLeftOf};
+ghost use Rattle.pb_subtree.specs.SearchState.{IsSameBeside, IsStateOf, SameBranches};
+ghost use Rattle.pb_subtree.specs.Nodes.{IsExpanded};
+
+use crate::Share;
+use crate::at_root::work_at_root;
+use crate::branch::{Branch, one_sided};
+use crate::decisions::next_decision;
+use crate::feedback::{last_decided, learn, learn_conflict, learn_gap};
+use crate::improvement::Origin;
+use crate::incumbent::take_leaf;
+use crate::run::Run;
+use crate::search_state::SearchState;
+use pb_engine::{Coefficient, Step};
+use pb_inst::{Best, Number};
+use pb_prune::{Hints, Pruning, Verdict, classify_node};
+
+/// Expands the node where the trail stands: propagates, compares the bound, tries literals at the root, and takes a full
+/// trail. Gives the decision to make next, or none where no completion of the trail is before what is held.
+pub fn expand_node<C: Coefficient, S: Share>(
+    state: &mut SearchState<C>,
+    best: &mut Best<'_>,
+    share: &mut S,
+    run: &mut Run,
+) -> Option<Branch>
+    requires state { IsStateOf best.old.problem state.old }
+    requires sound { IsSoundTrail state.old.engine }
+    requires known { KnowsHeldPrefix state.old.engine.trail best.old.held run.old.agreed }
+    ensures expanded { IsExpanded (S.lends share.old) state.old state.new best.old best.new result }
+    ensures kept { S.keeps share.old share.new }
+    ensures same_lending { S.lends share.new ≡ S.lends share.old }
+    ensures known { KnowsHeldPrefix state.new.engine.trail best.new.held run.new.agreed }
+    ensures budget { IsLeftOf run.old.left run.new.left }
+{
+    if state.engine.conflict() {
+        return None;
+    }
+    let decided = last_decided(state, best);
+    if propagate(state) == Step::Conflict {
+        learn(&mut state.order, decided, Some(0));
+        return None;
+    }
+    // The bound is asked for after propagation alone: it counts what the trail forces, and a node that ends in a conflict
+    // never pays for it.
+    let (is_counted, mut hints) = (run.left.is_some(), state.hints());
+    let agreed = &mut run.agreed;
+    let Verdict {
+        pruning,
+        bound,
+        fixed,
+    } = classify_node(&mut state.engine, best, agreed, is_counted, &mut hints);
+    learn_gap(&mut state.order, &state.engine, best, pruning, decided);
+    if pruning == Pruning::Closed {
+        return None;
+    }
+    if let Some(lit) = fixed {
+        return Some(one_sided(lit, bound, hints));
+    }
+    if let Some(lit) = work_at_root(state, best, pruning, bound, &mut run.left) {
+        return Some(one_sided(lit, bound, hints));
+    }
+    if let Some(branch) = choose(state, pruning, bound, hints) {
+        return Some(branch);
+    }
+    take_leaf(state, best, share, &mut run.agreed, Origin::Leaf);
+    None
+}
+
+/// Adds what follows from the last decision. The order learns from a conflict.
+fn propagate<C: Coefficient>(state: &mut SearchState<C>) -> Step
+    requires no_conflict { state.old.engine.conflict ≡ false }
+    requires sound { IsSoundTrail state.old.engine }
+    ensures same_branches { SameBranches state.old state.new }
+    ensures forced { AddsForced state.old.engine.rows state.old.engine.trail state.new.engine.trail }
+    ensures no_completion { result ≡ Step.Conflict → HasNoCompletion state.new.engine.rows state.new.engine.trail }
+    ensures fixed { result ≡ Step.Fixed → state.new.engine.conflict ≡ false }
+    ensures solved { result ≡ Step.Fixed → IsFull state.new.engine → IsSolved state.new.engine }
+    ensures sound { IsSoundTrail state.new.engine }
+{
+    let length = state.engine.trail_len();
+    let step = state.engine.propagate();
+    let added = state.engine.trail_len().saturating_sub(length);
+    state.root_work.probing.earn(added);
+    learn_conflict(&mut state.order, &state.engine, step);
+    step
+}
+
+/// The decision to make next, both of whose values are to be tried; none where the trail is full.
+fn choose<C: Coefficient>(
+    state: &mut SearchState<C>,
+    pruning: Pruning,
+    bound: Option<Number>,
+    hints: Hints,
+) -> Option<Branch>
+    requires few { state.old.engine.vars ≤ MAX_VARS }
+    requires candidate { length state.old.candidate ≡ state.old.engine.vars }
+    ensures free { IfSome result (λ b. (b.lit.var ≤ state.old.engine.vars) × (value_on state.old.engine.trail b.lit.var ≡ None)) }
+    ensures fresh { IfSome result (λ b. b.flipped ≡ false) }
+    ensures full { IfNone result (IsFull state.old.engine) }
+    ensures engine { state.new.engine ≡ state.old.engine }
+    ensures beside { IsSameBeside state.old state.new }
+{
+    let vars = state.candidate.len();
+    state.order.lead_by_gains(state.engine.multipliers_pay());
+    let is_calm = state.root_work.ties.is_calm;
+    let branch = next_decision(
+        &state.engine,
+        vars,
+        &mut state.order,
+        hints,
+        pruning,
+        bound,
+        is_calm,
+    )?;
+    state
+        .root_work
+        .ties
+        .note(pruning, branch.lit, state.branches.len());
+    Some(branch)
+}
