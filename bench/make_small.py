@@ -24,6 +24,12 @@
     pictures    a picture of SIZE by SIZE squares, of which the lengths of the runs in each row and column are known
     clauses     clauses of three literals over SIZE variables, 4.2 for each variable (a text of clauses)
     colours     three colours for a graph with SIZE vertices (a text of clauses)
+
+For rounds on an engine (`bench`) there are
+
+    rows        two rows for each of SIZE variables, of five literals with coefficients 1 to 4 that are to reach 3; each tenth costs 1
+    chain       just one of each two neighbours among SIZE variables
+    wide        one row, that some of SIZE variables is true
 """
 import random
 import sys
@@ -370,6 +376,21 @@ def colours(rng, size):
     return clausal(3 * size, some + other)
 
 
+def rows(rng, size):
+    def terms():
+        return [(rng.randint(1, 4), rng.choice((-1, 1)) * rng.randint(1, size)) for _ in range(5)]
+
+    return linear(size, [(1, v) for v in range(10, size + 1, 10)], [(terms(), ">=", 3) for _ in range(2 * size)])
+
+
+def chain(_, size):
+    return linear(size, [], [counted((v, v + 1), "=", 1) for v in range(1, size)])
+
+
+def wide(_, size):
+    return linear(size, [], [counted(range(1, size + 1), ">=", 1)])
+
+
 FAMILIES = {
     "random": any_sums,
     "cover": cover,
@@ -392,6 +413,9 @@ FAMILIES = {
     "pictures": pictures,
     "clauses": clauses,
     "colours": colours,
+    "rows": rows,
+    "chain": chain,
+    "wide": wide,
 }
 
 

@@ -25,6 +25,7 @@ import argparse
 import os
 import re
 import resource
+import shutil
 import subprocess
 import sys
 import tempfile
@@ -68,12 +69,15 @@ class Ended:
         return "not ended" if self.is_stopped else "%.3f" % self.seconds
 
 
-def run(words, limit=600, text=os.devnull):
-    """One run of a program, whose standard input is the file of that name."""
-    start = time.perf_counter()
-    with tempfile.TemporaryFile("w+") as out, open(text) as file:
+def run(words, limit=600, asked="", text=os.devnull):
+    """One run of a program, whose standard input is what is asked and then the file of that name."""
+    with tempfile.TemporaryFile("w+") as out, tempfile.TemporaryFile("w+") as given, open(text) as file:
+        given.write(asked)
+        shutil.copyfileobj(file, given)
+        given.seek(0)
         bound = lambda: resource.setrlimit(resource.RLIMIT_CPU, (limit, limit))
-        child = subprocess.Popen([str(word) for word in words], stdin=file, stdout=out, stderr=out, preexec_fn=bound)
+        start = time.perf_counter()
+        child = subprocess.Popen([str(word) for word in words], stdin=given, stdout=out, stderr=out, preexec_fn=bound)
         _, status, used = os.wait4(child.pid, 0)
         wall = time.perf_counter() - start
         child.returncode = os.waitstatus_to_exitcode(status)
@@ -121,7 +125,7 @@ class Bench:
 
     def decisions(self, path):
         """Those of a search in one piece, and its seconds."""
-        told = re.search(r"(\d+) decisions, searched in ([\d.]+)(\w*)s", run([self.layers, "search", path]).out)
+        told = re.search(r"(\d+) decisions, searched in ([\d.]+)(\w*)s", run([self.layers], asked="search\n", text=path).out)
         return int(told[1]), float(told[2]) * {"": 1, "m": 1e-3, "µ": 1e-6, "n": 1e-9}[told[3]]
 
 
@@ -212,7 +216,8 @@ def reading(bench):
     for kind, megabytes in (("opb", "50"), ("cnf", "50"), ("icnf", "30"), ("cubes", "20")):
         script, words = ("make_opb.py", [megabytes]) if kind == "opb" else ("make_cnf.py", [kind, megabytes])
         path = bench.written("text_%s" % kind, script, words)
-        runs = [run([bench.layers, "read", kind], text=path) for _ in range(9)]
+        asked = "read cubes\n" if kind == "cubes" else "read\n"
+        runs = [run([bench.layers], asked=asked, text=path) for _ in range(9)]
         yield kind, min(float(re.search(r"in ([\d.]+) s", ended.out)[1]) for ended in runs), "%.0f" % runs[0].megabytes
 
 

@@ -6,7 +6,7 @@
 
 In a copy of the repository each proposer of tests/proposals/ draws: the multipliers, the order and the values of decisions, what
 is tried at the root, when the search steps back further, and the hints of a decision. Constants that put such work off are as small
-there as may be. `bench_work` of the copy is compiled without proof and solves drawn instances of 2 to 12 variables, with and
+there as may be. `bench` of the copy is compiled without proof and solves drawn instances of 2 to 12 variables, with and
 without an objective, many with numbers of 128 bits. The report must be that of the listing, whatever is drawn.
 
 A number is drawn from what the proposer sees, so each run draws the same. A file NAME.place tells why it is there, its file, a
@@ -30,7 +30,7 @@ from lib.copies import Copy
 from lib.instance import Instance
 
 PLACES = TOP / "tests/proposals"
-PROGRAM = "bench_work"
+PROGRAM = "bench"
 INSTANCES = 600  # half of them with 2 to 7 variables
 FEWEST_VARIABLES, MOST_VARIABLES = 3, 12  # of the other half
 FEWEST_TO_STOP = 18  # on so many variables the program stops at the first place, on one more at the next, and so on
@@ -53,7 +53,7 @@ LINES = {  # what they become in the copy
     ("pb_inst/src/lib.rt", "pub use cubes::Cube;"): "pub use cubes::Cube;\npub use draws::{drawn, drawn_multiplier};",
     ("pb_lagrange/src/relaxation/passes.rt", "        self.is_renewed || self.nodes == LONG_PATIENCE"): "        self.is_renewed || self.nodes % 4 == 1",
     ("pb_subtree/src/root_work.rt", "        self.returns = u32::MAX;"): "        self.returns = 3;",
-    (f"{PROGRAM}/src/main.rt", "        split: 0,"): "        split: (text.len() % 3) as u32,",
+    (f"{PROGRAM}/src/solving.rt", "        split: 0,"): "        split: (text.len() % 3) as u32,",
 }
 
 

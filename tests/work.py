@@ -4,7 +4,7 @@
     tests/work.py
     tests/work.py --measure [NAME ..]
 
-`bench_work` is built without proof (`rt try`) and solves each instance of tests/work/ in an interpreter, whose steps are the
+`bench` is built without proof (`rt try`) and solves each instance of tests/work/ in an interpreter, whose steps are the
 same in each run. Each must end within STEPS of them, with the report that stands beside it. So that the bound is near for each,
 a comment is put in after the first line, so long that the run took more than nine tenths of the steps when it was measured
 last; reading it costs the same in each run, some 172 steps a byte. So a body that looks at more rows, makes more decisions,
@@ -109,7 +109,7 @@ def run_side(top, cases, steps):
             shutil.copy(INSTANCES / f"{name}.stdout", Path(folder, f"{case}.stdout"))
         # No run makes so many requests that one is refused, but with this word they are counted.
         words = ["rt", "try", "--steps", steps, "--seconds", SECONDS, "--fail-alloc", 10**9, "--cases", folder]
-        tried = ran(list(map(str, words)), cwd=top / "crates/bench_work", timeout=None)
+        tried = ran(list(map(str, words)), cwd=top / "crates/bench", timeout=None)
     said, ended, requests = tried.out + tried.err, {}, 0
     for line in said.splitlines():
         if found := re.match(r"allocations: (?:at least )?(\d+)$", line):

@@ -13,7 +13,6 @@ decisions of today in place of the bounds.
 import re
 import subprocess
 import sys
-import tempfile
 from dataclasses import dataclass
 from pathlib import Path
 
@@ -117,21 +116,19 @@ FAMILIES = {
 }
 
 
-def told(program, folder, name, instance):
+def told(program, instance):
     """What the program tells of the search of the instance; none where it does not end in time."""
-    file = folder / f"{program.name}-{name}.opb"
-    file.write_text(instance.text())
     try:
-        said = ran([program, "search", file]).err
+        said = ran([program], input=f"search\n{instance.text()}".encode()).err
     except subprocess.TimeoutExpired:
         said = ""
     words = re.fullmatch(r"cost (.+), (\d+) decisions, searched in .+, (\d+) improvements, asked (\d+) times\n", said)
     return Told(words[1] != "None", *map(int, words.groups()[1:])) if words else None
 
 
-def told_of_all(program, folder, name, effort):
+def told_of_all(program, effort):
     """The same of each instance of the effort."""
-    return [told(program, folder, f"{name}-{number}", it) for number, it in enumerate(effort.instances)]
+    return [told(program, it) for it in effort.instances]
 
 
 def counted(told):
@@ -153,8 +150,7 @@ def complaint(family, effort, told):
 def main(words):
     programs = [Path(it).absolute() for it in words if it != "--measure"] or built(["bench"])
     jobs = [(it, family, effort) for it in programs for family, efforts in FAMILIES.items() for effort in efforts]
-    with tempfile.TemporaryDirectory() as folder:
-        every = side_by_side(lambda number, job: told_of_all(job[0], Path(folder), number, job[2]), range(len(jobs)), jobs)
+    every = side_by_side(lambda job: told_of_all(job[0], job[2]), jobs)
     if "--measure" in words:
         print(*[f"{family}: {counted(told)} of {effort.most}" for (_, family, effort), told in zip(jobs, every)], sep="\n")
         return 0

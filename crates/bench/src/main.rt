@@ -1,30 +1,39 @@
-//! Measures single layers of the solver. The first word says which: `read`, `search` or `engine`. Each module tells the words
-//! that come after it, and where its figures go.
+//! Measures a layer of the solver on the text that follows the first line of standard input. That line says which, and how:
+//!
+//! ```text
+//! read [cubes]
+//! search [K [anew]]
+//! engine one|ordered|shuffled ROUNDS
+//! ```
+//!
+//! A text with another first line is solved. Each module tells where its figures go. The program reads no words of a command
+//! line, since the interpreter that counts the steps of a solved text (`tests/work.py`) runs no program that does.
 #![tactic(auto)]
 
+mod commands;
 mod engine;
-mod instances;
 mod reading;
 mod rounds;
 mod searching;
+mod solving;
+mod texts;
 
-use std::env;
+use crate::commands::{Command, command_of};
+use pb_solve::Device;
+use std::io;
+use std::io::Read;
 
-/// How the program is called.
-const USAGE: &str = "\
-bench read [FORMAT] < TEXT
-bench search FILE [K [anew]]
-bench engine CASE VARIABLES ROUNDS < TEXT";
-
-fn main(rt: HostRuntime) -> anyhow::Result<()> {
-    let mut words = env::args(&rt)?;
-    words.next();
-    let layer = words.next().unwrap_or(String::new(rt.alloc()));
-    match layer.as_str() {
-        "read" => reading::run(&rt, &mut words)?,
-        "search" => searching::run(&rt, &mut words)?,
-        "engine" => engine::run(&rt, &mut words)?,
-        _ => eprintln!(rt; "{USAGE}")?,
+fn main(rt: HostRuntime) -> io::Result<()> {
+    let mut text = Vec::new(rt.alloc());
+    rt.stdin().read_to_end(&mut text)?;
+    let (command, rest) = command_of(&text);
+    match command {
+        Command::Read { is_cubes } => reading::run(&rt, rest, is_cubes),
+        Command::Search { k, is_anew } => searching::run(&rt, rest, k, is_anew),
+        Command::Engine { course, rounds } => engine::run(&rt, rest, course, rounds),
+        Command::Solve => {
+            let mut out = Device::new(rt.stdout());
+            solving::run(&rt, rt.alloc(), rest, &mut out, &mut rt.stderr())
+        }
     }
-    Ok(())
 }

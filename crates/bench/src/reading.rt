@@ -1,38 +1,30 @@
-//! Reads a text from standard input and says on standard error how long that took. The word is its format: `cnf`, `icnf`,
-//! `cubes`, and else OPB.
+//! Reads a text, and says on standard error how long that took.
 
+use crate::texts::format_of;
 use pb_inst::MAX_VARS;
-use pb_read::{Format, ReadFault, read, read_cubes};
+use pb_read::{ReadFault, read, read_cubes};
 use std::alloc::Global;
-use std::io::Read;
+use std::io;
 use std::time::Instant;
-use std::{env, io};
 
 /// How many variables, constraints and cubes a text has.
-#[derive(Clone, Copy, Debug)]
+#[derive(Clone, Copy)]
 struct Sizes {
     variables: u32,
     constraints: usize,
     cubes: usize,
 }
 
-/// The sizes of the text, in the format of that name.
-fn read_sizes(alloc: Global, name: &str, text: &[u8]) -> Result<Sizes, ReadFault> {
-    let format = match name {
-        "cnf" => Format::Cnf,
-        "icnf" => Format::Icnf,
-        "cubes" => {
-            let variables = MAX_VARS;
-            let cubes = read_cubes(alloc, text, variables)?.len();
-            return Ok(Sizes {
-                variables,
-                constraints: 0,
-                cubes,
-            });
-        }
-        _ => Format::Opb,
-    };
-    let (instance, cubes) = read(alloc, format, text)?;
+/// The sizes of the text, of cubes or of an instance.
+fn read_sizes(alloc: Global, text: &[u8], is_cubes: bool) -> Result<Sizes, ReadFault> {
+    if is_cubes {
+        return Ok(Sizes {
+            variables: MAX_VARS,
+            constraints: 0,
+            cubes: read_cubes(alloc, text, MAX_VARS)?.len(),
+        });
+    }
+    let (instance, cubes) = read(alloc, format_of(text), text)?;
     Ok(Sizes {
         variables: instance.vars(),
         constraints: instance.len(),
@@ -40,13 +32,10 @@ fn read_sizes(alloc: Global, name: &str, text: &[u8]) -> Result<Sizes, ReadFault
     })
 }
 
-/// Reads standard input in the format that the next word names.
-pub fn run(rt: &HostRuntime, words: &mut env::Args) -> io::Result<()> {
-    let name = words.next().unwrap_or(String::new(rt.alloc()));
-    let mut text = Vec::new(rt.alloc());
-    rt.stdin().read_to_end(&mut text)?;
+/// Reads the text.
+pub fn run(rt: &HostRuntime, text: &[u8], is_cubes: bool) -> io::Result<()> {
     let start = Instant::now(rt)?;
-    let answer = read_sizes(rt.alloc(), &name, &text);
+    let answer = read_sizes(rt.alloc(), text, is_cubes);
     let seconds = start.elapsed(rt)?.as_secs_f64();
     let bytes = text.len();
     match answer {
@@ -58,8 +47,7 @@ pub fn run(rt: &HostRuntime, words: &mut env::Args) -> io::Result<()> {
             },
         ) => eprintln!(rt;
             "{bytes} bytes in {seconds:.3} s: {variables} variables, {constraints} constraints, {cubes} cubes"
-        )?,
-        Err(fault) => eprintln!(rt; "{bytes} bytes in {seconds:.3} s: {fault:?}")?,
+        ),
+        Err(fault) => eprintln!(rt; "{bytes} bytes in {seconds:.3} s: {fault:?}"),
     }
-    Ok(())
 }

@@ -2,11 +2,11 @@
 
 ghost use Rattle.std.specs.Prelude.{◌<◌};
 
-use pb_engine::{Coefficient, EngineAt, Step};
+use pb_engine::{Engine, Step};
 use pb_inst::{Lit, Number};
 
 /// Numbers that look random, and are the same in each run.
-#[derive(Clone, Copy, Debug)]
+#[derive(Clone, Copy)]
 pub struct Draws {
     state: u64,
 }
@@ -34,7 +34,7 @@ impl Draws {
 }
 
 /// How a round chooses what it assumes.
-#[derive(Clone, Copy, Debug)]
+#[derive(Clone, Copy)]
 pub enum Course {
     /// The first variable alone, true.
     OneAssumption,
@@ -54,7 +54,7 @@ pub struct Counts {
 }
 
 /// Runs the rounds. Each assumes and propagates up to a conflict or the end of its course, asks for the bound and takes all back.
-pub fn run<C: Coefficient>(engine: &mut EngineAt<C>, course: Course, rounds: u32) -> Counts {
+pub fn run(engine: &mut Engine, course: Course, rounds: u32) -> Counts {
     let mut counts = Counts {
         assumptions: 0,
         propagated: 0,
@@ -79,7 +79,7 @@ pub fn run<C: Coefficient>(engine: &mut EngineAt<C>, course: Course, rounds: u32
 }
 
 /// Propagates, and then assumes and propagates as the course goes.
-fn round<C: Coefficient>(engine: &mut EngineAt<C>, course: Course, draws: &mut Draws) -> Step {
+fn round(engine: &mut Engine, course: Course, draws: &mut Draws) -> Step {
     let vars = engine.vars();
     let (count, start, signs) = match course {
         Course::OneAssumption => (1, 0, u64::MAX),
@@ -100,7 +100,7 @@ fn round<C: Coefficient>(engine: &mut EngineAt<C>, course: Course, draws: &mut D
 }
 
 /// Assumes the variable with the sign and propagates, where it has no value.
-fn decide<C: Coefficient>(engine: &mut EngineAt<C>, var: u32, positive: bool) -> Step {
+fn decide(engine: &mut Engine, var: u32, positive: bool) -> Step {
     let Ok(lit) = Lit::new(var, positive) else {
         return Step::Fixed;
     };
@@ -111,7 +111,7 @@ fn decide<C: Coefficient>(engine: &mut EngineAt<C>, var: u32, positive: bool) ->
     propagate(engine)
 }
 
-fn propagate<C: Coefficient>(engine: &mut EngineAt<C>) -> Step {
+fn propagate(engine: &mut Engine) -> Step {
     if engine.conflict() {
         return Step::Conflict;
     }
@@ -119,7 +119,7 @@ fn propagate<C: Coefficient>(engine: &mut EngineAt<C>) -> Step {
 }
 
 /// How many variables have a value.
-fn assigned<C: Coefficient>(engine: &EngineAt<C>) -> u64 {
+fn assigned(engine: &Engine) -> u64 {
     let mut assigned = 0_u64;
     for var in 1..=engine.vars() {
         assigned = assigned.saturating_add(u64::from(engine.value(var).is_some()));

@@ -1,22 +1,20 @@
-//! Searches an instance as one piece and says on standard error what it found, how many decisions that took, how long, how
-//! often it improved what it held, and how often it asked for what other searches found. The first word is a file of clauses,
-//! where its name ends in `.cnf`, and else of linear constraints. A second one is a number k: the instance is then searched in
-//! the pieces of its split over k variables. With `anew` as the third one each piece has a search of its own, which knows
-//! nothing of the conflicts and multipliers of the pieces before.
+//! Searches the instance of a text and says on standard error what it found, how many decisions that took, how long, how often it
+//! improved what it held, and how often it asked for what other searches found. A search of each piece anew knows nothing of the
+//! conflicts and multipliers of the pieces before.
 
 ghost use Rattle.std.specs.Prelude.{◌≡◌, ◌+◌, ◌≤◌, false, length, IfSome};
 
+use crate::texts::instance_of;
 use pb_cubes::{Pieces, split};
 use pb_inst::{Assignment, Best, Instance, Number};
 use pb_normal::normalise;
-use pb_read::{read_cnf, read_opb};
-use pb_search::{Search, Share};
+use pb_search::{Search, SearchTables, Share};
 use std::alloc::Global;
+use std::io;
 use std::time::{CpuClock, Duration};
-use std::{env, fs, io};
 
 /// Counts the assignments that it is offered, and how often it is asked for one, and lends nothing.
-#[derive(Clone, Copy, Debug)]
+#[derive(Clone, Copy)]
 struct Counter {
     offered: u64,
     asked: u64,
@@ -41,16 +39,6 @@ impl Share for Counter {
     }
 }
 
-/// The instance of a file; none where it cannot be read.
-fn read(rt: &HostRuntime, name: &str) -> Option<Instance> {
-    let text = fs::read(rt, name).ok()?;
-    if name.ends_with(".cnf") {
-        read_cnf(rt.alloc(), &text).ok()
-    } else {
-        read_opb(rt.alloc(), &text).ok()
-    }
-}
-
 /// The remainder of no cubes where k is 0, and else the pieces of the split; none where there is no such split.
 fn pieces_of(alloc: Global, instance: &Instance, k: u32) -> Option<Pieces>
     ensures { IfSome result (λ pieces. pieces.vars ≡ instance.now.vars) }
@@ -63,7 +51,7 @@ fn pieces_of(alloc: Global, instance: &Instance, k: u32) -> Option<Pieces>
 }
 
 /// What a measured search found, and the processor time that it took.
-#[derive(Clone, Copy, Debug)]
+#[derive(Clone, Copy)]
 struct Measured {
     cost: Option<Number>,
     decisions: u64,
@@ -120,15 +108,34 @@ fn timed(
     Some(())
 }
 
-/// Searches the instance, each piece anew or all with one search; none where memory or the clock is refused, or there is no
-/// such split.
-fn measure(rt: &HostRuntime, instance: &Instance, k: u32, anew: bool) -> Option<Measured> {
-    let alloc = rt.alloc();
-    let Ok(normal) = normalise(alloc, instance) else {
-        return None;
-    };
-    let pieces = pieces_of(alloc, instance, k)?;
-    let mut best = Best::none(alloc, instance).ok()?;
+/// Searches the pieces from `first` up to `end` with a search of their own; none where memory or the clock is refused.
+fn search_range(
+    rt: &HostRuntime,
+    tables: &SearchTables<'_>,
+    first: u32,
+    end: u32,
+    best: &mut Best<'_>,
+    measured: &mut Measured,
+) -> Option<()>
+    requires pieces { end ≤ length tables.now.cubes + 1 }
+    requires same_instance { best.old.problem ≡ tables.now.problem }
+    ensures same_instance { best.new.problem ≡ best.old.problem }
+{
+    let mut search = Search::over(rt.alloc(), tables).ok()?;
+    timed(rt, &mut search, first, end, best, measured)
+}
+
+/// Searches so many pieces, each anew or all with one search.
+fn search_all(
+    rt: &HostRuntime,
+    tables: &SearchTables<'_>,
+    count: u32,
+    is_anew: bool,
+    best: &mut Best<'_>,
+) -> Option<Measured>
+    requires pieces { count ≤ length tables.now.cubes + 1 }
+    requires same_instance { best.old.problem ≡ tables.now.problem }
+{
     let mut measured = Measured {
         cost: None,
         decisions: 0,
@@ -136,52 +143,58 @@ fn measure(rt: &HostRuntime, instance: &Instance, k: u32, anew: bool) -> Option<
         asked: 0,
         searching: Duration::ZERO,
     };
-    let count = pieces.len();
-    let searches = if anew { count } else { 1 };
+    let searches = if is_anew { count } else { 1 };
     for i in 0..searches {
-        let (first, end) = if anew { (i, i + 1) } else { (0, count) };
-        let mut search = Search::new(alloc, instance, &normal, &pieces).ok()?;
-        timed(rt, &mut search, first, end, &mut best, &mut measured)?;
+        let (first, end) = if is_anew { (i, i + 1) } else { (0, count) };
+        search_range(rt, tables, first, end, best, &mut measured)?;
     }
     Some(measured)
 }
 
-/// Prints one line.
-fn print(rt: &HostRuntime, measured: &Measured) -> io::Result<()> {
-    let cost = measured.cost;
-    let decisions = measured.decisions;
-    let improvements = measured.improvements;
-    let asked = measured.asked;
-    let searching = measured.searching;
-    eprintln!(rt;
-        "cost {cost:?}, {decisions} decisions, searched in {searching:?}, {improvements} improvements, asked {asked} times"
-    )
-}
-
-/// Reads and searches the file.
-fn search_file(rt: &HostRuntime, name: &str, k: u32, anew: bool) -> io::Result<()> {
-    let Some(instance) = read(rt, name) else {
-        return eprintln!(rt; "{name} cannot be read");
+/// Searches the pieces of the instance.
+fn measure_pieces(
+    rt: &HostRuntime,
+    instance: &Instance,
+    pieces: &Pieces,
+    is_anew: bool,
+) -> Option<Measured>
+    requires { pieces.now.vars ≡ instance.now.vars }
+{
+    let Ok(normal) = normalise(rt.alloc(), instance) else {
+        return None;
     };
-    match measure(rt, &instance, k, anew) {
-        Some(measured) => print(rt, &measured),
-        None => eprintln!(rt; "{name} cannot be searched"),
-    }
+    let tables = SearchTables::new(rt.alloc(), instance, &normal, pieces).ok()?;
+    let mut best = Best::none(rt.alloc(), instance).ok()?;
+    search_all(rt, &tables, pieces.len(), is_anew, &mut best)
 }
 
-/// The number that the word spells, or 0.
-fn number(word: Option<String>) -> u32 {
-    match word {
-        Some(text) => text.as_str().parse::<u32>().unwrap_or(0),
-        None => 0,
-    }
+/// Searches the instance, each piece anew or all with one search; none where memory or the clock is refused, or there is no such
+/// split.
+fn measure(rt: &HostRuntime, instance: &Instance, k: u32, is_anew: bool) -> Option<Measured> {
+    let pieces = pieces_of(rt.alloc(), instance, k)?;
+    measure_pieces(rt, instance, &pieces, is_anew)
 }
 
-/// Searches the file that the next word names, as those after it say.
-pub fn run(rt: &HostRuntime, words: &mut env::Args) -> io::Result<()> {
-    let Some(name) = words.next() else {
-        return eprintln!(rt; "bench search FILE [K [anew]]");
-    };
-    let k = number(words.next());
-    search_file(rt, &name, k, words.next().is_some())
+/// The same of the text's instance; none where the text cannot be read either.
+fn measure_text(rt: &HostRuntime, text: &[u8], k: u32, is_anew: bool) -> Option<Measured> {
+    let instance = instance_of(rt.alloc(), text)?;
+    measure(rt, &instance, k, is_anew)
+}
+
+/// Searches the text's instance in the pieces of its split over k variables.
+pub fn run(rt: &HostRuntime, text: &[u8], k: u32, is_anew: bool) -> io::Result<()> {
+    match measure_text(rt, text, k, is_anew) {
+        Some(
+            Measured {
+                cost,
+                decisions,
+                improvements,
+                asked,
+                searching,
+            },
+        ) => eprintln!(rt;
+            "cost {cost:?}, {decisions} decisions, searched in {searching:?}, {improvements} improvements, asked {asked} times"
+        ),
+        None => eprintln!(rt; "the text cannot be searched"),
+    }
 }

@@ -1,0 +1,78 @@
+//! What is to be measured.
+
+ghost use Rattle.std.specs.Prelude.{◌≤◌, length};
+
+use crate::rounds::Course;
+
+/// What is to be measured.
+#[derive(Clone, Copy)]
+pub enum Command {
+    /// A reader: that of cubes, or that of the format in which the text begins.
+    Read { is_cubes: bool },
+    /// The search of the pieces of a split over k variables, of each anew or of all with one search. Without a split the instance is
+    /// one piece.
+    Search { k: u32, is_anew: bool },
+    /// So many rounds on an engine; without any the normal form alone is made.
+    Engine { course: Course, rounds: u32 },
+    /// A whole run.
+    Solve,
+}
+
+/// What the first line asks for, and the text after it; or to solve the whole text.
+pub fn command_of(text: &[u8]) -> (Command, &[u8]) {
+    let (line, rest) = text.split_at(line_len(text));
+    match str::from_utf8(line) {
+        Ok(line) => match spelled(line) {
+            Command::Solve => (Command::Solve, text),
+            command => (command, rest),
+        },
+        Err(_) => (Command::Solve, text),
+    }
+}
+
+/// How many bytes the first line has, with its end.
+fn line_len(text: &[u8]) -> usize
+    ensures { result ≤ length text.now }
+{
+    let mut len = 0;
+    while len < text.len() {
+        len += 1;
+        if text[len - 1] == b'\n' {
+            break;
+        }
+    }
+    len
+}
+
+/// What the words of the line ask for.
+fn spelled(line: &str) -> Command {
+    let mut words = line.split_ascii_whitespace();
+    match words.next().unwrap_or("") {
+        "read" => Command::Read {
+            is_cubes: words.next() == Some("cubes"),
+        },
+        "search" => Command::Search {
+            k: number_of(words.next()),
+            is_anew: words.next().is_some(),
+        },
+        "engine" => Command::Engine {
+            course: course_of(words.next()),
+            rounds: number_of(words.next()),
+        },
+        _ => Command::Solve,
+    }
+}
+
+/// The number that the word spells, or 0.
+fn number_of(word: Option<&str>) -> u32 {
+    word.unwrap_or("").parse::<u32>().unwrap_or(0)
+}
+
+/// The course of this name, or the shuffled one.
+fn course_of(word: Option<&str>) -> Course {
+    match word.unwrap_or("") {
+        "one" => Course::OneAssumption,
+        "ordered" => Course::InOrder,
+        _ => Course::Shuffled,
+    }
+}
