@@ -1,5 +1,5 @@
 #!/usr/bin/env python3
-"""Searches worked instances by `bench search`, and prints where that takes more decisions than it is to take.
+"""Searches worked instances by `bench`, and prints where that takes more decisions than it is to take.
 
     tests/runs/efforts.py [PROGRAM ..]
     tests/runs/efforts.py --measure [PROGRAM]
