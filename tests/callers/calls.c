@@ -113,6 +113,69 @@ static void questions(pbcube *solver)
     pbcube_free(solver);
 }
 
+/* min: 3 x1 + 2 x2 where x1 or x2 is 1. */
+static void tell_jobs(pbcube *solver)
+{
+    EXPECT(pbcube_term(solver, 3, 1) == PBCUBE_OK && pbcube_term(solver, 2, 2) == PBCUBE_OK);
+    EXPECT(pbcube_end_objective(solver) == PBCUBE_OK);
+    EXPECT(pbcube_term(solver, 1, 1) == PBCUBE_OK && pbcube_term(solver, 1, 2) == PBCUBE_OK);
+    EXPECT(pbcube_end(solver, PBCUBE_AT_LEAST, 1) == PBCUBE_OK);
+}
+
+/* Whether something of this cost is found. */
+static bool costs(pbcube *solver, int64_t cost)
+{
+    int64_t told = cost + 1;
+    return pbcube_cost(solver, &told) == PBCUBE_OK && told == cost;
+}
+
+static void statements_after_questions(pbcube *solver)
+{
+    const int32_t first[] = {1};
+    tell_jobs(solver);
+    EXPECT(pbcube_solve(solver, PBCUBE_NO_LIMIT) == PBCUBE_OPTIMUM && costs(solver, 2));
+    EXPECT(pbcube_term(solver, 1, 2) == PBCUBE_OK && pbcube_term(solver, 1, 3) == PBCUBE_OK);
+    EXPECT(pbcube_solve_under(solver, first, 1, PBCUBE_NO_LIMIT) == PBCUBE_UNENDED);
+    EXPECT(pbcube_end(solver, PBCUBE_AT_MOST, 0) == PBCUBE_OK);
+    EXPECT(costs(solver, 2) && pbcube_variables(solver) == 3); /* what was found stays */
+    EXPECT(pbcube_solve(solver, PBCUBE_NO_LIMIT) == PBCUBE_OPTIMUM && costs(solver, 3));
+    EXPECT(pbcube_value(solver, 0) == PBCUBE_BAD_VARIABLE && pbcube_value(solver, 1) == 1);
+    EXPECT(pbcube_value(solver, 2) == 0 && pbcube_value(solver, 3) == 0);
+    pbcube_free(solver);
+}
+
+static void assumptions(pbcube *solver)
+{
+    const int32_t first[] = {1}, not_first[] = {-1}, not_second[] = {-2}, unnamed[] = {9}, none[] = {-2, -1, 3};
+    int32_t core[3] = {7, 7, 7};
+    uint8_t statuses[2] = {9, 9};
+    size_t count = 9;
+    tell_jobs(solver);
+    EXPECT(pbcube_solve_under(solver, not_second, 1, PBCUBE_NO_LIMIT) == PBCUBE_OPTIMUM && costs(solver, 3));
+    EXPECT(pbcube_solve_under(solver, first, 1, PBCUBE_NO_LIMIT) == PBCUBE_OPTIMUM && costs(solver, 3));
+    EXPECT(pbcube_solve_under(solver, unnamed, 1, PBCUBE_NO_LIMIT) == PBCUBE_OPTIMUM && costs(solver, 2));
+    EXPECT(pbcube_explain(solver, none, 3, PBCUBE_NO_LIMIT, core, &count) == PBCUBE_UNSATISFIABLE && count == 2);
+    EXPECT(pbcube_fixed(solver, not_first, 1, PBCUBE_FEASIBLE, PBCUBE_NO_LIMIT, statuses, 2) == PBCUBE_SATISFIABLE);
+    EXPECT(statuses[0] == PBCUBE_FALSE && statuses[1] == PBCUBE_TRUE);
+    EXPECT(pbcube_fixed(solver, first, 1, PBCUBE_FEASIBLE, PBCUBE_NO_LIMIT, statuses, 2) == PBCUBE_SATISFIABLE);
+    EXPECT(statuses[0] == PBCUBE_TRUE && statuses[1] == PBCUBE_FREE && costs(solver, 2));
+    pbcube_free(solver);
+}
+
+/* Only the search that is cut ends with what was suggested. */
+static void suggestions(pbcube *solver)
+{
+    const int32_t not_first[] = {-1};
+    const uint8_t values[] = {1, 1, 0};
+    tell_jobs(solver);
+    EXPECT(pbcube_suggest(solver, values, 3) == PBCUBE_BAD_LENGTH && pbcube_suggest(solver, values, 2) == PBCUBE_OK);
+    EXPECT(pbcube_solve(solver, 0) == PBCUBE_FOUND && costs(solver, 5));
+    EXPECT(pbcube_solve_under(solver, not_first, 1, PBCUBE_NO_LIMIT) == PBCUBE_OPTIMUM && costs(solver, 2));
+    EXPECT(pbcube_suggest(solver, values, 2) == PBCUBE_OK);
+    EXPECT(pbcube_solve(solver, PBCUBE_NO_LIMIT) == PBCUBE_OPTIMUM && costs(solver, 2));
+    pbcube_free(solver);
+}
+
 /* After each refusal everything is as it was. */
 static void misuse(pbcube *solver)
 {
@@ -168,19 +231,27 @@ static void great_costs(pbcube *solver)
     pbcube_free(solver);
 }
 
+/* Whether this is the report of the last text. */
+static bool reports(pbcube *solver, const char *expected)
+{
+    char report[64] = "";
+    return pbcube_report(solver, report, sizeof report) == strlen(expected) && memcmp(report, expected, strlen(expected)) == 0;
+}
+
 static void texts(pbcube *solver)
 {
     static const char tie[] = "min: 2 x1 3 x2 1 x3 ;\n1 x1 1 x2 >= 1 ;\n1 x2 1 x3 >= 1 ;\n";
-    static const char said[] = "o 3\ns OPTIMUM FOUND\nv -x1 x2 -x3\n";
-    static const char refused[] = "c refused: NonLinear at line 2\ns UNSUPPORTED\n";
-    char report[64] = "";
-    EXPECT(pbcube_report(solver, report, sizeof report) == 0);
+    static const char other[] = "min: 1 x1 ;\n1 y1 >= 1 ;\n";
+    EXPECT(pbcube_report(solver, NULL, 0) == 0);
     EXPECT(pbcube_run(solver, PBCUBE_OPB, tie, strlen(tie), PBCUBE_NO_LIMIT) == PBCUBE_OPTIMUM);
-    EXPECT(pbcube_report(solver, report, sizeof report) == strlen(said) && memcmp(report, said, strlen(said)) == 0);
+    EXPECT(reports(solver, "o 3\ns OPTIMUM FOUND\nv -x1 x2 -x3\n"));
     EXPECT(pbcube_run(solver, 3, tie, strlen(tie), 0) == PBCUBE_BAD_ARGUMENT && pbcube_run(solver, 0, NULL, 1, 0) == PBCUBE_NULL);
     EXPECT(pbcube_run(solver, PBCUBE_OPB, "* a comment\n1 x1 x2 >= 1 ;", 26, 0) == PBCUBE_UNSUPPORTED);
-    EXPECT(pbcube_report(solver, report, sizeof report) == strlen(refused) && memcmp(report, refused, strlen(refused)) == 0);
+    EXPECT(reports(solver, "c refused: NonLinear at line 2\ns UNSUPPORTED\n"));
     EXPECT(pbcube_run(solver, PBCUBE_CNF, "p cnf 2 1\n1 2 0\n", 16, PBCUBE_NO_LIMIT) == PBCUBE_SATISFIABLE);
+    EXPECT(reports(solver, "s SATISFIABLE\nv -1 2 0\n"));
+    EXPECT(pbcube_run(solver, PBCUBE_OPB, other, strlen(other), PBCUBE_NO_LIMIT) == PBCUBE_UNSUPPORTED);
+    EXPECT(reports(solver, "c refused: Syntax at line 2\ns UNSUPPORTED\n"));
     EXPECT(pbcube_run(solver, PBCUBE_OPB, NULL, 0, PBCUBE_NO_LIMIT) == PBCUBE_SATISFIABLE);
     pbcube_free(solver);
 }
@@ -208,6 +279,9 @@ int main(int count, char **words)
     in_order(solver);
     pbcube_free(solver);
     questions(pbcube_new());
+    statements_after_questions(pbcube_new());
+    assumptions(pbcube_new());
+    suggestions(pbcube_new());
     misuse(pbcube_new());
     great_costs(pbcube_new());
     texts(pbcube_new());

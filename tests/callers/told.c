@@ -68,12 +68,14 @@ static void report(pbcube *solver, int answer, int has_objective)
 {
     int64_t cost;
     char text[48] = "";
-    if (pbcube_cost(solver, &cost) == PBCUBE_OK) {
-        size_t length = pbcube_cost_text(solver, text, sizeof text);
-        if (has_objective)
-            printf("o %.*s\n", (int)length, text);
+    size_t length = pbcube_cost_text(solver, text, sizeof text);
+    if (length > 0 && has_objective)
+        printf("o %.*s\n", (int)length, text);
+    int code = pbcube_cost(solver, &cost);
+    if (code == PBCUBE_OK)
         expect(strtoll(text, NULL, 10) == cost);
-    }
+    else
+        expect(length == 0 ? code == PBCUBE_NO_ANSWER : length >= 19 && code == PBCUBE_OUT_OF_RANGE);
     puts(answer == PBCUBE_OPTIMUM         ? "s OPTIMUM FOUND"
          : answer == PBCUBE_UNSATISFIABLE ? "s UNSATISFIABLE"
          : answer == PBCUBE_UNKNOWN       ? "s UNKNOWN"
@@ -130,6 +132,25 @@ static void fixed(pbcube *solver)
     printf("\n= %d\n", answer);
 }
 
+/* Writes what was found last, its cost and its values, as a text. */
+static void write_found(pbcube *solver, char *text)
+{
+    text += pbcube_cost_text(solver, text, MOST);
+    for (uint32_t variable = 1; variable <= pbcube_variables(solver); variable++)
+        text += sprintf(text, " %d", pbcube_value(solver, variable));
+    *text = '\0';
+}
+
+/* Asks, and expects that what was found last stays. */
+static void ask_beside(pbcube *solver, void (*question)(pbcube *))
+{
+    static char before[MOST], after[MOST];
+    write_found(solver, before);
+    question(solver);
+    write_found(solver, after);
+    expect(strcmp(before, after) == 0);
+}
+
 static void suggest(pbcube *solver)
 {
     size_t count = read_literals();
@@ -144,9 +165,9 @@ static int ask(pbcube *solver, const char *word, int has_objective)
     if (strcmp(word, "under") == 0)
         under(solver, has_objective);
     else if (strcmp(word, "explain") == 0)
-        explain(solver);
+        ask_beside(solver, explain);
     else if (strcmp(word, "fixed") == 0)
-        fixed(solver);
+        ask_beside(solver, fixed);
     else if (strcmp(word, "suggest") == 0)
         suggest(solver);
     else

@@ -3,19 +3,19 @@
 
     tests/runs/questions.py
 
-It takes the library that is built. Each instance is small; some have no objective, some no solution. Between the questions of one
-instance more is told of it, and values are suggested. A question is for the least assignment under literals, why there is none, or
-which variables are fixed, some with a budget of decisions; the literals may repeat, contradict each other and be of a variable that
-nothing names. Worked questions are cut, and those after them are not, since what is known takes no decision. A row of questions on a
-larger instance must take no memory but for its first ones. Where there is no cargo Rust is left out, and all where there is no C
-compiler.
+It takes the library that is built. Each instance is small; some have no objective, some no solution, and the numbers of every third
+one do not fit 64 bits. Between the questions of one instance more is told of it, which may name one more variable or be another
+objective, and values are suggested. A question is for the least assignment under literals, why there is none, or which variables are
+fixed, some with a budget of decisions; the literals may repeat, contradict each other and be of a variable that nothing names. Worked
+questions are cut, and those after them are not, since what is known takes no decision. A row of questions on a larger instance must
+take no memory but for its first ones. Where there is no cargo Rust is left out, and all where there is no C compiler.
 """
 import itertools
 import os
 import random
 import sys
 import tempfile
-from dataclasses import dataclass, field
+from dataclasses import dataclass
 from pathlib import Path
 
 sys.dont_write_bytecode = True
@@ -28,7 +28,11 @@ from lib.reports import values_line
 pbcube = callers.package()
 INSTANCES = 340
 QUESTIONS = 20
-VARIABLES, OTHER_VARIABLES, EVERY = (2, 7), (1, 10), 6  # the others are of one in so many instances
+FEASIBLE = (2000, 4000)  # between which is the number of questions about something feasible
+STATEMENTS, MOST_VARIABLES = 6, 8  # at most at first, and ever
+MORE_VARIABLES, EVERY = 10, 6  # so many at most in one of so many instances
+WIDE = 1 << 63  # the numbers of every third instance are multiplied by it
+GREATEST = 1 << 62  # of the numbers that are told
 ROW, ROW_ITEMS, ROW_QUESTIONS = 1000, 60, 10_000
 # Costs and rows: x1 and x3 cost 3, and so does x2, which comes first. Without a decision nothing is known, and once it was solved all is.
 TIED = (((2, 1), (3, 2), (1, 3)), ((((1, 1), (1, 2)), ">=", 1), (((1, 2), (1, 3)), ">=", 1)))
@@ -38,50 +42,18 @@ FIRST_QUESTIONS = 1  # which may take memory: for the search, and for two assign
 STATUSES = {False: "0", True: "1", None: "2"}
 
 
-@dataclass
-class Known:
-    """What an instance was told so far, and the feasible assignments with their costs, the least first."""
-
-    variables: int
-    objective: list
-    constraints: list = field(default_factory=list)
-
-    def add(self, terms, relation, bound):
-        self.constraints.append((terms, relation, bound))
-
-    def listed(self):
-        values = itertools.product((False, True), repeat=self.variables)
-        feasible = [it for it in values if all(HOLDS[relation](value(terms, it), bound) for terms, relation, bound in self.constraints)]
-        return sorted((value(self.objective or (), it), it) for it in feasible)
-
-
-def is_true(values, literal):
-    """A literal of a variable that nothing names is left out."""
-    return abs(literal) > len(values) or values[abs(literal) - 1] == (literal > 0)
-
-
-def drawn_terms(variables, count):
-    return [(random.randint(-4, 6), random.choice((1, -1)) * random.randint(1, variables)) for _ in range(count)]
-
-
-def drawn_constraint(variables):
-    terms = drawn_terms(variables, random.randint(1, variables))
-    low, high = (sum(f(0, coefficient) for coefficient, _ in terms) for f in (min, max))
-    relation = random.choice((">=", ">=", "<=", "="))
-    return terms, relation, random.randint(low, (low + high) // 2 if relation == ">=" else high)
-
-
 @dataclass(frozen=True)
 class Step:
-    """A statement ('objective', 'sum'), values to be suggested, a question, or 'new' with the number of variables, and of a question which
-    assignments it is about."""
+    """A statement ('objective', 'sum'), values to be suggested, a question, or 'new'. Of a question also which assignments it is about,
+    and what was told before it: how many variables, whether an objective, and the feasible assignments with their costs."""
 
     kind: str
     given: tuple = ()
     among: int = 0
     decisions: int = NO_LIMIT
-    listed: tuple = ()
+    variables: int = 0
     has_objective: bool = False
+    listed: tuple = ()
     owed: tuple | None = None  # what has to be said and answered, where that is known
 
     def written(self):
@@ -101,50 +73,97 @@ class Step:
         }[self.kind]
 
     def under(self, literals):
-        """The feasible assignments that make the literals true."""
-        return [(cost, values) for cost, values in self.listed if all(is_true(values, literal) for literal in literals)]
+        """The feasible assignments that make the literals true. One of a variable that no statement names is left out."""
+        named = [literal for literal in literals if abs(literal) <= self.variables]
+        return [(cost, values) for cost, values in self.listed if all(is_true(values, literal) for literal in named)]
 
 
-def drawn_question(variables, listed, has_objective):
-    kind = random.choice(("under", "explain", "fixed"))
-    count = random.randint(0, random.choice((4, variables)))
-    most = variables + (random.random() < 0.25)
-    given = tuple(random.choice((1, -1)) * random.randint(1, most) for _ in range(count))
-    decisions = random.randint(0, 3) if random.random() < 0.15 else NO_LIMIT
-    return Step(kind, given, random.randint(0, 1), decisions, listed, has_objective)
+def is_true(values, literal):
+    return values[abs(literal) - 1] == (literal > 0)
+
+
+class Known:
+    """What an instance was told so far. There are as many variables as the greatest one that a statement names."""
+
+    def __init__(self, scale):
+        self.scale = scale
+        self.variables = 0
+        self.objective = None
+        self.constraints = []
+        self._listed = None
+
+    def tell(self, variables):
+        """Tells one more statement over so many variables."""
+        self._listed = None
+        count = random.randint(0, variables)
+        terms = [(self.scale * random.randint(-4, 6), random.choice((1, -1)) * random.randint(1, variables)) for _ in range(count)]
+        if random.random() < 0.25:
+            self.objective = terms
+            return self._told("objective", tuple(in_parts(terms)))
+        relation = random.choice((">=", ">=", ">=", "<=", "="))
+        bound = value(terms, random.choices((False, True), k=variables))
+        self.constraints.append((terms, relation, bound))
+        rest = bound - max(min(bound, GREATEST), -GREATEST)
+        if rest:  # the rest of the bound stands on the other side, as a variable and its negation
+            terms = [*terms, (-rest, terms[0][1]), (-rest, -terms[0][1])]
+        return self._told("sum", (tuple(in_parts(terms)), relation, bound - rest))
+
+    def _told(self, kind, given):
+        terms = given if kind == "objective" else given[0]
+        self.variables = max([self.variables, *(abs(literal) for _, literal in terms)])
+        return Step(kind, given)
+
+    def listed(self):
+        """The feasible assignments with their costs, the least first."""
+        if self._listed is None:
+            every = itertools.product((False, True), repeat=self.variables)
+            feasible = [it for it in every if all(HOLDS[relation](value(terms, it), bound) for terms, relation, bound in self.constraints)]
+            self._listed = tuple(sorted((value(self.objective or (), it), it) for it in feasible))
+        return self._listed
+
+    def question(self):
+        """One under literals of the variables up to one that no statement names."""
+        kind = random.choice(("under", "explain", "fixed"))
+        count = random.randint(0, random.choice((4, MOST_VARIABLES)))
+        given = tuple(random.choice((1, -1)) * random.randint(1, self.variables + 1) for _ in range(count))
+        decisions = random.randint(0, 3) if random.random() < 0.15 else NO_LIMIT
+        return Step(kind, given, random.randint(0, 1), decisions, self.variables, self.objective is not None, self.listed())
+
+
+def in_parts(terms):
+    """The terms with each coefficient in parts that can be told."""
+    for coefficient, literal in terms:
+        sign, left = (1 if coefficient > 0 else -1), abs(coefficient)
+        while left > GREATEST:
+            yield sign * GREATEST, literal
+            left -= GREATEST
+        yield sign * left, literal
 
 
 def steps_of(number):
     """What is told and asked of one instance."""
-    variables = random.randint(*(OTHER_VARIABLES if number % EVERY == 0 else VARIABLES))
-    known = Known(variables, None if number % 3 == 0 else drawn_terms(variables, variables))
-    yield Step("new", (variables,))
-    if known.objective is not None:
-        yield Step("objective", tuple(known.objective))
-    whole = ([(1, variable) for variable in range(1, variables + 1)], ">=", 0)  # which names each variable
-    for constraint in (whole, *(drawn_constraint(variables) for _ in range(random.randint(1, 4)))):
-        known.add(*constraint)
-        yield Step("sum", constraint)
-    listed = tuple(known.listed())
+    known = Known(WIDE if number % 3 == 0 else 1)
+    yield Step("new")
+    variables = random.randint(1, MORE_VARIABLES if number % EVERY == 0 else MOST_VARIABLES)
+    for _ in range(random.randint(1, STATEMENTS)):
+        yield known.tell(variables)
     for _ in range(QUESTIONS):
         if random.random() < 0.1:
-            constraint = drawn_constraint(variables)
-            known.add(*constraint)
-            listed = tuple(known.listed())
-            yield Step("sum", constraint)
+            yield known.tell(min(known.variables + 1, max(variables, MOST_VARIABLES)))
         if random.random() < 0.2:
-            yield Step("suggest", tuple(random.random() < 0.5 for _ in range(variables)))
-        yield drawn_question(variables, listed, known.objective is not None)
+            yield Step("suggest", tuple(random.choices((False, True), k=known.variables)))
+        yield known.question()
 
 
 def of_tied(questions):
     """What is told of the tied instance, and these questions on it: kind, literals, which assignments they are about, decisions, and the
     answer that is owed, where one is given."""
-    costs, rows = TIED
-    listed = tuple(Known(len(costs), costs, rows).listed())
-    yield from (Step("new", (len(costs),)), Step("objective", costs), *(Step("sum", row) for row in rows))
+    known = Known(1)
+    known.objective, known.constraints = TIED
+    known.variables = len(known.objective)
+    yield from (Step("new"), Step("objective", known.objective), *(Step("sum", row) for row in known.constraints))
     for kind, given, among, decisions, *owed in questions:
-        yield Step(kind, given, among, decisions, listed, True, *owed)
+        yield Step(kind, given, among, decisions, known.variables, True, known.listed(), *owed)
 
 
 def worked_steps():
@@ -186,13 +205,12 @@ def left_out(core, at):
 
 def is_fixed(step, said, answer):
     """Whether this is the answer to which variables are fixed."""
-    found = step.under(step.given)
-    if answer == 20 or not found:
-        return not found and (answer == 20 or (answer == 1 and step.decisions != NO_LIMIT))
+    found, told = step.under(step.given), said.removeprefix("fixed").strip()
+    if answer == 20:
+        return not found and not told
     about = [values for cost, values in found if step.among == 0 or cost == found[0][0]]
-    right = ["2" if len({*column}) == 2 else str(int(column[0])) for column in zip(*about)]
-    told = said.split()[1]
-    is_right = len(told) == len(right) and all(one in (other, "3") for one, other in zip(told, right))
+    right = ["2" if len({*column}) == 2 else str(int(column[0])) for column in zip(*about)] or step.variables * "3"
+    is_right = len(told) == step.variables and all(one in (other, "3") for one, other in zip(told, right))
     return is_right and answer == (1 if "3" in told else 10) and (step.decisions != NO_LIMIT or "3" not in told)
 
 
@@ -200,18 +218,19 @@ JUDGES = {"under": is_least, "explain": is_why, "fixed": is_fixed}
 
 
 class Asked:
-    """A model of the package for Python that does what each step says. It is asked of the variables that are named, since to it all
-    variables that it is asked of are."""
+    """A model of the package for Python that does what each step says."""
 
-    def __init__(self, variables):
+    def __init__(self):
         self.model = pbcube.Model()
-        self.variables = self.model.variables(variables)
+        self.variables = []
         self.start = None
 
     def literal(self, number):
         return self.variables[number - 1] if number > 0 else ~self.variables[-number - 1]
 
     def total(self, terms):
+        for _ in range(len(self.variables), max((abs(number) for _, number in terms), default=0)):
+            self.variables.append(self.model.variable())
         return pbcube.total(coefficient * self.literal(number) for coefficient, number in terms)
 
     def tell(self, step):
@@ -227,7 +246,7 @@ class Asked:
     def ask(self, step):
         """The same as a driver answers."""
         nodes = None if step.decisions == NO_LIMIT else step.decisions
-        assuming = [self.literal(number) for number in step.given if abs(number) <= len(self.variables)]
+        assuming = [self.literal(number) for number in step.given if abs(number) <= len(self.variables)]  # it has no others
         if step.kind == "under":
             answer = self.model.solve(nodes, assuming=assuming, start=self.start)
             return report_of(answer.cost, answer.values, answer.status.value, step.has_objective), answer.status.value
@@ -245,7 +264,7 @@ def by_python(every):
     asked, reports = None, []
     for step in every:
         if step.kind == "new":
-            asked = Asked(*step.given)
+            asked = Asked()
         elif step.kind in JUDGES:
             reports.append(asked.ask(step))
         else:
@@ -260,6 +279,12 @@ def wrong_answers(way, every, reports):
     for step, (said, answer) in zip(questions, reports):
         if not JUDGES[step.kind](step, said, answer) or step.owed not in (None, (said, answer)):
             yield f"{way}: {said!r} with {answer} to {step.written()!r} on {step.listed[:8]}"
+
+
+def wrong_draws(every):
+    """What is wrong with the questions themselves, as a list of one text or none."""
+    feasible = sum(bool(step.under(step.given)) for step in every if step.kind in JUDGES)
+    return [] if FEASIBLE[0] < feasible < FEASIBLE[1] else [f"draws: {feasible} questions are about something feasible"]
 
 
 def row_of_questions(count):
@@ -295,6 +320,7 @@ def main():
         ways = {way: by_driver(command, every) for way, command in commands.items()}
         wrong = memory_of_a_row(commands["C"])
     ways["Python"] = by_python(every)
+    wrong += wrong_draws(every)
     wrong += [text for way, reports in ways.items() for text in wrong_answers(way, every, reports)]
     print("\n".join(wrong[:20]), end="\n" if wrong else "")
     print(f"questions: {INSTANCES} instances with {QUESTIONS} questions each, from {', '.join(ways)}: {len(wrong)} wrong answers")

@@ -1,77 +1,43 @@
-//! Worked sequences of calls, what a row gives back, and claims of two threads at once.
+//! Worked steps of two seats, and claims of two threads at once. Rows are read back where shares lend them.
 
 ghost use Rattle.std.specs.Prelude.{◌≡◌, ◌+◌, ◌<◌, ◌≤◌, [], length, vec_len, IfOk};
 
 use pb_board::{Board, Seat, Totals};
-use pb_inst::{Assignment, Workers};
+use pb_inst::Workers;
 use std::alloc::{AllocError, Global};
-use std::test::*;
+use std::process::Abort;
 use std::thread;
 use std::thread::Threads;
 
-// One caller with two seats, worked by hand: the numbers come in turn, and the lesser offer is the least word.
-#[test]
-fn two_seats_claim_and_offer(rt: HostRuntime) -> Result<(), Fail> {
-    let (board, whole) = Board::new(rt.alloc(), Workers::new(2)?, 3)?;
+/// What two seats claim, and the least word as they see it: before the first offer, after that by the same seat, after a lesser
+/// one by either, and after a greater one.
+fn claims_and_least_words(rt: &impl Abort, alloc: Global) -> ([u64; 3], [u64; 6]) {
+    let workers = Workers::new(2).expect(rt, "a number of workers");
+    let (board, mut whole) = Board::new(alloc, workers, 3).expect(rt, "a board");
+    let of_all = board.least(&mut whole);
     let (mut a, mut b) = board.split(whole, 1);
     let claims = [
         board.claim(&mut a),
         board.claim(&mut b),
         board.claim(&mut a),
     ];
-    board.offer(&mut a, 9);
-    board.offer(&mut b, 7);
-    let least = board.least(&mut a);
-    let whole = board.join(a, b);
-    let totals = board.close(whole);
-    assert!(rt; claims == [0, 1, 2] && least == 7);
-    assert!(rt; totals.claims == 3 && totals.least == 7);
-    Ok(())
-}
-
-// Each seat sees the other's lesser offer; a greater one later changes nothing.
-#[test]
-fn each_seat_sees_the_least_offer(rt: HostRuntime) -> Result<(), Fail> {
-    let (board, whole) = Board::new(rt.alloc(), Workers::new(2)?, 3)?;
-    let (mut a, mut b) = board.split(whole, 1);
     let none = board.least(&mut a);
     board.offer(&mut a, 9);
     let first = board.least(&mut a);
     board.offer(&mut b, 7);
-    let second = board.least(&mut b);
+    let lesser = board.least(&mut b);
+    let seen = board.least(&mut a);
     board.offer(&mut a, 8);
-    let third = board.least(&mut a);
-    let whole = board.join(a, b);
-    let totals = board.close(whole);
-    assert!(rt; [none, first, second, third] == [u64::MAX, 9, 7, 7]);
-    assert!(rt; totals.claims == 0 && totals.least == 7);
-    Ok(())
+    let last = board.least(&mut a);
+    (claims, [of_all, none, first, lesser, seen, last])
 }
 
+// Worked by hand: the numbers come in turn, and the lesser offer is the least word.
 #[test]
-fn a_new_board_has_no_offer(rt: HostRuntime) -> Result<(), Fail> {
-    let (board, mut whole) = Board::new(rt.alloc(), Workers::new(2)?, 3)?;
-    let least = board.least(&mut whole);
-    let totals = board.close(whole);
-    assert!(rt; least == u64::MAX && totals.claims == 0 && totals.least == u64::MAX);
-    Ok(())
-}
-
-// Without another thread a row reads back as it was written, and the other rows stay as they were.
-#[test]
-fn row_reads_back(rt: HostRuntime) -> Result<(), Fail> {
-    let mut bits = Assignment::new(rt.alloc(), 70)?;
-    bits.set_word(0, 5);
-    bits.set_word(1, 33);
-    let mut back = Assignment::new(rt.alloc(), 70)?;
-    let mut other = Assignment::new(rt.alloc(), 70)?;
-    let (board, mut seat) = Board::new(rt.alloc(), Workers::new(2)?, 70)?;
-    board.write_row(&mut seat, 1, &bits);
-    board.read_row(&mut seat, 1, &mut back);
-    board.read_row(&mut seat, 0, &mut other);
-    assert!(rt; [back.word(0), back.word(1)] == [5, 33]);
-    assert!(rt; [other.word(0), other.word(1)] == [0, 0]);
-    Ok(())
+fn two_seats_claim_and_offer(rt: HostRuntime) {
+    let (claims, least_words) = claims_and_least_words(&rt, rt.alloc());
+    assert!(rt; claims == [0, 1, 2]);
+    assert!(rt; least_words == [u64::MAX, u64::MAX, 9, 7, 7, 7]);
 }
 
 // A seat that claims `count` numbers, and the numbers.
@@ -94,14 +60,11 @@ fn claim_many(
 }
 
 // Two threads claim `count` numbers each.
-fn claim_apart<R: Threads + Sync>(
-    rt: &R,
-    alloc: Global,
-    count: usize,
-) -> Result<(Totals, Vec<u64>), Fail>
+fn claim_apart<R: Abort + Threads + Sync>(rt: &R, alloc: Global, count: usize) -> (Totals, Vec<u64>)
     requires { count < 65536 }
 {
-    let (board, whole) = Board::new(alloc, Workers::new(2)?, 0)?;
+    let workers = Workers::new(2).expect(rt, "a number of workers");
+    let (board, whole) = Board::new(alloc, workers, 0).expect(rt, "a board");
     let (a, b) = board.split(whole, 1);
     let shared = &board;
     let (a, b) = thread::join(
@@ -115,18 +78,17 @@ fn claim_apart<R: Threads + Sync>(
             ensures { IfOk result (λ r. (r.0.board ≡ shared.entry.now.id) × (r.0.parts ≡ b.parts) × (length r.0.claimed ≡ count)) }
         { claim_many(shared, alloc, b, count) },
     );
-    let (a, mut numbers) = a?;
-    let (b, more) = b?;
+    let (a, mut numbers) = a.expect(rt, "memory");
+    let (b, more) = b.expect(rt, "memory");
     let whole = shared.join(a, b);
-    numbers.extend_from_slice(&more)?;
-    Ok((board.close(whole), numbers))
+    numbers.extend_from_slice(&more).expect(rt, "memory");
+    (board.close(whole), numbers)
 }
 
 #[test]
-fn claims_each_once(rt: HostRuntime) -> Result<(), Fail> {
-    let (totals, mut numbers) = claim_apart(&rt, rt.alloc(), 1000)?;
-    numbers.sort()?;
+fn claims_each_once(rt: HostRuntime) {
+    let (totals, mut numbers) = claim_apart(&rt, rt.alloc(), 1000);
+    numbers.sort().expect(&rt, "memory");
     assert!(rt; totals.claims == 2000 && totals.least == u64::MAX);
     assert!(rt; numbers.iter().copied().eq(0..2000));
-    Ok(())
 }

@@ -1,103 +1,157 @@
 //! What a worker's share lends of what another one offered.
 
-ghost use Rattle.std.specs.Prelude.{◌≡◌, ◌<◌};
-
 use pb_board::Board;
-use pb_inst::{Assignment, Memory, Number, Workers};
+use pb_inst::{Assignment, Number, Workers};
 use pb_search::Share;
 use pb_workers::BoardShare;
 use std::alloc::Global;
-use std::test::Fail;
+use std::process::Abort;
 
-/// Whether something was borrowed, and the bits after it, which were 0 before.
-type Borrowed = (bool, u64);
+/// How many variables there are.
+const VARS: u32 = 70;
 
-/// What a worker borrows below two costs in turn, after another one offered bits at their costs.
-fn borrowed(
-    alloc: Global,
-    workers: Workers,
+/// The words of an assignment.
+type Words = [u64; 2];
+
+/// Whether something was borrowed, and the assignment after it, which was 0 before.
+type Borrowed = (bool, Words);
+
+/// What one of so many workers offers, in turn, and what another one may then borrow below two costs.
+#[derive(Clone, Copy)]
+struct Exchange {
+    workers: u32,
     borrower: u32,
     offerer: u32,
-    offers: &[(Number, u64)],
+    offers: &'static [(Number, Words)],
     below: [Number; 2],
-) -> Result<[Borrowed; 2], Memory>
-    requires { (1 < workers) × (borrower < workers) × (offerer < workers) }
-{
-    let (board, seat) = Board::new(alloc, workers, 2)?;
+    lent: &'static [[Borrowed; 2]],
+}
+
+const NOTHING: Borrowed = (false, [0, 0]);
+
+const UNWRITTEN: Borrowed = (true, [0, 0]);
+
+const WRITTEN: Borrowed = (true, [5, 33]);
+
+const TWO: Exchange = Exchange {
+    workers: 2,
+    borrower: 0,
+    offerer: 1,
+    offers: &[],
+    below: [Number::MAX, 0],
+    lent: &[[NOTHING, NOTHING]],
+};
+
+/// The rows of the others are read in turn: that of the one who offered is as it was written, and the third's as it was before.
+const THREE: Exchange = Exchange {
+    workers: 3,
+    borrower: 0,
+    offerer: 1,
+    offers: &[(-5, [5, 33])],
+    below: [0, 0],
+    lent: &[[WRITTEN, UNWRITTEN], [UNWRITTEN, WRITTEN]],
+};
+
+const EXCHANGES: &[Exchange] = &[
+    TWO,
+    // lent where an offer is below what was asked for, and only there
+    Exchange {
+        offers: &[(-5, [2, 0])],
+        below: [-5, -4],
+        lent: &[[NOTHING, (true, [2, 0])]],
+        ..TWO
+    },
+    // a second offer, which is less, is lent to a worker that already holds the first one
+    Exchange {
+        offers: &[(-5, [2, 0]), (-7, [3, 0])],
+        below: [-5, -7],
+        lent: &[[(true, [3, 0]), NOTHING]],
+        ..TWO
+    },
+    Exchange {
+        offers: &[(-5, [5, 33])],
+        below: [0, 0],
+        lent: &[[WRITTEN, WRITTEN]],
+        ..TWO
+    },
+    THREE,
+    Exchange {
+        offerer: 2,
+        ..THREE
+    },
+    Exchange {
+        borrower: 1,
+        offerer: 0,
+        ..THREE
+    },
+    Exchange {
+        borrower: 1,
+        offerer: 2,
+        ..THREE
+    },
+    Exchange {
+        borrower: 2,
+        offerer: 0,
+        ..THREE
+    },
+    Exchange {
+        borrower: 2,
+        ..THREE
+    },
+];
+
+/// What is lent in the exchange.
+fn lent(rt: &impl Abort, alloc: Global, exchange: &Exchange) -> [Borrowed; 2] {
+    let (count, borrower, offerer) = (exchange.workers, exchange.borrower, exchange.offerer);
+    assert!(rt; 1 < count && borrower < count && offerer < count);
+    let workers = Workers::new(count).expect(rt, "a number of workers");
+    let (board, seat) = Board::new(alloc, workers, VARS).expect(rt, "a board");
     let (low, high) = board.split(seat, 1);
     let mut share = BoardShare::new(&board, low, borrower);
     let mut other = BoardShare::new(&board, high, offerer);
-    exchange(alloc, &mut share, &mut other, offers, below)
+    offer_each(rt, alloc, &mut other, exchange.offers);
+    [
+        borrow(rt, alloc, &mut share, exchange.below[0]),
+        borrow(rt, alloc, &mut share, exchange.below[1]),
+    ]
 }
 
-/// The offers of the one and the borrows of the other. No share is let go here, so that the ways out cost little to prove.
-fn exchange<S: Share>(
-    alloc: Global,
-    share: &mut S,
-    other: &mut S,
-    offers: &[(Number, u64)],
-    below: [Number; 2],
-) -> Result<[Borrowed; 2], Memory> {
-    for (cost, word) in offers {
-        let mut bits = Assignment::new(alloc, 2)?;
-        bits.set_word(0, *word);
-        other.offer(*cost, &bits);
+fn offer_each(rt: &impl Abort, alloc: Global, share: &mut impl Share, offers: &[(Number, Words)]) {
+    for (cost, words) in offers {
+        let mut assignment = Assignment::new(alloc, VARS).expect(rt, "memory");
+        assignment.set_word(0, words[0]);
+        assignment.set_word(1, words[1]);
+        share.offer(*cost, &assignment);
     }
-    Ok([
-        borrow(alloc, share, below[0])?,
-        borrow(alloc, share, below[1])?,
-    ])
 }
 
-fn borrow<S: Share>(alloc: Global, share: &mut S, below: Number) -> Result<Borrowed, Memory> {
-    let mut bits = Assignment::new(alloc, 2)?;
-    let is_lent = share.borrow(below, &mut bits);
-    Ok((is_lent, bits.word(0)))
+fn borrow(rt: &impl Abort, alloc: Global, share: &mut impl Share, below: Number) -> Borrowed {
+    let mut assignment = Assignment::new(alloc, VARS).expect(rt, "memory");
+    let is_lent = share.borrow(below, &mut assignment);
+    (is_lent, [assignment.word(0), assignment.word(1)])
 }
 
-// A share lends the other worker's row where an offer is below what was asked for, and only there.
+/// Whether what is lent is what may be.
+fn lends(rt: &impl Abort, alloc: Global, exchange: &Exchange) -> bool {
+    exchange.lent.contains(&lent(rt, alloc, exchange))
+}
+
 #[test]
-fn a_share_lends_what_was_offered(rt: HostRuntime) -> Result<(), Fail> {
-    let two = Workers::new(2)?;
-    let before = borrowed(rt.alloc(), two, 0, 1, &[], [Number::MAX, 0])?;
-    assert!(rt; before == [(false, 0), (false, 0)]);
-    let after = borrowed(rt.alloc(), two, 0, 1, &[(-5, 2)], [-5, -4])?;
-    assert!(rt; after == [(false, 0), (true, 2)]);
-    Ok(())
-}
-
-// A second offer, which is less, is lent to a worker that already holds the first one.
-#[test]
-fn a_share_lends_each_lesser_offer(rt: HostRuntime) -> Result<(), Fail> {
-    let two = Workers::new(2)?;
-    let lent = borrowed(rt.alloc(), two, 0, 1, &[(-5, 2), (-7, 3)], [-5, -7])?;
-    assert!(rt; lent == [(true, 3), (false, 0)]);
-    Ok(())
-}
-
-// A share reads the rows of the others in turn, so that with two others none is left out, whichever is read first.
-#[test]
-fn a_share_reads_the_others_in_turn(rt: HostRuntime) -> Result<(), Fail> {
-    let three = Workers::new(3)?;
-    for (borrower, offerer) in [(0, 1), (0, 2), (1, 0), (1, 2), (2, 0), (2, 1)] {
-        assert!(rt; borrower < 3 && offerer < 3);
-        let lent = borrowed(rt.alloc(), three, borrower, offerer, &[(-5, 2)], [0, 0])?;
-        assert!(rt;
-            lent[0] == (true, 2) || lent[1] == (true, 2),
-            "{borrower} of {offerer}"
-        );
+fn a_share_lends_what_was_offered(rt: HostRuntime) {
+    for (place, exchange) in EXCHANGES.iter().enumerate() {
+        assert!(rt; lends(&rt, rt.alloc(), exchange), "exchange {place}");
     }
-    Ok(())
 }
 
 /// The key that a share of a board without other workers offers for the cost.
-fn offered_key(alloc: Global, worker: Workers, cost: Number) -> Result<u64, Memory> {
-    let nothing = Assignment::new(alloc, 0)?;
-    let (board, seat) = Board::new(alloc, worker, 0)?;
+fn offered_key(rt: &impl Abort, alloc: Global, cost: Number) -> u64 {
+    let worker = Workers::new(1).expect(rt, "a number of workers");
+    let nothing = Assignment::new(alloc, 0).expect(rt, "memory");
+    let (board, seat) = Board::new(alloc, worker, 0).expect(rt, "a board");
     let mut share = BoardShare::new(&board, seat, 0);
     share.offer(cost, &nothing);
     let mut seat = share.into_seat();
-    Ok(board.least(&mut seat))
+    board.least(&mut seat)
 }
 
 /// Costs in their order, with their keys: the ends of all costs, and both sides of each end of the keys.
@@ -123,10 +177,8 @@ const KEYS: [(Number, u64); 14] = [
 
 // Keys never fall, and rise with each cost of 64 bits. The greatest key is also what a board without an offer has.
 #[test]
-fn keys_keep_the_order_of_costs(rt: HostRuntime) -> Result<(), Fail> {
-    let one = Workers::new(1)?;
+fn keys_keep_the_order_of_costs(rt: HostRuntime) {
     for (cost, key) in KEYS {
-        assert!(rt; offered_key(rt.alloc(), one, cost)? == key, "cost {cost}");
+        assert!(rt; offered_key(&rt, rt.alloc(), cost) == key, "cost {cost}");
     }
-    Ok(())
 }
