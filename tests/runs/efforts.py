@@ -27,10 +27,11 @@ INTERVAL = 256  # decisions after which a search asks again
 
 @dataclass(frozen=True)
 class Effort:
-    """Instances, and how many decisions the searches of all of them may take together."""
+    """Instances, how many decisions the searches of all of them may take together, and by how many variables each is split into pieces."""
 
     most: int
     instances: list
+    split: int = 0
 
 
 @dataclass(frozen=True)
@@ -42,9 +43,9 @@ class Told:
     offered: int
     asked: int
 
-    @property
-    def is_shared_rightly(self):
-        return self.asked == self.decisions // INTERVAL + 1 and (self.offered > 0) == self.is_feasible
+    def is_shared_rightly(self, split):
+        """Of several pieces each asks for itself."""
+        return (split > 0 or self.asked == self.decisions // INTERVAL + 1) and (self.offered > 0) == self.is_feasible
 
 
 def clauses(state, variables, count, costs=()):
@@ -89,6 +90,8 @@ FAMILIES = {
     "literals that fail are fixed": [Effort(780, [failing_behind_ring()])],
     # Of eight pigeons one finds no hole, which takes thousands of decisions.
     "pigeons without a hole are refuted": [Effort(28_400, [pigeons(7)])],
+    # One search counts the decisions of each of its pieces anew. Counted on from piece to piece they are four times as many.
+    "each piece has a count of its own": [Effort(420, [pigeons(5)], split=2)],
     # Thirteen things find no room in four bins of three each. Thing by thing two million decisions tell that; the multipliers do once
     # the search has gone on for a while.
     "a packing without room is refuted": [Effort(2_820, [packing(13, 4, 3)])],
@@ -116,10 +119,10 @@ FAMILIES = {
 }
 
 
-def told(program, instance):
+def told(program, instance, split):
     """What the program tells of the search of the instance; none where it does not end in time."""
     try:
-        said = ran([program], input=f"search\n{instance.text()}".encode()).err
+        said = ran([program], input=f"search {split}\n{instance.text()}".encode()).err
     except subprocess.TimeoutExpired:
         said = ""
     words = re.fullmatch(r"cost (.+), (\d+) decisions, searched in .+, (\d+) improvements, asked (\d+) times\n", said)
@@ -128,7 +131,7 @@ def told(program, instance):
 
 def told_of_all(program, effort):
     """The same of each instance of the effort."""
-    return [told(program, it) for it in effort.instances]
+    return [told(program, it, effort.split) for it in effort.instances]
 
 
 def counted(told):
@@ -141,7 +144,7 @@ def complaint(family, effort, told):
     count = counted(told)
     if count is None:
         return f"{family}: no count within {SECONDS} seconds"
-    unshared = [it for it in told if not it.is_shared_rightly]
+    unshared = [it for it in told if not it.is_shared_rightly(effort.split)]
     if unshared:
         return f"{family}: wrongly asked or offered: {unshared}"
     return f"{family}: {count} decisions, where {effort.most} are enough" if count > effort.most else None

@@ -16,6 +16,7 @@ mod pieces_fault;
 mod prepared;
 mod reports;
 mod reports_fault;
+mod system;
 mod whole;
 
 pub use counting::count_pieces;
@@ -30,4 +31,5 @@ pub use pieces_fault::PiecesFault;
 pub use prepared::Prepared;
 pub use reports::{Reports, read_instance, read_reports};
 pub use reports_fault::{IndexFault, Refusal, ReportsFault};
+pub use system::SystemFiles;
 pub use whole::Whole;

@@ -2,8 +2,17 @@
 use pb_inst::Instance;
 
 /// A whole instance, and the SHA-256 digest of the text that spells it.
-#[derive(Drop)]
 pub struct Whole {
     pub instance: Instance,
     pub digest: [u8; 32],
+}
+
+// By hand, so that letting go of it is a call wherever it is done.
+impl Drop for Whole {
+    fn drop(self) {
+        let Whole {
+            instance: _,
+            digest: _,
+        } = self;
+    }
 }

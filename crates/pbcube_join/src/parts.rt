@@ -29,13 +29,13 @@ pub(crate) struct PartsEnd {
 /// refused nothing is written.
 pub(crate) fn join_tasks<'a, F: Files, W: Write>(
     alloc: Global,
-    line: Line<'a>,
+    line: &Line<'a>,
     tasks: u32,
     files: &mut F,
     out: &mut Device<W>,
 ) -> Result<PartsEnd, ReportsFault<'a>>
     requires out { out.old.failed ≡ false }
-    ensures joins { IfOk result (λ end. JoinsParts F.reads F.lists line.entry tasks files.old files.new (W.contents out.old.held) (W.contents out.new.held) end.joined) }
+    ensures joins { IfOk result (λ end. JoinsParts F.reads F.lists line.now tasks files.old files.new (W.contents out.old.held) (W.contents out.new.held) end.joined) }
     ensures unwritten { IfErr result (λ fault. fault ≢ ReportsFault.CannotWrite → out.new ≡ out.old) }
     ensures kept { IfErr result (λ fault. (out.new ≡ out.old) ⊎ (out.new.failed ≡ true)) }
 {

@@ -49,7 +49,7 @@ pub fn program<'a, F: Files, W: Write, E: Write>(
         Ok(line) => line,
         Err(fault) => return end_without_run(&fault, out, err),
     };
-    match join_asked(alloc, line, files, out, err) {
+    match join_asked(alloc, &line, files, out, err) {
         Ok(status) => status.exit_status(),
         Err(fault) => end_at_fault(&fault, faults.get(), err),
     }
@@ -66,14 +66,14 @@ pub fn out_of_memory<E: Write>(err: &mut E) -> u8
 /// missing or was cut.
 fn join_asked<'a, F: Files, W: Write, E: Write>(
     alloc: Global,
-    line: Line<'a>,
+    line: &Line<'a>,
     files: &mut F,
     out: &mut Device<W>,
     err: &mut E,
 ) -> Result<Status, ReportsFault<'a>>
-    requires pieces { IfSome line.pieces (λ n. 1 ≤ n) }
+    requires pieces { IfSome line.now.pieces (λ n. 1 ≤ n) }
     requires out { out.old.failed ≡ false }
-    ensures joins { IfOk result (JoinsLine F.reads F.lists line.entry line.entry.tasks files.old files.new (W.contents out.old.held) (W.contents out.new.held)) }
+    ensures joins { IfOk result (JoinsLine F.reads F.lists line.now line.now.tasks files.old files.new (W.contents out.old.held) (W.contents out.new.held)) }
     ensures unwritten { IfErr result (λ fault. fault ≢ ReportsFault.CannotWrite → out.new ≡ out.old) }
     ensures kept { IfErr result (λ fault. (out.new ≡ out.old) ⊎ (out.new.failed ≡ true)) }
 {
@@ -95,14 +95,14 @@ fn join_asked<'a, F: Files, W: Write, E: Write>(
 /// they make. Where anything is refused nothing is written.
 fn join_line<'a, F: Files, W: Write>(
     alloc: Global,
-    line: Line<'a>,
+    line: &Line<'a>,
     files: &mut F,
     out: &mut Device<W>,
 ) -> Result<Joined, ReportsFault<'a>>
-    requires pieces { IfSome line.pieces (λ n. 1 ≤ n) }
+    requires pieces { IfSome line.now.pieces (λ n. 1 ≤ n) }
     requires out { out.old.failed ≡ false }
-    ensures tells { IfOk result (λ joined. (p : Problem) × (pieces : ℕ) × Tells line.entry.format p pieces (W.contents out.old.held) (W.contents out.new.held) joined) }
-    ensures joins { IfOk result (JoinsFiles F.reads F.lists line.entry files.old files.new (W.contents out.old.held) (W.contents out.new.held)) }
+    ensures tells { IfOk result (λ joined. (p : Problem) × (pieces : ℕ) × Tells line.now.format p pieces (W.contents out.old.held) (W.contents out.new.held) joined) }
+    ensures joins { IfOk result (JoinsFiles F.reads F.lists line.now files.old files.new (W.contents out.old.held) (W.contents out.new.held)) }
     ensures unwritten { IfErr result (λ fault. fault ≢ ReportsFault.CannotWrite → out.new ≡ out.old) }
     ensures kept { IfErr result (λ fault. (out.new ≡ out.old) ⊎ (out.new.failed ≡ true)) }
 {

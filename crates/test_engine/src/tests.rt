@@ -7,7 +7,7 @@ mod effort;
 mod engines;
 mod fixing;
 mod forms;
-mod player;
+mod moves;
 mod saddle;
 mod widths;
 mod worked_rows;

@@ -1,6 +1,6 @@
 //! Runs on the caller's own thread: the budget is kept there too.
 
-use pb_solve::{Device, Format, Ran, RunFault, Status, run_without_threads};
+use pb_solve::{Device, Format, Status, run_without_threads};
 use std::alloc::Global;
 
 /// A text, a budget or none, and what a run alone answers with it.
@@ -51,19 +51,18 @@ const ROWS: [Row; 4] = [
     },
 ];
 
-fn alone(alloc: Global, row: &Row) -> Result<Ran, RunFault> {
+fn comes_out(alloc: Global, row: &Row) -> bool {
     let mut input = Device::new(row.text);
     let mut out = Device::new(Vec::new(alloc));
-    run_without_threads(alloc, &mut input, row.format, row.nodes, &mut out)
+    match run_without_threads(alloc, &mut input, row.format, row.nodes, &mut out) {
+        Ok(ran) => ran.status == row.status && ran.cut == row.cut,
+        Err(_) => false,
+    }
 }
 
 #[test]
 fn a_run_alone_goes_as_far_as_its_budget(rt: HostRuntime) {
     for row in &ROWS {
-        let ran = Ran {
-            status: row.status,
-            cut: row.cut,
-        };
-        assert!(rt; alone(rt.alloc(), row) == Ok(ran), "{:?}", row.nodes);
+        assert!(rt; comes_out(rt.alloc(), row), "{:?}", row.nodes);
     }
 }

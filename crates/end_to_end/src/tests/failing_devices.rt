@@ -3,7 +3,7 @@
 
 use super::cases::{CASES, CLAUSE_AND_CUBE, COVER, Case, NO_HEADER, NOTHING, PRODUCT};
 use super::devices::{KINDS, Limits, Source};
-use super::runs::{CUBE_FILE, Trial, source, trial};
+use super::runs::{CUBE_FILE, Trial, source, trial_of};
 use pb_solve::RunFault;
 use std::alloc::Global;
 use std::io::ErrorKind;
@@ -56,7 +56,7 @@ impl Failing {
                 calls_left,
                 kind: ErrorKind::Other,
             };
-            let mut trial = trial(*case).limited(device, limits);
+            let mut trial = trial_of(*case).limited(device, limits);
             trial.workers = workers;
             trial.split = split;
             trial.fault = (calls_left < calls).then_some(device);
@@ -88,7 +88,7 @@ fn last_failing_read<R: Abort + Threads + Sync>(
     for calls_left in 0..20 {
         let mut trial = Trial {
             input: source(text),
-            ..trial(NOTHING)
+            ..trial_of(NOTHING)
         };
         trial.input.limits.calls_left = calls_left;
         if trial.comes_out(rt, alloc) {
@@ -124,7 +124,7 @@ const BROKEN: [(&[RunFault], RunFault); 4] = [
 
 /// A run of the case in which these devices fail at their first call.
 fn broken(case: Case, devices: &[RunFault], kind: ErrorKind) -> Trial<'static> {
-    let mut trial = trial(case);
+    let mut trial = trial_of(case);
     for device in devices {
         let limits = Limits {
             step: 1,
@@ -166,7 +166,7 @@ fn a_text_ends_at_its_first_end(rt: HostRuntime) {
         };
         let trial = Trial {
             input,
-            ..trial(case)
+            ..trial_of(case)
         };
         assert!(rt; trial.comes_out(&rt, rt.alloc()), "{:?}", case.text);
     }
@@ -176,7 +176,11 @@ fn a_text_ends_at_its_first_end(rt: HostRuntime) {
 #[test]
 fn outputs_that_keep_back_what_is_not_flushed(rt: HostRuntime) {
     for case in CASES {
-        assert!(rt; trial(case).comes_out(&rt, rt.alloc()), "{:?}", case.text);
+        assert!(rt;
+            trial_of(case).comes_out(&rt, rt.alloc()),
+            "{:?}",
+            case.text
+        );
     }
 }
 
@@ -184,7 +188,7 @@ fn outputs_that_keep_back_what_is_not_flushed(rt: HostRuntime) {
 fn outputs_that_take_no_more_bytes(rt: HostRuntime) {
     for case in CASES {
         for room in 0..=case.report.len() {
-            let mut trial = trial(case);
+            let mut trial = trial_of(case);
             trial.room = room;
             trial.fault = (room < case.report.len()).then_some(RunFault::Write);
             assert!(rt; trial.comes_out(&rt, rt.alloc()), "{:?}", case.text);

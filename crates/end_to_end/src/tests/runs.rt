@@ -24,7 +24,7 @@ pub struct Trial<'t> {
 }
 
 /// A run of the case by two workers over devices that do not fail, without a cube file.
-pub fn trial(case: Case) -> Trial<'static> {
+pub fn trial_of(case: Case) -> Trial<'static> {
     Trial {
         case,
         workers: 2,
@@ -80,12 +80,12 @@ impl<'t> Trial<'t> {
             kept: Vec::new(alloc),
             flushed: Vec::new(alloc),
         });
-        let cube_file = if self.has_cubes {
-            Some(&mut cubes)
+        let answer = if self.has_cubes {
+            run(rt, alloc, &mut input, Some(&mut cubes), options, &mut out)
         } else {
-            None
+            let none = None::<&mut Device<Source<'_>>>;
+            run(rt, alloc, &mut input, none, options, &mut out)
         };
-        let answer = run(rt, alloc, &mut input, cube_file, options, &mut out);
         let failed = [input.failed(), cubes.failed(), out.failed()];
         self.is_end(answer, failed, &out.into_inner())
     }
@@ -93,20 +93,27 @@ impl<'t> Trial<'t> {
     /// Whether the run is to end with this answer, with the devices that failed, and with what was written. Where a reader fails
     /// nothing is.
     fn is_end(&self, answer: Result<Ran, RunFault>, failed: [bool; 3], written: &Sink) -> bool {
-        let Some(fault) = self.fault else {
-            let ran = Ran {
-                status: self.case.status,
-                cut: false,
-            };
-            return answer == Ok(ran)
-                && failed == [false; 3]
-                && written.has_flushed(self.case.report);
-        };
-        let is_failed = [
-            fault == RunFault::ReadInput,
-            fault == RunFault::ReadCubes,
-            fault == RunFault::Write,
-        ];
-        answer == Err(fault) && failed == is_failed && (is_failed[2] || written.has_flushed(b""))
+        if failed != devices_of(self.fault) {
+            return false;
+        }
+        match answer {
+            Ok(ran) => {
+                self.fault.is_none()
+                    && !ran.cut
+                    && ran.status == self.case.status
+                    && written.has_flushed(self.case.report)
+            }
+            Err(told) => devices_of(Some(told)) == failed
+                && (failed[2] || written.has_flushed(b"")),
+        }
     }
+}
+
+/// Which of the input, the cube file and the output the fault names.
+fn devices_of(fault: Option<RunFault>) -> [bool; 3] {
+    [
+        matches!(fault, Some(RunFault::ReadInput)),
+        matches!(fault, Some(RunFault::ReadCubes)),
+        matches!(fault, Some(RunFault::Write)),
+    ]
 }

@@ -167,7 +167,8 @@ fn objective_refusal(
 /// Whether all that lies beyond the ends is too large for the builder.
 fn refuses_all(rt: &impl Abort, alloc: Global, builder: &mut InstanceBuilder) -> bool {
     for inequality in BEYOND_THE_ENDS {
-        if refusal(rt, alloc, builder, *inequality) != Some(InstFault::TooLarge) {
+        let told = refusal(rt, alloc, builder, *inequality);
+        if !matches!(told, Some(InstFault::TooLarge)) {
             return false;
         }
     }
@@ -177,7 +178,8 @@ fn refuses_all(rt: &impl Abort, alloc: Global, builder: &mut InstanceBuilder) ->
 /// Whether all objectives that lie beyond the ends are too large for the builder.
 fn refuses_all_objectives(rt: &impl Abort, alloc: Global, builder: &mut InstanceBuilder) -> bool {
     for sum in OBJECTIVES_BEYOND_THE_ENDS {
-        if objective_refusal(rt, alloc, builder, sum) != Some(InstFault::TooLarge) {
+        let told = objective_refusal(rt, alloc, builder, sum);
+        if !matches!(told, Some(InstFault::TooLarge)) {
             return false;
         }
     }
@@ -191,7 +193,7 @@ fn refusals_change_nothing(rt: HostRuntime) {
     assert!(rt; refuses_all(&rt, alloc, &mut builder));
     assert!(rt; refuses_all_objectives(&rt, alloc, &mut builder));
     let small = builder.finish(0).err().expect(&rt, "a variable over 0");
-    assert!(rt; small.fault == InstFault::BadVariable);
+    assert!(rt; matches!(small.fault, InstFault::BadVariable));
     let instance = finished(&rt, small.builder, 3);
     assert!(rt; is_written(&instance, &AT_THE_ENDS));
 }
@@ -253,19 +255,17 @@ fn taken(best: &mut Best<'_>, values: &Assignment) -> Option<u32>
     None
 }
 
-/// What is taken of assignments that cost as much, of which the first comes later, and of one that is not feasible.
-fn taken_in_turn(rt: &impl Abort, alloc: Global, best: &mut Best<'_>) -> [Option<u32>; 4]
+/// Whether of assignments that cost as much the first is taken, though it comes later, and that before it, and then neither is
+/// nor one that is not feasible.
+fn are_taken_in_turn(rt: &impl Abort, alloc: Global, best: &mut Best<'_>) -> bool
     requires { best.old.problem.vars ≡ 3 }
 {
     let later = assignment(rt, alloc, [true, false, true]);
     let first = assignment(rt, alloc, [false, true, false]);
     let none = assignment(rt, alloc, [false, false, false]);
-    [
-        taken(best, &later),
-        taken(best, &first),
-        taken(best, &later),
-        taken(best, &none),
-    ]
+    let (one, two) = (taken(best, &later), taken(best, &first));
+    let (three, four) = (taken(best, &later), taken(best, &none));
+    matches!((one, two), (Some(0), Some(1))) && three.is_none() && four.is_none()
 }
 
 #[test]
@@ -274,8 +274,7 @@ fn what_comes_before_is_taken(rt: HostRuntime) {
     assert!(rt; instance.vars() == 3);
     let mut best = nothing_yet(&rt, rt.alloc(), &instance);
     assert!(rt; best.assignment().is_none());
-    let taken = taken_in_turn(&rt, rt.alloc(), &mut best);
-    assert!(rt; taken == [Some(0), Some(1), None, None]);
+    assert!(rt; are_taken_in_turn(&rt, rt.alloc(), &mut best));
     assert!(rt; best.cost() == Some(3));
 }
 

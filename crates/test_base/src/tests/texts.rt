@@ -1,7 +1,7 @@
 //! The instances of texts. A reading whose memory was refused is made once more.
 
 use pb_inst::Instance;
-use pb_read::{ReadFault, ReadKind, read_cubes, read_opb};
+use pb_read::{ReadKind, read_cubes, read_opb};
 use std::alloc::Global;
 use std::process::Abort;
 
@@ -10,7 +10,8 @@ pub fn instance_of(rt: &impl Abort, alloc: Global, text: &[u8]) -> Instance {
     match read_opb(alloc, text) {
         Ok(instance) => instance,
         Err(fault) => {
-            assert!(rt; fault.kind == ReadKind::Memory && fault.line == 0);
+            assert!(rt; matches!(fault.kind, ReadKind::Memory));
+            assert!(rt; fault.line == 0);
             read_opb(alloc, text).expect(rt, "an instance")
         }
     }
@@ -19,10 +20,8 @@ pub fn instance_of(rt: &impl Abort, alloc: Global, text: &[u8]) -> Instance {
 // No instance has so many variables.
 #[test]
 fn cubes_beside_too_many_variables(rt: HostRuntime) {
-    let fault = ReadFault {
-        kind: ReadKind::BadVariable,
-        line: 1,
-    };
     let told = read_cubes(rt.alloc(), b"a 1048577 0\n", u32::MAX);
-    assert!(rt; told.err() == Some(fault));
+    let fault = told.err().expect(&rt, "a fault");
+    assert!(rt; matches!(fault.kind, ReadKind::BadVariable));
+    assert!(rt; fault.line == 1);
 }

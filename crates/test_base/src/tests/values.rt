@@ -1,8 +1,10 @@
 //! Words of assignments, and cubes of few and of many literals.
 
 use super::instances::zeros;
-use super::written::{are_cubes, cube_of, lits_of};
+use super::written::{cube_of, is_cube, lits_of};
 use pb_inst::{Cube, Lit};
+use std::alloc::Global;
+use std::process::Abort;
 
 #[test]
 fn words_are_kept(rt: HostRuntime) {
@@ -16,13 +18,18 @@ fn words_are_kept(rt: HostRuntime) {
     assert!(rt; b.get(65) && b.get(70) && !b.get(64) && b.satisfies(lit));
 }
 
+const SIXTEEN: [i32; 16] = [-2; 16];
+
+const SEVENTEEN: [i32; 17] = [-2; 17];
+
+/// The cube, which takes no memory of its own.
+fn short_cube(rt: &impl Abort, alloc: Global, literals: &[i32]) -> Cube {
+    let lits = lits_of(rt, alloc, literals);
+    Cube::new(alloc, &lits).expect(rt, "places inline")
+}
+
 #[test]
 fn cubes_keep_literals(rt: HostRuntime) {
-    let literals = [-2; 17];
-    let lits = lits_of(&rt, rt.alloc(), &literals);
-    assert!(rt; lits.len() == 17);
-    let long = cube_of(&rt, rt.alloc(), &literals);
-    assert!(rt; long.lits() == lits.as_slice());
-    let short = Cube::new(rt.alloc(), &lits[..16]).expect(&rt, "places inline");
-    assert!(rt; short.lits() == &lits[..16]);
+    assert!(rt; is_cube(&cube_of(&rt, rt.alloc(), &SEVENTEEN), &SEVENTEEN));
+    assert!(rt; is_cube(&short_cube(&rt, rt.alloc(), &SIXTEEN), &SIXTEEN));
 }

@@ -103,7 +103,7 @@ pub fn is_written(instance: &Instance, written: &Written) -> bool {
 }
 
 /// Whether the cube has these literals.
-fn is_cube(cube: &Cube, literals: &[i32]) -> bool {
+pub fn is_cube(cube: &Cube, literals: &[i32]) -> bool {
     let lits = cube.lits();
     if lits.len() != literals.len() {
         return false;
@@ -185,10 +185,8 @@ pub fn cube_of(rt: &impl Abort, alloc: Global, literals: &[i32]) -> Cube {
 fn is_to_be_repeated(rt: &impl Abort, told: Result<(), InstFault>) -> bool {
     match told {
         Ok(()) => false,
-        Err(fault) => {
-            assert!(rt; fault == InstFault::Memory);
-            true
-        }
+        Err(InstFault::Memory) => true,
+        Err(_) => panic!(rt; "a statement was refused"),
     }
 }
 

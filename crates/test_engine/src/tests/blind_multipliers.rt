@@ -1,5 +1,6 @@
 //! Bounds by multipliers that are drawn blindly, against a listing of all assignments.
 
+use super::forms::{Terms, finished, form, multipliers};
 use pb_count::Coefficient;
 use pb_dual::{Multipliers, Signed};
 use pb_inst::{Instance, InstanceBuilder, Lit, Magnitude, Number, Relation, Term};
@@ -67,6 +68,27 @@ struct Size {
     unit: Number,
 }
 
+const RELATIONS: [Relation; 3] = [Relation::AtLeast, Relation::AtMost, Relation::Equal];
+
+/// Adds a constraint over so many variables.
+fn add_drawn_row(
+    rt: &impl Abort,
+    alloc: Global,
+    draws: &mut Draws,
+    builder: &mut InstanceBuilder,
+    vars: u64,
+    size: Size,
+) {
+    let count = draws.below(4).saturating_add(1);
+    let row = draws.terms(rt, alloc, vars, count, size);
+    let relation = RELATIONS.get(draws.below(3) as usize).copied();
+    let relation = relation.expect(rt, "one of three");
+    let bound = draws.about(size.limit).saturating_mul(size.unit);
+    builder
+        .add(&row, relation, bound)
+        .expect(rt, "a constraint");
+}
+
 /// An instance over so many variables with an objective and as many constraints.
 fn drawn_instance(
     rt: &impl Abort,
@@ -79,22 +101,9 @@ fn drawn_instance(
     let objective = draws.terms(rt, alloc, vars, vars, size);
     builder.set_objective(&objective).expect(rt, "an objective");
     for _ in 0..vars {
-        let count = draws.below(4).saturating_add(1);
-        let row = draws.terms(rt, alloc, vars, count, size);
-        let relation = match draws.below(3) {
-            0 => Relation::AtLeast,
-            1 => Relation::AtMost,
-            _ => Relation::Equal,
-        };
-        let bound = draws.about(size.limit).saturating_mul(size.unit);
-        builder
-            .add(&row, relation, bound)
-            .expect(rt, "a constraint");
+        add_drawn_row(rt, alloc, draws, &mut builder, vars, size);
     }
-    builder
-        .finish(vars.min(64) as u32)
-        .ok()
-        .expect(rt, "an instance")
+    finished(rt, builder, vars.min(64) as u32)
 }
 
 /// Whether the bits make the literal true. The lowest one is that of variable 1.
@@ -211,7 +220,7 @@ fn bounds_hold<C: Coefficient>(rt: &impl Abort, alloc: Global, seed: u64, size: 
     let mut draws = Draws { state: seed };
     let vars = 5;
     let instance = drawn_instance(rt, alloc, &mut draws, vars, size);
-    let form = form_of::<C>(alloc, &instance).ok().expect(rt, "a form");
+    let form = form_of::<C>(alloc, &instance).expect(rt, "a form");
     changes_hold(rt, alloc, &form, &mut draws, size.limit)
 }
 
@@ -223,8 +232,7 @@ fn changes_hold<C: Coefficient>(
     draws: &mut Draws,
     limit: u64,
 ) -> bool {
-    let made = Multipliers::new(alloc, form, 20).expect(rt, "memory");
-    let mut multipliers = made.expect(rt, "a scale");
+    let mut multipliers = multipliers(rt, alloc, form, 20);
     let mut lits = Vec::with_capacity(alloc, 5).expect(rt, "memory");
     for _ in 0..30 {
         let lit = draws.literal(rt, form.vars() as u64);
@@ -269,21 +277,24 @@ fn blind_multipliers_of_wide_forms(rt: HostRuntime) {
 /// A form over five variables, of which all but the first cost 1. Two rows ask for two of three literals each, the first
 /// variable in both.
 fn shared_form(rt: &impl Abort, alloc: Global) -> Form<u64> {
-    let mut builder = InstanceBuilder::new(alloc);
-    let term = |coef, var| Term {
-        coef,
-        lit: Lit::new(var, true).expect(rt, "a variable"),
-    };
-    let objective = [term(1, 2), term(1, 3), term(1, 4), term(1, 5)];
-    builder.set_objective(&objective).expect(rt, "an objective");
-    for first in [2, 4] {
-        let row = [term(3, 1), term(3, first), term(3, first + 1)];
-        builder
-            .add(&row, Relation::AtLeast, 4)
-            .expect(rt, "a constraint");
-    }
-    let instance = builder.finish(5).ok().expect(rt, "an instance");
-    form_of(alloc, &instance).ok().expect(rt, "a form")
+    let costs: Terms<'_> = &[(1, 2), (1, 3), (1, 4), (1, 5)];
+    let rows: &[(Terms<'_>, Number)] = &[
+        (&[(3, 1), (3, 2), (3, 3)], 4),
+        (&[(3, 1), (3, 4), (3, 5)], 4),
+    ];
+    form(rt, alloc, 5, costs, rows)
+}
+
+/// Shifts the multiplier of the row by the amount.
+fn shift<C: Coefficient>(
+    rt: &impl Abort,
+    multipliers: &mut Multipliers<C>,
+    row: usize,
+    amount: Signed<C>,
+) {
+    assert!(rt; row < multipliers.form().len());
+    assert!(rt; multipliers.has_room());
+    multipliers.shift(row, amount);
 }
 
 /// Once a literal is on the trail only what is left of a degree counts: multipliers of 1 then give a bound of 2, and of 1
@@ -292,17 +303,14 @@ fn shared_form(rt: &impl Abort, alloc: Global) -> Form<u64> {
 fn rows_are_saturated_while_the_trail_stands(rt: HostRuntime) {
     let alloc = rt.alloc();
     let form = shared_form(&rt, alloc);
-    let made = Multipliers::new(alloc, &form, 8).expect(&rt, "memory");
-    let mut multipliers = made.expect(&rt, "a scale");
+    let mut multipliers = multipliers(&rt, alloc, &form, 8);
     let lit = Lit::new(1, true).expect(&rt, "a variable");
     assert!(rt; multipliers.is_free(lit));
     multipliers.assign(lit);
     multipliers.saturate();
-    for row in 0..2 {
-        assert!(rt; row < multipliers.form().len() && multipliers.has_room());
-        let one = Signed::of(multipliers.scale());
-        multipliers.shift(row, one);
-    }
+    let one = Signed::of(multipliers.scale());
+    shift(&rt, &mut multipliers, 0, one);
+    shift(&rt, &mut multipliers, 1, one);
     assert!(rt; multipliers.bound() == 2);
     multipliers.unassign_to(0);
     assert!(rt; multipliers.bound() == 0);
@@ -310,16 +318,7 @@ fn rows_are_saturated_while_the_trail_stands(rt: HostRuntime) {
 
 /// A form over one variable, which costs so much.
 fn costly_form(rt: &impl Abort, alloc: Global, cost: Number) -> Form<u128> {
-    let lit = Lit::new(1, true).expect(rt, "a variable");
-    let mut builder = InstanceBuilder::new(alloc);
-    let objective = [Term { coef: cost, lit }];
-    builder.set_objective(&objective).expect(rt, "an objective");
-    let row = [Term { coef: 1, lit }];
-    builder
-        .add(&row, Relation::AtLeast, 1)
-        .expect(rt, "a constraint");
-    let instance = builder.finish(1).ok().expect(rt, "an instance");
-    form_of(alloc, &instance).ok().expect(rt, "a form")
+    form(rt, alloc, 1, &[(cost, 1)], &[(&[(1, 1)], 1)])
 }
 
 /// Where not even costs as they are leave room for reduced costs there are no multipliers.
@@ -337,10 +336,8 @@ fn the_greatest_scaled_costs(rt: HostRuntime) {
     let alloc = rt.alloc();
     let cost: Number = (1 << 106) - 1;
     let form = costly_form(&rt, alloc, cost);
-    let made = Multipliers::new(alloc, &form, 1).expect(&rt, "memory");
-    let mut multipliers = made.expect(&rt, "a scale");
+    let mut multipliers = multipliers(&rt, alloc, &form, 1);
     assert!(rt; multipliers.bound() == 0);
-    assert!(rt; multipliers.form().len() == 1 && multipliers.has_room());
-    multipliers.shift(0, Signed::nearest(cost));
+    shift(&rt, &mut multipliers, 0, Signed::nearest(cost));
     assert!(rt; multipliers.bound() == 1 << 105);
 }

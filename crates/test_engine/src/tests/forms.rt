@@ -1,8 +1,10 @@
-//! Literals, forms and cubes, from numbers.
+//! Literals, forms, multipliers and cubes, from numbers.
 
 ghost use Rattle.std.specs.Prelude.{◌≡◌, ◌≤◌, true, All};
 
 use pb_count::Coefficient;
+use pb_dual::Multipliers;
+use pb_engine::Step;
 use pb_inst::{Cube, Instance, InstanceBuilder, Lit, Number, Relation, Term};
 use pb_normal::{Form, Normal, form_of, normalise};
 use std::alloc::Global;
@@ -14,6 +16,11 @@ pub type Terms<'c> = &'c [(Number, i32)];
 /// The literal of the variable of this number, negated where it is below 0.
 pub fn lit(rt: &impl Abort, number: i32) -> Lit {
     Lit::new(number.unsigned_abs(), number > 0).expect(rt, "a variable")
+}
+
+/// Whether nothing stands against what a step fixed.
+pub fn is_fixed(step: Step) -> bool {
+    matches!(step, Step::Fixed)
 }
 
 /// Whether the literal has this number.
@@ -50,6 +57,11 @@ fn instance(
             .add(&terms_of(rt, alloc, row), Relation::AtLeast, *bound)
             .expect(rt, "a constraint");
     }
+    finished(rt, builder, vars)
+}
+
+/// The instance that the builder makes of so many variables.
+pub fn finished(rt: &impl Abort, builder: InstanceBuilder, vars: u32) -> Instance {
     builder.finish(vars).ok().expect(rt, "an instance")
 }
 
@@ -75,6 +87,18 @@ pub fn normal(
 ) -> Normal {
     let instance = instance(rt, alloc, vars, objective, rows);
     normalise(alloc, &instance).expect(rt, "memory")
+}
+
+/// Multipliers of the form that have room for so many changes.
+pub fn multipliers<C: Coefficient>(
+    rt: &impl Abort,
+    alloc: Global,
+    form: &Form<C>,
+    room: usize,
+) -> Multipliers<C> {
+    Multipliers::new(alloc, form, room)
+        .expect(rt, "memory")
+        .expect(rt, "a scale")
 }
 
 /// The cubes of these literals.

@@ -1,8 +1,7 @@
 //! Multipliers and a point of a first-order method, beside worked rows.
 
-use super::forms::{Terms, form, is_lit, lit};
+use super::forms::{Terms, form, is_lit, lit, multipliers};
 use pb_count::Coefficient;
-use pb_dual::Multipliers;
 use pb_inst::{Magnitude, Number};
 use pb_normal::Form;
 use pb_saddle::Saddle;
@@ -21,17 +20,10 @@ fn triangle<C: Coefficient>(rt: &impl Abort, alloc: Global, unit: Number) -> For
     form(rt, alloc, 3, objective, rows)
 }
 
-/// The multipliers of the form.
-fn multipliers<C: Coefficient>(rt: &impl Abort, alloc: Global, form: &Form<C>) -> Multipliers<C> {
-    Multipliers::new(alloc, form, 8)
-        .expect(rt, "memory")
-        .expect(rt, "a scale")
-}
-
 /// Looks whether the bound comes to 3 units within a part of one.
 fn rises<C: Coefficient>(rt: &impl Abort, alloc: Global, unit: Number) {
     let form: Form<C> = triangle(rt, alloc, unit);
-    let mut multipliers = multipliers(rt, alloc, &form);
+    let mut multipliers = multipliers(rt, alloc, &form, 8);
     let mut saddle = Saddle::new(alloc, &form).expect(rt, "memory");
     let numbers = saddle.improve(&mut multipliers, 200, Number::MAX);
     assert!(rt; numbers > 0);
@@ -52,14 +44,14 @@ fn the_bound_comes_to_that_of_the_relaxation(rt: HostRuntime) {
 fn met_rows_are_left_out(rt: HostRuntime) {
     let alloc = rt.alloc();
     let form: Form<u64> = triangle(&rt, alloc, 1);
-    let mut multipliers = multipliers(&rt, alloc, &form);
+    let mut multipliers = multipliers(&rt, alloc, &form, 8);
     let first = lit(&rt, 1);
     if multipliers.is_free(first) {
         multipliers.assign(first);
     }
     let mut saddle = Saddle::new(alloc, &form).expect(&rt, "memory");
     saddle.improve(&mut multipliers, 200, Number::MAX);
-    assert_eq!(rt; multipliers.bound(), 4);
+    assert!(rt; multipliers.bound() == 4);
     saddle.approach(&multipliers, 200);
     assert!(rt; saddle.planned(1).is_some());
     assert!(rt; saddle.planned(2).is_none());
@@ -72,7 +64,7 @@ fn a_point_is_planned_by_what_it_leaves_open(rt: HostRuntime) {
     let objective: Terms<'_> = &[(1, 1), (9, 2), (3, 3)];
     let rows: &[(Terms<'_>, Number)] = &[(&[(1, 1), (1, 2)], 1)];
     let form: Form<u64> = form(&rt, alloc, 3, objective, rows);
-    let multipliers = multipliers(&rt, alloc, &form);
+    let multipliers = multipliers(&rt, alloc, &form, 8);
     let mut saddle = Saddle::new(alloc, &form).expect(&rt, "memory");
     saddle.approach(&multipliers, 300);
     assert!(rt; saddle.value(1) > 0.9);
@@ -91,7 +83,7 @@ fn is_refuted(rt: &impl Abort, alloc: Global, some: Number, others: Number) -> b
         (&[(1, -1), (1, -2), (1, -3)], others),
     ];
     let form: Form<u64> = form(rt, alloc, 3, &[], rows);
-    let mut multipliers = multipliers(rt, alloc, &form);
+    let mut multipliers = multipliers(rt, alloc, &form, 8);
     let mut saddle = Saddle::new(alloc, &form).expect(rt, "memory");
     saddle.refute(&mut multipliers, 25);
     multipliers.refutes()

@@ -11,14 +11,14 @@ use pb_search::Share;
 pub struct Notes {
     /// How often it was asked.
     pub asked: u64,
-    /// The first cost that it was to be below.
-    pub first_below: Option<Number>,
-    /// The last cost that it was to be below.
-    pub last_below: Option<Number>,
+    /// The first cost that it was to be below, and 0 before.
+    pub first_below: Number,
+    /// The last cost that it was to be below, and 0 before.
+    pub last_below: Number,
     /// How often it was offered something.
     pub offered: u64,
-    /// The last cost of what it was offered.
-    pub last_offered: Option<Number>,
+    /// The last cost of what it was offered, and 0 before.
+    pub last_offered: Number,
 }
 
 /// Hands over values in turn, beginning anew after the last ones. Without any it may pretend that it handed something over, and
@@ -35,10 +35,10 @@ impl<'a> Lender<'a> {
     pub fn new(lent: &'a [Values], pretends: bool) -> Lender<'a> {
         let notes = Notes {
             asked: 0,
-            first_below: None,
-            last_below: None,
+            first_below: 0,
+            last_below: 0,
             offered: 0,
-            last_offered: None,
+            last_offered: 0,
         };
         Lender {
             lent,
@@ -60,13 +60,15 @@ impl<'a> Share for Lender<'a> {
 
     fn offer(&mut self, cost: Number, _assignment: &Assignment) {
         self.notes.offered = self.notes.offered.saturating_add(1);
-        self.notes.last_offered = Some(cost);
+        self.notes.last_offered = cost;
     }
 
     fn borrow(&mut self, below: Number, into: &mut Assignment) -> bool {
         self.notes.asked = self.notes.asked.saturating_add(1);
-        self.notes.first_below = self.notes.first_below.or(Some(below));
-        self.notes.last_below = Some(below);
+        if self.notes.asked == 1 {
+            self.notes.first_below = below;
+        }
+        self.notes.last_below = below;
         if self.next >= self.lent.len() {
             self.next = 0;
         }

@@ -114,7 +114,10 @@ fn order_of(
 fn passes(order: &mut Order, left: u32, vars: &[u32]) -> bool {
     let mut is_right = true;
     for var in vars {
-        is_right &= order.first().is_some_and(|lit| lit.var() == *var);
+        is_right &= match order.first() {
+            Some(lit) => lit.var() == *var,
+            None => false,
+        };
         order.pass();
     }
     is_right && order.left() == left

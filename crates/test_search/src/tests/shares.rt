@@ -93,10 +93,10 @@ fn told_by_searches(rt: &impl Abort, alloc: Global, count: u32) -> Notes {
 fn the_share_is_asked_and_told(rt: HostRuntime) {
     let alloc = rt.alloc();
     let once = told_by_searches(&rt, alloc, 1);
-    assert!(rt; once.asked == 1 && once.last_offered == Some(3));
-    assert!(rt; once.first_below == Some(SUM_BOUND as Number));
+    assert!(rt; once.asked == 1 && once.last_offered == 3);
+    assert!(rt; once.first_below == SUM_BOUND as Number);
     let twice = told_by_searches(&rt, alloc, 2);
-    assert!(rt; twice.asked == 2 && twice.last_below == Some(3));
+    assert!(rt; twice.asked == 2 && twice.last_below == 3);
     assert!(rt; twice.offered == once.offered);
 }
 

@@ -6,7 +6,7 @@ use Rattle.pbcube_join.proofs.parts.join_tasks.Goals as goal
 
 pub returns-clause-joins : goal.returns-clause-joins
 returns-clause-joins g c =
-    let operands : c.deref.result.now ≡ c.args.line.reports.items = cc in
+    let operands : c.deref.result.now ≡ c.args.line.now.reports.items = cc in
     let named = c.in_ok-named.named in
     let listed = subst (λ (names : List (Bor (List ℕ))). ListsFiles g.F.Files.lists (map (λ name. name.now) names) (texts named.reports) (texts named.indexes) c.read_instance.new.files c.named_files.new.files) operands c.in_ok-named.ensures in
     IfOk-weaker c.join_part_files.result _ _ (λ end told. record {
