@@ -52,16 +52,27 @@ pub fn source(text: &[u8]) -> Source<'_> {
 impl<'t> Trial<'t> {
     /// The same with these limits on the device that the fault names.
     pub fn limited(self, device: RunFault, limits: Limits) -> Trial<'t> {
-        let mut trial = self;
         match device {
-            RunFault::ReadInput => trial.input.limits = limits,
-            RunFault::ReadCubes => {
-                trial.cubes.limits = limits;
-                trial.has_cubes = true;
-            }
-            RunFault::Write => trial.out = limits,
+            RunFault::ReadInput => Trial {
+                input: Source {
+                    limits,
+                    ..self.input
+                },
+                ..self
+            },
+            RunFault::ReadCubes => Trial {
+                cubes: Source {
+                    limits,
+                    ..self.cubes
+                },
+                has_cubes: true,
+                ..self
+            },
+            RunFault::Write => Trial {
+                out: limits,
+                ..self
+            },
         }
-        trial
     }
 
     /// Whether the run ends as it is to.
