@@ -1,11 +1,10 @@
 //! Clauses of cubes, and a row of a million literals.
 
 use super::courses::{Course, Move};
-use super::forms::form;
-use super::moves::{assume, engine_of, propagate, undo_to};
-use pb_engine::{EngineAt, Step};
+use super::forms::{form, is_fixed};
+use super::player::Player;
+use pb_engine::Step;
 use pb_inst::Number;
-use pb_normal::Form;
 use std::alloc::Global;
 use std::process::Abort;
 
@@ -83,11 +82,11 @@ fn cubes_are_clauses(rt: HostRuntime) {
 
 /// Makes the variables before `last` false one by one, and says whether each time `last` has no value before the rows are
 /// looked at.
-fn refute_all_before(rt: &impl Abort, engine: &mut EngineAt<u64>, last: i32) -> bool {
+fn refute_all_before(rt: &impl Abort, player: &mut Player, last: i32) -> bool {
     for number in 1..last {
-        let is_fixed = assume(rt, engine, number.wrapping_neg());
-        let is_open = engine.value(last.unsigned_abs()).is_none();
-        if !is_fixed || !is_open || !propagate(rt, engine) {
+        let fixed = is_fixed(player.assume(rt, number.wrapping_neg()));
+        let open = player.value(rt, last.unsigned_abs()).is_none();
+        if !fixed || !open || !is_fixed(player.propagate(rt)) {
             return false;
         }
     }
@@ -95,12 +94,12 @@ fn refute_all_before(rt: &impl Abort, engine: &mut EngineAt<u64>, last: i32) -> 
 }
 
 /// The same, and whether `last` is true then, and without a value once the last assumption is taken back.
-fn last_is_forced(rt: &impl Abort, engine: &mut EngineAt<u64>, last: i32) -> bool {
-    let are_refuted = refute_all_before(rt, engine, last);
-    let is_forced = matches!(engine.value(last.unsigned_abs()), Some(true));
-    let level = engine.level().saturating_sub(1);
-    undo_to(rt, engine, level);
-    are_refuted && is_forced && engine.value(last.unsigned_abs()).is_none()
+fn last_is_forced(rt: &impl Abort, player: &mut Player, last: i32) -> bool {
+    let refuted = refute_all_before(rt, player, last);
+    let forced = matches!(player.value(rt, last.unsigned_abs()), Some(true));
+    let level = player.level(rt).saturating_sub(1);
+    player.undo_to(rt, level);
+    refuted && forced && player.value(rt, last.unsigned_abs()).is_none()
 }
 
 /// The sum of a million variables.
@@ -115,7 +114,7 @@ fn a_million_literals(rt: &impl Abort, alloc: Global) -> Vec<(Number, i32)> {
 #[test]
 fn the_last_of_a_million_literals_is_forced(rt: HostRuntime) {
     let row = a_million_literals(&rt, rt.alloc());
-    let form: Form<u64> = form(&rt, rt.alloc(), 1_000_000, &[], &[(&row, 1)]);
-    let mut engine = engine_of(&rt, rt.alloc(), &form, &[]);
-    assert!(rt; last_is_forced(&rt, &mut engine, 1_000_000));
+    let form = form(&rt, rt.alloc(), 1_000_000, &[], &[(&row, 1)]);
+    let mut player = Player::new(&rt, rt.alloc(), &form, &[]);
+    assert!(rt; last_is_forced(&rt, &mut player, 1_000_000));
 }

@@ -1,12 +1,9 @@
 //! What tests do with engines, and what the engines must say then, as tables.
 
 use super::forms::{Terms, cubes, form, is_fixed, is_lit};
-use super::moves::{
-    assume, conflict_has_lits, engine_of, literal, propagate, row_has_lits, rows, slack, undo_to,
-};
-use pb_engine::{EngineAt, Step};
+use super::player::Player;
+use pb_engine::Step;
 use pb_inst::{Magnitude, Number};
-use pb_normal::Form;
 use std::alloc::Global;
 use std::process::Abort;
 
@@ -43,17 +40,17 @@ pub enum Move<'c> {
 impl<'c> Course<'c> {
     /// Whether all moves come out as they are to.
     pub fn comes_out(&self, rt: &impl Abort, alloc: Global) -> bool {
-        let form: Form<u64> = form(rt, alloc, self.vars, self.costs, self.rows);
+        let form = form(rt, alloc, self.vars, self.costs, self.rows);
         let cubes = cubes(rt, alloc, self.cubes);
-        let mut engine = engine_of(rt, alloc, &form, &cubes);
-        all_come_out(rt, &mut engine, self.moves)
+        let mut player = Player::new(rt, alloc, &form, &cubes);
+        all_come_out(rt, &mut player, self.moves)
     }
 }
 
 /// Makes the moves, and says whether each comes out as it is to.
-fn all_come_out(rt: &impl Abort, engine: &mut EngineAt<u64>, moves: &[Move<'_>]) -> bool {
+fn all_come_out(rt: &impl Abort, player: &mut Player, moves: &[Move<'_>]) -> bool {
     for made in moves {
-        if !comes_out(rt, engine, *made) {
+        if !comes_out(rt, player, *made) {
             return false;
         }
     }
@@ -61,24 +58,24 @@ fn all_come_out(rt: &impl Abort, engine: &mut EngineAt<u64>, moves: &[Move<'_>])
 }
 
 /// Makes the move, and says whether it comes out as it is to.
-fn comes_out(rt: &impl Abort, engine: &mut EngineAt<u64>, made: Move<'_>) -> bool {
+fn comes_out(rt: &impl Abort, player: &mut Player, made: Move<'_>) -> bool {
     match made {
-        Move::Assume(number) => assume(rt, engine, number),
-        Move::Propagate(step) => propagate(rt, engine) == is_fixed(step),
+        Move::Assume(number) => is_fixed(player.assume(rt, number)),
+        Move::Propagate(step) => is_fixed(player.propagate(rt)) == is_fixed(step),
         Move::UndoTo(level) => {
-            undo_to(rt, engine, level);
+            player.undo_to(rt, level);
             true
         }
-        Move::Rows(expected) => rows(engine) == expected,
-        Move::Slack(row, expected) => slack(rt, engine, row) == expected,
-        Move::Value(var, expected) => engine.value(var) == expected,
-        Move::Bound(expected) => engine.bound() == expected,
-        Move::Level(expected) => engine.level() == expected,
-        Move::TrailLen(expected) => engine.trail_len() == expected,
-        Move::Literal(place, expected) => is_lit(literal(rt, engine, place), expected),
-        Move::Conflict(expected) => engine.conflict() == expected,
-        Move::ConflictRow(expected) => engine.propagator().conflict_row() == expected,
-        Move::ConflictLits(expected) => conflict_has_lits(engine, expected),
-        Move::Lits(row, expected) => row_has_lits(rt, engine, row, expected),
+        Move::Rows(expected) => player.rows() == expected,
+        Move::Slack(row, expected) => player.slack(rt, row) == expected,
+        Move::Value(var, expected) => player.value(rt, var) == expected,
+        Move::Bound(expected) => player.bound() == expected,
+        Move::Level(expected) => player.level(rt) == expected,
+        Move::TrailLen(expected) => player.trail_len(rt) == expected,
+        Move::Literal(place, expected) => is_lit(player.literal(rt, place), expected),
+        Move::Conflict(expected) => player.conflict(rt) == expected,
+        Move::ConflictRow(expected) => player.conflict_row(rt) == expected,
+        Move::ConflictLits(expected) => player.conflict_has_lits(expected),
+        Move::Lits(row, expected) => player.row_has_lits(rt, row, expected),
     }
 }

@@ -1,8 +1,7 @@
 //! Which literals an engine fixes. No answer rests on it: what is fixed saves decisions.
 
 use super::forms::form;
-use super::moves::engine_of;
-use pb_engine::Fixed;
+use pb_engine::{EngineAt, Fixed};
 use pb_inst::Number;
 use pb_normal::Form;
 use std::alloc::Global;
@@ -21,7 +20,7 @@ fn shown(fixed: Option<Fixed>) -> Option<(u32, bool)> {
 fn first_fixed(rt: &impl Abort, alloc: Global) -> [Option<(u32, bool)>; 2] {
     let costs = &[(1, 1), (1, 2), (10, 600)];
     let form: Form<u64> = form(rt, alloc, 600, costs, &[(&[(1, 1), (1, 2)], 1)]);
-    let mut engine = engine_of(rt, alloc, &form, &[]);
+    let mut engine = EngineAt::new(alloc, &form, &[]).expect(rt, "memory");
     let bound = engine.bound();
     engine.relaxed_bound(bound, Number::MAX);
     let first = shown(engine.fixed_literal(LIMIT));

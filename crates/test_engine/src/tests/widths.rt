@@ -1,82 +1,79 @@
 //! The same course with counters of 64 and of 128 bits.
 
-use super::forms::{Terms, form};
-use super::moves::{assume, engine_of, propagate, rows, slack, undo_to};
+use super::forms::{Terms, form, is_fixed};
+use super::player::Player;
 use pb_count::Coefficient;
-use pb_engine::EngineAt;
-use pb_inst::Number;
-use pb_normal::Form;
+use pb_inst::{Magnitude, Number};
 use std::alloc::Global;
 use std::process::Abort;
 
+/// What an engine says between two steps: its bound, the value of each variable, and the slack of each row.
+type Look = (Number, Vec<Option<bool>>, Vec<Option<Magnitude>>);
+
+fn look<C: Coefficient>(rt: &impl Abort, alloc: Global, player: &mut Player<C>) -> Look {
+    let mut values = Vec::new(alloc);
+    for var in 1..=player.vars() {
+        values.push(player.value(rt, var)).expect(rt, "memory");
+    }
+    let mut slacks = Vec::new(alloc);
+    for row in 0..player.rows() {
+        slacks.push(player.slack(rt, row)).expect(rt, "memory");
+    }
+    (player.bound(), values, slacks)
+}
+
 /// Assumes the literal where it can be assumed, and propagates.
-fn step<C: Coefficient>(rt: &impl Abort, engine: &mut EngineAt<C>, number: i32) {
-    if engine.conflict() || engine.value(number.unsigned_abs()).is_some() {
+fn step<C: Coefficient>(rt: &impl Abort, player: &mut Player<C>, number: i32) {
+    if player.conflict(rt) || player.value(rt, number.unsigned_abs()).is_some() {
         return;
     }
-    if assume(rt, engine, number) {
-        let _is_fixed = propagate(rt, engine);
+    if is_fixed(player.assume(rt, number)) {
+        let _found = player.propagate(rt);
     }
 }
 
-fn say_the_same_values(narrow: &EngineAt<u64>, wide: &EngineAt<u128>) -> bool {
-    for var in 1..=narrow.vars() {
-        if narrow.value(var) != wide.value(var) {
-            return false;
-        }
-    }
-    true
-}
-
-fn say_the_same_slacks(rt: &impl Abort, narrow: &EngineAt<u64>, wide: &EngineAt<u128>) -> bool {
-    for row in 0..rows(narrow) {
-        if slack(rt, narrow, row) != slack(rt, wide, row) {
-            return false;
-        }
-    }
-    rows(narrow) == rows(wide)
-}
-
-/// Whether the engines say the same: the bound, the value of each variable, and the slack of each row.
-fn say_the_same(rt: &impl Abort, narrow: &mut EngineAt<u64>, wide: &mut EngineAt<u128>) -> bool {
-    narrow.bound() == wide.bound()
-        && say_the_same_values(narrow, wide)
-        && say_the_same_slacks(rt, narrow, wide)
-}
-
-/// Whether the engines say the same as they assume all variables one after another with one sign, and take them all back.
-fn agree_on(
+/// What an engine says as it assumes all variables one after another with one sign, and takes them all back.
+fn course<C: Coefficient>(
     rt: &impl Abort,
-    narrow: &mut EngineAt<u64>,
-    wide: &mut EngineAt<u128>,
+    alloc: Global,
+    player: &mut Player<C>,
     sign: i32,
-) -> bool {
-    for var in 1..=narrow.vars() {
+) -> Vec<Look> {
+    let mut looks = Vec::new(alloc);
+    for var in 1..=player.vars() {
         let number = i32::try_from(var).expect(rt, "a number");
-        step(rt, narrow, sign.wrapping_mul(number));
-        step(rt, wide, sign.wrapping_mul(number));
-        if !say_the_same(rt, narrow, wide) {
-            return false;
-        }
+        step(rt, player, sign.wrapping_mul(number));
+        looks.push(look(rt, alloc, player)).expect(rt, "memory");
     }
-    undo_to(rt, narrow, 0);
-    undo_to(rt, wide, 0);
-    say_the_same(rt, narrow, wide)
+    player.undo_to(rt, 0);
+    looks.push(look(rt, alloc, player)).expect(rt, "memory");
+    looks
 }
 
-/// Whether engines of both widths say the same, false values first.
+/// The looks of a course over an engine of this width, false values first.
+fn looks<C: Coefficient>(
+    rt: &impl Abort,
+    alloc: Global,
+    vars: u32,
+    costs: Terms<'_>,
+    rows: &[(Terms<'_>, Number)],
+) -> (Vec<Look>, Vec<Look>) {
+    let form = form::<C>(rt, alloc, vars, costs, rows);
+    let mut player = Player::new(rt, alloc, &form, &[]);
+    let negative = course(rt, alloc, &mut player, -1);
+    (negative, course(rt, alloc, &mut player, 1))
+}
+
+/// Whether engines of both widths say the same.
 fn agree(
     rt: &impl Abort,
     alloc: Global,
     vars: u32,
     costs: Terms<'_>,
-    constraints: &[(Terms<'_>, Number)],
+    rows: &[(Terms<'_>, Number)],
 ) -> bool {
-    let form_of_64_bits: Form<u64> = form(rt, alloc, vars, costs, constraints);
-    let form_of_128_bits: Form<u128> = form(rt, alloc, vars, costs, constraints);
-    let mut narrow = engine_of(rt, alloc, &form_of_64_bits, &[]);
-    let mut wide = engine_of(rt, alloc, &form_of_128_bits, &[]);
-    agree_on(rt, &mut narrow, &mut wide, -1) && agree_on(rt, &mut narrow, &mut wide, 1)
+    let narrow = looks::<u64>(rt, alloc, vars, costs, rows);
+    narrow == looks::<u128>(rt, alloc, vars, costs, rows)
 }
 
 #[test]
@@ -103,9 +100,9 @@ fn wide_counters_say_the_same_of_great_sums(rt: HostRuntime) {
 
 /// The bound of an engine over a row of two literals that cost this, and whether it has multipliers.
 fn first_bound(rt: &impl Abort, alloc: Global, costs: Terms<'_>) -> (Number, bool) {
-    let form: Form<u128> = form(rt, alloc, 2, costs, &[(&[(1, 1), (1, 2)], 1)]);
-    let mut engine = engine_of(rt, alloc, &form, &[]);
-    (engine.bound(), engine.multipliers_pay())
+    let form = form::<u128>(rt, alloc, 2, costs, &[(&[(1, 1), (1, 2)], 1)]);
+    let mut player = Player::new(rt, alloc, &form, &[]);
+    (player.bound(), player.multipliers_pay())
 }
 
 /// Costs beyond 64 bits are counted, with multipliers where a scale of 1 at least fits beside them, and without elsewhere.
