@@ -1,6 +1,8 @@
 //! `pbcube_task`: a task's share of the pieces of a pseudo-Boolean instance, searched from the command line.
 #![tactic(auto)]
 
+ghost use Rattle.std.specs.Prelude.{◌≡◌};
+
 mod faults;
 mod places;
 mod reporting;
@@ -9,14 +11,47 @@ mod searching;
 
 use crate::places::Places;
 use crate::run::{out_of_memory, program};
-use pb_files::SystemFiles;
-use pb_line::{LastFault, Noting, Program, main_with};
+use pb_files::Folders;
+use pb_line::{LastFault, Noting, texts_of, words_of};
 use pb_notes::Folder;
 use pb_solve::Device;
 use std::alloc::Global;
-use std::io::{self, Error, ErrorKind};
+use std::fs::{self, File};
+use std::io::{self, Error, ErrorKind, Write};
 use std::process::ExitCode;
-use std::thread::Threads;
+
+/// The files and folders of the system.
+#[derive(Drop)]
+struct SystemFolders<'a> {
+    rt: &'a HostRuntime,
+}
+
+impl Folders for SystemFolders<'_> {
+    ghost reads = { λ folders name text after. after ≡ folders };
+
+    ghost makes = { λ folders name after. after ≡ folders };
+
+    ghost looks = { λ folders name there after. after ≡ folders };
+
+    ghost writes = { λ folders name text after. after ≡ folders };
+
+    fn read(&mut self, name: &str) -> io::Result<Vec<u8>> {
+        fs::read(self.rt, name)
+    }
+
+    fn make_folder(&mut self, name: &str) -> io::Result<()> {
+        fs::create_dir_all(self.rt, name)
+    }
+
+    fn exists(&mut self, name: &str) -> io::Result<bool> {
+        fs::exists(self.rt, name)
+    }
+
+    fn write_new(&mut self, name: &str, text: &[u8]) -> io::Result<()> {
+        let mut file = File::create_new(self.rt, name)?;
+        file.write_all(text)
+    }
+}
 
 /// The folders of the system, in which notes can lie.
 #[derive(Drop)]
@@ -43,42 +78,35 @@ impl<'a> Places<Folder<'a, HostRuntime>> for SystemPlaces<'a> {
     }
 }
 
-/// The program on the system's files and outputs, with threads.
-#[derive(Drop)]
-struct System<'a, T> {
-    rt: &'a HostRuntime,
-    threads: &'a T,
-}
-
-impl<T: Threads + Sync> Program for System<'_, T> {
-    fn run(&self, words: &[&str]) -> u8 {
-        let rt = self.rt;
-        let faults = LastFault::new();
-        program(
-            self.threads,
-            rt.alloc(),
-            words,
-            &mut SystemFiles { rt },
-            &SystemPlaces { rt },
-            &faults,
-            &mut Device::new(Noting::new(rt.stdout(), &faults)),
-            &mut rt.stderr(),
-        )
-    }
-
-    fn end_without_memory(&self) -> u8 {
-        let faults = LastFault::new();
-        let mut out = Device::new(Noting::new(self.rt.stdout(), &faults));
-        out_of_memory(&faults, &mut out, &mut self.rt.stderr())
-    }
-}
-
+/// Runs the program on the system's words, files and outputs. Words that are no text end with status 2.
 fn main(rt: HostRuntime) -> ExitCode {
-    main_with(
-        &rt,
-        &System {
-            rt: &rt,
-            threads: &rt,
-        },
-    )
+    let faults = LastFault::new();
+    let mut out = Device::new(Noting::new(rt.stdout(), &faults));
+    let mut err = rt.stderr();
+    let texts = match texts_of(&rt) {
+        Ok(texts) => texts,
+        Err(fault) => {
+            return if fault.kind() == ErrorKind::OutOfMemory {
+                ExitCode::from(out_of_memory(&faults, &mut out, &mut err))
+            } else {
+                ExitCode::from(2)
+            };
+        }
+    };
+    let mut folders = SystemFolders { rt: &rt };
+    let places = SystemPlaces { rt: &rt };
+    let status = match words_of(rt.alloc(), &texts) {
+        Ok(words) => program(
+            &rt,
+            rt.alloc(),
+            &words,
+            &mut folders,
+            &places,
+            &faults,
+            &mut out,
+            &mut err,
+        ),
+        Err(_) => out_of_memory(&faults, &mut out, &mut err),
+    };
+    ExitCode::from(status)
 }

@@ -101,11 +101,11 @@ fn run_task<
         Ok(prepared) => prepared,
         Err(fault) => return report_undivided(out, fault),
     };
-    let reported = match search(rt, alloc, line, &prepared, places, err) {
-        Ok(answer) => report_part(out, line, &prepared, &answer),
-        Err(SolveFault::Memory) => report_memory(out),
+    let status = match search(rt, alloc, line, &prepared, places, err) {
+        Ok(answer) => report_part(out, line, &prepared, &answer)?,
+        Err(SolveFault::Memory) => report_memory(out)?,
     };
-    Ok(reported?)
+    Ok(status)
 }
 
 /// Reports why an instance was not divided, unless a file could not be read.
