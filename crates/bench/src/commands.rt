@@ -34,14 +34,12 @@ pub fn command_of(text: &[u8]) -> (Command, &[u8]) {
 fn line_len(text: &[u8]) -> usize
     ensures { result ≤ length text.now }
 {
-    let mut len = 0;
-    while len < text.len() {
-        len += 1;
-        if text[len - 1] == b'\n' {
-            break;
+    for place in 0..text.len() {
+        if text[place] == b'\n' {
+            return place + 1;
         }
     }
-    len
+    text.len()
 }
 
 /// What the words of the line ask for.
