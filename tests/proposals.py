@@ -43,16 +43,16 @@ CONSTANTS = {  # what they are in the copy
     ("pb_lagrange/src/relaxation.rt", "FAR"): 2,
     ("pb_lagrange/src/effort.rt", "FIRST_INTERVAL"): 4,
     ("pb_dual/src/multipliers.rt", "FIXING_WINDOW"): 2,
-    ("pb_subtree/src/root_work.rt", "LEAST_VARIABLES"): 0,
-    ("pb_subtree/src/root_work.rt", "LEAST_DECISIONS"): 0,
-    ("pb_subtree/src/probing.rt", "LEAST_CREDIT"): 0,
-    ("pb_subtree/src/probing.rt", "LEAST_CREDIT_OF_A_DECISION"): 0,
+    ("pb_control/src/root_work.rt", "LEAST_VARIABLES"): 0,
+    ("pb_control/src/root_work.rt", "LEAST_DECISIONS"): 0,
+    ("pb_control/src/probing.rt", "LEAST_CREDIT"): 0,
+    ("pb_control/src/probing.rt", "LEAST_CREDIT_OF_A_DECISION"): 0,
 }
 LINES = {  # what they become in the copy
     ("pb_inst/src/lib.rt", "mod cubes;"): "mod cubes;\nmod draws;",
     ("pb_inst/src/lib.rt", "pub use cubes::Cube;"): "pub use cubes::Cube;\npub use draws::{drawn, drawn_multiplier};",
     ("pb_lagrange/src/relaxation/passes.rt", "        self.is_renewed || self.nodes == LONG_PATIENCE"): "        self.is_renewed || self.nodes % 4 == 1",
-    ("pb_subtree/src/root_work.rt", "        self.returns = u32::MAX;"): "        self.returns = 3;",
+    ("pb_control/src/root_work.rt", "        self.returns = u32::MAX;"): "        self.returns = 3;",
     (f"{PROGRAM}/src/solving.rt", "        split: 0,"): "        split: (text.len() % 3) as u32,",
 }
 

@@ -1,2 +1,1 @@
-pub mod BudgetLemmas
 pub mod DiveLemmas

@@ -1,2 +1,1 @@
-pub mod Budget
 pub mod Dives

@@ -5,7 +5,7 @@ ghost use Rattle.pb_inst.specs.declared.limits.TheConstants.{MAX_VARS};
 ghost use Rattle.pb_engine.specs.EngineState.{EngineState};
 ghost use Rattle.pb_engine.specs.Free.{IsFree};
 ghost use Rattle.pb_engine.specs.Soundness.{IsSoundTrail};
-ghost use Rattle.pb_dive.specs.Budget.{one_more, with_more};
+ghost use Rattle.pb_control.specs.Budget.{one_more, with_more};
 ghost use Rattle.pb_dive.specs.Dives.{LeadsBack, IsGoingOn};
 
 use crate::path::{DiveBranch, DivePath};

@@ -7,11 +7,9 @@
 //! dive can go on: so a search that has to do something else from time to time dives in parts.
 #![tactic(auto)]
 
-mod budget;
 mod dive;
 mod path;
 mod steps;
 
-pub use budget::count_down;
 pub use dive::{Descent, MAX_DECISIONS, Progress, begin_descent, descend};
 pub use path::{DiveBranch, DivePath};

@@ -5,11 +5,11 @@ ghost use Rattle.pb_inst.specs.declared.limits.TheConstants.{MAX_VARS};
 ghost use Rattle.pb_engine.specs.EngineState.{EngineState};
 ghost use Rattle.pb_engine.specs.Free.{IsFree};
 ghost use Rattle.pb_engine.specs.Soundness.{IsFull, IsSolved, IsSoundTrail};
-ghost use Rattle.pb_dive.specs.Budget.{one_more};
+ghost use Rattle.pb_control.specs.Budget.{one_more};
 ghost use Rattle.pb_dive.specs.Dives.{LeadsBack};
 
-use crate::budget::count_down;
 use crate::path::{DiveBranch, DivePath};
+use pb_control::count_down;
 use pb_engine::{Coefficient, EngineAt, Step, is_free, lowest_free};
 use pb_inst::{Lit, Number};
 

@@ -2,15 +2,13 @@
 //!
 //! `classify_node` has the bounds of the engine compared with the best cost (`pruning`), and looks for literals whose negation has
 //! nothing to give: at a tie by the order of assignments, else by reduced costs (`reduced_cost_fixing`). What a tie is settled by, the
-//! `agreed_prefix` of trail and best assignment, goes along with the search, and so do its `hints` of where to look on.
+//! `agreed_prefix` of trail and best assignment, goes along with the search.
 #![tactic(auto)]
 
 mod agreed_prefix;
-mod hints;
 mod pruning;
 mod reduced_cost_fixing;
 
 pub use agreed_prefix::AgreedPrefix;
-pub use hints::Hints;
-pub use pruning::{Pruning, is_closed_since};
+pub use pruning::is_closed_since;
 pub use reduced_cost_fixing::{Verdict, classify_node};

@@ -7,20 +7,9 @@ ghost use Rattle.pb_prune.specs.Subtree.{HasOnesWithin, IsClosed, IsEngineOf, Is
 ghost use Rattle.pb_prune.specs.AgreedPrefix.{KnowsPrefix, KnowsHeldPrefix};
 
 use crate::agreed_prefix::AgreedPrefix;
+use pb_control::Pruning;
 use pb_engine::{Coefficient, EngineAt, settled_from};
 use pb_inst::{Assignment, Best, Lit, Number};
-
-/// What the bound says of a subtree.
-#[derive(Clone, Copy, PartialEq, Eq)]
-pub enum Pruning {
-    /// Something in it may cost less than the best assignment.
-    Open,
-    /// Nothing in it costs less, but an assignment that costs as much may come before the best one, whose first
-    /// difference to the trail with zeros elsewhere is at this variable.
-    Tied(u32),
-    /// Nothing in it comes before the best assignment.
-    Closed,
-}
 
 /// What the bounds say of the subtree below the trail, and the greatest of them that was taken: none where none was.
 fn check_bound<C: Coefficient>(

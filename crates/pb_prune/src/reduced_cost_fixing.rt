@@ -6,8 +6,8 @@ ghost use Rattle.pb_prune.specs.Subtree.{IsClosed, IsEngineOf, IsOpenOnOneSide, 
 ghost use Rattle.pb_prune.specs.AgreedPrefix.{KnowsHeldPrefix};
 
 use crate::agreed_prefix::AgreedPrefix;
-use crate::hints::Hints;
-use crate::pruning::{Pruning, check_multipliers, check_rows, classify_bound, tied_literal};
+use crate::pruning::{check_multipliers, check_rows, classify_bound, tied_literal};
+use pb_control::{Hints, Pruning};
 use pb_engine::{Coefficient, EngineAt, Fixed};
 use pb_inst::{Best, Lit, Number};
 

@@ -4,7 +4,7 @@ use Rattle.std.specs.Option.{IfSome}
 use Rattle.pb_inst.specs.Literal.{Literal}
 use Rattle.pb_inst.specs.Problem.{Problem}
 use Rattle.pb_inst.specs.Meaning.{cost}
-use Rattle.pb_subtree.specs.declared.goal.Goal.{Goal}
+use Rattle.pb_control.specs.declared.goal.Goal.{Goal}
 use Rattle.pb_questions.specs.declared.fixing.Among.{Among}
 use Rattle.pb_questions.specs.declared.fixing.Among.TheVariants.{Feasible, Least}
 use Rattle.pb_questions.specs.declared.fixing.Fixed.{Fixed}

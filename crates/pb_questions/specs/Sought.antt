@@ -4,7 +4,7 @@ use Rattle.std.specs.Option.{IfSome}
 use Rattle.pb_inst.specs.Literal.{Literal}
 use Rattle.pb_inst.specs.Problem.{Problem}
 use Rattle.pb_inst.specs.Meaning.{cost}
-use Rattle.pb_subtree.specs.declared.goal.Goal.{Goal}
+use Rattle.pb_control.specs.declared.goal.Goal.{Goal}
 use Rattle.pb_questions.specs.declared.seeking.Sought.{Sought}
 use Rattle.pb_questions.specs.declared.seeking.Sought.TheVariants.{Found, Nothing, Cut}
 use Rattle.pb_questions.specs.Under.{IsFeasibleUnder}

@@ -5,7 +5,7 @@ ghost use Rattle.std.specs.Option.{is_some};
 ghost use Rattle.pb_inst.specs.Cubes.{MakesTrue};
 ghost use Rattle.pb_inst.specs.declared.limits.TheConstants.{MAX_VARS};
 ghost use Rattle.pb_questions.specs.Form.{IsFormOf};
-ghost use Rattle.pb_subtree.specs.Goal.{IsMet};
+ghost use Rattle.pb_control.specs.Goal.{IsMet};
 ghost use Rattle.pb_questions.specs.Known.{AreAnswersOf, IsAnswerOf, Tells};
 ghost use Rattle.pb_questions.specs.Under.{named_literals, HoldsLeastUnder, HoldsUnder};
 

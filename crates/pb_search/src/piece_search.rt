@@ -5,7 +5,7 @@ ghost use Rattle.pb_normal.specs.NormalForm.{KeepsCost, KeepsFeasible};
 ghost use Rattle.pb_cubes.specs.Pieces.{LiesIn};
 ghost use Rattle.pb_subtree.specs.Held.{IsNotAfter};
 ghost use Rattle.pb_search.specs.Layout.{IsCubeState};
-ghost use Rattle.pb_subtree.specs.Left.{IsLeftOf};
+ghost use Rattle.pb_control.specs.Budget.{IsLeftOf};
 
 use crate::facts::facts_of;
 use crate::piece_tables::PieceTables;

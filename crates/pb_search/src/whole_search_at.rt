@@ -4,9 +4,9 @@ ghost use Rattle.std.specs.Prelude.{◌≡◌, ◌⊎◌, ◌≤◌, [], ◌∷�
 ghost use Rattle.pb_normal.specs.NormalForm.{KeepsCost, KeepsFeasible};
 ghost use Rattle.pb_inst.specs.Cubes.{MakesTrue};
 ghost use Rattle.pb_inst.specs.declared.limits.TheConstants.{MAX_VARS};
-ghost use Rattle.pb_subtree.specs.Goal.{IsMet};
+ghost use Rattle.pb_control.specs.Goal.{IsMet};
 ghost use Rattle.pb_subtree.specs.Held.{IsNotAfter};
-ghost use Rattle.pb_subtree.specs.Left.{IsLeftOf};
+ghost use Rattle.pb_control.specs.Budget.{IsLeftOf};
 
 use pb_engine::{Coefficient, clause_laws};
 use pb_inst::{Assignment, Best, Lit, Memory};

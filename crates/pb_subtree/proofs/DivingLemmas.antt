@@ -11,12 +11,13 @@ use Rattle.pb_engine.specs.EngineState.{EngineState}
 use Rattle.pb_engine.specs.Trail.{value_on}
 use Rattle.pb_engine.specs.Soundness.{assumptions, IsFull, IsSoundTrail}
 use Rattle.pb_dive.specs.Dives.{LeadsBack}
-use Rattle.pb_subtree.specs.Left.{IsPaidFrom, IsDescentPaid}
+use Rattle.pb_control.specs.Budget.{IsPaidFrom}
+use Rattle.pb_subtree.specs.Descent.{IsDescentPaid}
 use Rattle.pb_subtree.specs.Nodes.{IsFoundAt}
 use Rattle.pb_subtree.specs.declared.search_state.SearchState.{SearchState}
 use Rattle.pb_prune.specs.Solutions.{SameConstraints, Completes}
 use Rattle.pb_subtree.specs.SearchState.{IsSameBeside, SameBranches}
-use Rattle.pb_subtree.proofs.BudgetLemmas.{paid_of_more}
+use Rattle.pb_control.proofs.BudgetLemmas.{paid_of_more}
 use Rattle.pb_subtree.proofs.Engines.{same_constraints_itself, same_constraints_onward}
 use Rattle.pb_subtree.proofs.RootLemmas.{front_true}
 use Rattle.pb_subtree.proofs.SearchLemmas.{same_solution, back_solution, assumptions_true}

@@ -7,7 +7,7 @@ use Rattle.pb_inst.specs.Problem.{Problem}
 use Rattle.pb_engine.specs.EngineState.{EngineState}
 use Rattle.pb_engine.specs.Free.{IsFree}
 use Rattle.pb_engine.specs.Soundness.{IsSoundTrail}
-use Rattle.pb_subtree.specs.declared.branch.Branch.{Branch}
+use Rattle.pb_control.specs.declared.branch.Branch.{Branch}
 use Rattle.pb_subtree.specs.declared.search_state.SearchState.{SearchState}
 use Rattle.pb_prune.specs.Held.{MovesOn}
 use Rattle.pb_subtree.specs.Nodes.{IsBackFromDive, IsExpanded, IsFoundAt}

@@ -5,7 +5,7 @@ pub mod LeafLemmas
 pub mod Moves
 pub mod SearchLemmas
 pub mod RootLemmas
-pub mod BudgetLemmas
+pub mod DescentLemmas
 pub mod DivingLemmas
 pub mod ProbingLemmas
 pub mod ExpandLemmas

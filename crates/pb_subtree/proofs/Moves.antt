@@ -6,7 +6,7 @@ use Rattle.pb_inst.specs.Literal.{Literal}
 use Rattle.pb_engine.specs.Trail.{value_on}
 use Rattle.pb_engine.specs.EngineState.{EngineState, trail_before}
 use Rattle.pb_engine.specs.Soundness.{assumptions, IsSoundTrail}
-use Rattle.pb_subtree.specs.declared.branch.Branch.{Branch}
+use Rattle.pb_control.specs.declared.branch.Branch.{Branch}
 use Rattle.pb_subtree.specs.Paths.{decided, IsOtherValue}
 use Rattle.pb_engine.specs.Free.{IsFree}
 use Rattle.pb_subtree.specs.SearchState.{IsAtPath}

@@ -12,9 +12,8 @@ use Rattle.pb_normal.specs.NormalForm.{PositiveRow, NormalForm, MeetsRows, Keeps
 use Rattle.pb_engine.specs.EngineState.{EngineState}
 use Rattle.pb_engine.specs.Propagation.{AddsForced}
 use Rattle.pb_engine.specs.Soundness.{assumptions, literal_at, IsSoundTrail}
-use Rattle.pb_subtree.specs.declared.branch.Branch.{Branch}
+use Rattle.pb_control.specs.declared.branch.Branch.{Branch}
 use Rattle.pb_subtree.specs.declared.search_state.SearchState.{SearchState}
-use Rattle.pb_subtree.specs.declared.root_work.RootWork.{RootWork}
 use Rattle.pb_prune.specs.Held.{IsNotAfter}
 use Rattle.pb_subtree.specs.Paths.{decided, search_steps, LiesOpen, LeavesOpen, IsOtherValue}
 use Rattle.pb_prune.specs.Solutions.{SameConstraints, Satisfies, SatisfiesUnder, Completes}
@@ -92,7 +91,7 @@ state_moves p u w same room candidate h = record {
 }
 
 -- propagation keeps the place
-pub place_propagated : {C : Type 0} (t u : SearchState C) (trail : List Literal) (conflict : Bool) → IsSoundTrail t.engine → u.engine ≡ record t.engine { trail = trail; conflict = conflict } → AddsForced t.engine.rows t.engine.trail trail → u.branches ≡ t.branches → length u.candidate ≡ length t.candidate → u.root_work.returns ≡ t.root_work.returns → SameBranches t u
+pub place_propagated : {C : Type 0} (t u : SearchState C) (trail : List Literal) (conflict : Bool) → IsSoundTrail t.engine → u.engine ≡ record t.engine { trail = trail; conflict = conflict } → AddsForced t.engine.rows t.engine.trail trail → u.branches ≡ t.branches → length u.candidate ≡ length t.candidate → u.root_work ≡ t.root_work → SameBranches t u
 place_propagated t u trail conflict sound added forced branches room returns = record {
   constraints = same_constraints t.engine u.engine trail t.engine.levels conflict added;
   assumptions = propagated t.engine u.engine trail conflict sound added forced;
@@ -197,7 +196,7 @@ leaving_on p start t u b held step spent h =
     no_choice flipped (inr closed) isnt none = none closed
 
 -- other notes of the work at the root
-pub with_work : {C : Type 0} (p : Problem) (start : EngineState) (t : SearchState C) (w : RootWork) (held : Option Solution) → IsUnderWay p start t held → IsUnderWay p start (record t { root_work = w }) held
+pub with_work : {C : Type 0} (p : Problem) (start : EngineState) (t : SearchState C) (w : ℕ) (held : Option Solution) → IsUnderWay p start t held → IsUnderWay p start (record t { root_work = w }) held
 with_work p start t w held h = record {
   made_for = record { engine = h.made_for.engine; few_variables = h.made_for.few_variables; candidate = h.made_for.candidate; room = h.made_for.room };
   at_path = h.at_path;
@@ -205,7 +204,7 @@ with_work p start t w held h = record {
   all_open = h.all_open;
 }
 
-pub leaving_with_work : {C : Type 0} (p : Problem) (start : EngineState) (t : SearchState C) (w : RootWork) (held : Option Solution) → IsLeaving p start t held → IsLeaving p start (record t { root_work = w }) held
+pub leaving_with_work : {C : Type 0} (p : Problem) (start : EngineState) (t : SearchState C) (w : ℕ) (held : Option Solution) → IsLeaving p start t held → IsLeaving p start (record t { root_work = w }) held
 leaving_with_work p start t w held h = record {
   made_for = record { engine = h.made_for.engine; few_variables = h.made_for.few_variables; candidate = h.made_for.candidate; room = h.made_for.room };
   at_path = h.at_path;
@@ -278,8 +277,8 @@ pub at_next : {C : Type 0} (p q : Problem) (start : EngineState) (t u : SearchSt
 at_next p q start t u b old new same f h = at_problem p q (λ (x : Problem). IsUnderWay x start t old) (λ (x : Problem). IsNext x start u b new) same f h
 
 -- the decision that is made leaves fewer steps
-pub next_falls : {C : Type 0} (p q : Problem) (vars : ℕ) (old new : SearchState C) (path : List Branch) (b : Branch) → q ≡ p → LeavesFewer q old new b → path ≡ new.branches.items ++ b ∷ [] → length path ≤ vars → vars ≡ p.vars → search_steps p.vars new.root_work.returns path < search_steps p.vars old.root_work.returns old.branches.items
+pub next_falls : {C : Type 0} (p q : Problem) (vars : ℕ) (old new : SearchState C) (path : List Branch) (b : Branch) → q ≡ p → LeavesFewer q old new b → path ≡ new.branches.items ++ b ∷ [] → length path ≤ vars → vars ≡ p.vars → search_steps p.vars new.root_work path < search_steps p.vars old.root_work old.branches.items
 next_falls p q vars old new path b same fewer added few is =
     let n : length path ≡ length new.branches.items + 1 = ap (λ (x : List Branch). length x) added ∙ length-append new.branches.items (b ∷ []) in
     let low : length new.branches.items < p.vars = omega arith in
-    subst (λ (x : List Branch). search_steps p.vars new.root_work.returns x < search_steps p.vars old.root_work.returns old.branches.items) (sym added) (subst (λ (x : Problem). LeavesFewer x old new b) same fewer low)
+    subst (λ (x : List Branch). search_steps p.vars new.root_work x < search_steps p.vars old.root_work old.branches.items) (sym added) (subst (λ (x : Problem). LeavesFewer x old new b) same fewer low)

@@ -1,8 +1,7 @@
-pub mod Left
+pub mod Descent
 pub mod Paths
 pub mod SearchState
 pub mod Made
 pub mod Nodes
-pub mod Goal
 pub use Rattle.pb_prune.specs.Held
 pub use Rattle.pb_prune.specs.Solutions

@@ -2,7 +2,7 @@
 use Rattle.std.specs.Prelude.{◌≡◌, ℕ, ◌+◌, ◌*◌, ◌-◌, ◌^◌, Bool, true, false, not, List, [], ◌∷◌, map, ◌⊎◌, if◌then◌else◌}
 use Rattle.pb_inst.specs.Literal.{Literal}
 use Rattle.pb_inst.specs.Meaning.{literal_value}
-use Rattle.pb_subtree.specs.declared.branch.Branch.{Branch}
+use Rattle.pb_control.specs.declared.branch.Branch.{Branch}
 
 -- the literals that were decided
 abbrev pub decided : List Branch → List Literal

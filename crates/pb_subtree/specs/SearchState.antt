@@ -7,7 +7,7 @@ use Rattle.pb_inst.specs.declared.limits.TheConstants.{MAX_VARS}
 use Rattle.pb_engine.specs.EngineState.{EngineState}
 use Rattle.pb_engine.specs.Free.{IsFree}
 use Rattle.pb_engine.specs.Soundness.{assumptions, IsSoundTrail}
-use Rattle.pb_subtree.specs.declared.branch.Branch.{Branch}
+use Rattle.pb_control.specs.declared.branch.Branch.{Branch}
 use Rattle.pb_subtree.specs.declared.search_state.SearchState.{SearchState}
 use Rattle.pb_prune.specs.Held.{IsImprovement}
 use Rattle.pb_subtree.specs.Paths.{decided, LiesOpen, LeavesOpen, search_steps}
@@ -38,13 +38,13 @@ pub record SameBranches {C : Type 0} (old new : SearchState C) : Type 0 where
   pub assumptions : assumptions new.engine ≡ assumptions old.engine
   pub branches : new.branches ≡ old.branches
   pub room : length new.candidate ≡ length old.candidate
-  pub returns : new.root_work.returns ≡ old.root_work.returns
+  pub returns : new.root_work ≡ old.root_work
 
 -- beside the engine all is the same that a search goes by: decisions, room, and as many steps back to the root
 pub record IsSameBeside {C : Type 0} (old new : SearchState C) : Type 0 where
   pub branches : new.branches ≡ old.branches
   pub room : length new.candidate ≡ length old.candidate
-  pub returns : new.root_work.returns ≡ old.root_work.returns
+  pub returns : new.root_work ≡ old.root_work
 
 -- the assignment has 1 where the trail says so, and 0 elsewhere
 abbrev pub IsFilledFrom : List Literal → List Bool → Type 0
@@ -82,7 +82,7 @@ pub record IsNext {C : Type 0} (p : Problem) (start : EngineState) (t : SearchSt
 
 -- the decision leaves fewer steps
 abbrev pub LeavesFewer : {C : Type 0} → Problem → SearchState C → SearchState C → Branch → Type 0
-LeavesFewer {C} p old new next = length new.branches.items < p.vars → search_steps p.vars new.root_work.returns (new.branches.items ++ next ∷ []) < search_steps p.vars old.root_work.returns old.branches.items
+LeavesFewer {C} p old new next = length new.branches.items < p.vars → search_steps p.vars new.root_work (new.branches.items ++ next ∷ []) < search_steps p.vars old.root_work old.branches.items
 
 -- no solution below the start is before what is held
 abbrev pub IsSearched : Problem → EngineState → Option Solution → Type 0

@@ -3,15 +3,14 @@
 ghost use Rattle.std.specs.Prelude.{◌≡◌, false, IfSome};
 ghost use Rattle.pb_engine.specs.Soundness.{IsSoundTrail};
 ghost use Rattle.pb_prune.specs.Subtree.{IsEngineOf, IsOpenOnOneSide};
-ghost use Rattle.pb_subtree.specs.Left.{IsLeftOf};
+ghost use Rattle.pb_control.specs.Budget.{IsLeftOf};
 ghost use Rattle.pb_subtree.specs.SearchState.{IsSameBeside};
 
 use crate::probing::find_failed;
 use crate::search_state::SearchState;
-use crate::ties::Ties;
+use pb_control::{Pruning, RootWork};
 use pb_engine::{Coefficient, EngineAt};
 use pb_inst::{Best, Lit, Number};
-use pb_prune::Pruning;
 
 /// Works at the root, where the search stands there. Gives a literal whose negation has nothing to give, or none where none
 /// was found. Its trials are decisions. Once ties alone are left there is nothing to work for.
@@ -34,13 +33,12 @@ pub fn work_at_root<C: Coefficient>(
     if !work.is_at_root(&state.branches) {
         return None;
     }
-    note_root_bound(&mut work.ties, &mut state.engine, bound);
+    note_root_bound(work, &mut state.engine, bound);
     let (length, cost) = (state.engine.trail_len(), best.cost());
     if !work.is_round_due(pruning, length, cost) {
         return None;
     }
-    let (probing, looks) = (&mut work.probing, &mut work.looks);
-    let found = find_failed(&mut state.engine, probing, looks, best, left);
+    let found = find_failed(&mut state.engine, work, best, left);
     if found.is_none() {
         work.end_round(length, cost);
     }
@@ -48,11 +46,18 @@ pub fn work_at_root<C: Coefficient>(
 }
 
 /// Notes the bound that was taken at the root; where none was, that of disjoint rows once.
-fn note_root_bound<C: Coefficient>(ties: &mut Ties, engine: &mut EngineAt<C>, bound: Option<Number>)
-    ensures { engine.new ≡ engine.old }
+fn note_root_bound<C: Coefficient>(
+    work: &mut RootWork,
+    engine: &mut EngineAt<C>,
+    bound: Option<Number>,
+)
+    ensures engine { engine.new ≡ engine.old }
+    ensures work { work.new ≡ work.old }
 {
-    if bound.is_none() && ties.root_bound.is_none() {
-        ties.root_bound = Some(engine.bound());
-    }
-    ties.root_bound = ties.root_bound.max(bound);
+    let taken = if bound.is_none() && !work.has_root_bound() {
+        Some(engine.bound())
+    } else {
+        bound
+    };
+    work.note_root_bound(taken);
 }

@@ -10,8 +10,8 @@ ghost use Rattle.pb_prune.specs.Subtree.{IsClosed, IsEngineOf};
 ghost use Rattle.pb_engine.specs.Free.{IsFree};
 ghost use Rattle.pb_subtree.specs.SearchState.{IsStateOf, IsAtPath, IsAtSomePath, IsLeaving, IsNext, IsSearched, LeavesFewer};
 
-use crate::branch::Branch;
 use crate::search_state::SearchState;
+use pb_control::Branch;
 use pb_engine::{Coefficient, EngineAt};
 use pb_inst::Best;
 use pb_prune::{AgreedPrefix, is_closed_since};
@@ -56,7 +56,7 @@ pub fn backtrack<C: Coefficient>(
     ensures finished { IfNone result ((start : EngineState) → IsLeaving best.now.problem start state.old best.now.held → IsSearched best.now.problem start best.now.held) }
     ensures made_for { IsStateOf best.now.problem state.new }
     ensures constraints { SameConstraints state.old.engine state.new.engine }
-    ensures returns { state.new.root_work.returns ≡ state.old.root_work.returns }
+    ensures returns { state.new.root_work ≡ state.old.root_work }
     ensures known { KnowsHeldPrefix state.new.engine.trail best.now.held agreed.new }
 {
     while let Some(branch) = undo_decision(&mut state.engine, &mut state.branches, best, agreed) {

@@ -1,42 +1,14 @@
-//! A decision of the search, and how one is made.
+//! How a decision of the search is made.
 
 ghost use Rattle.std.specs.Prelude.{◌≡◌, ◌≢◌, ◌++◌, ◌∷◌, [], ◌≤◌, List, length, vec_capacity, Some, true};
 ghost use Rattle.pb_inst.specs.Literal.{Literal};
 ghost use Rattle.pb_prune.specs.Solutions.{SameConstraints};
 ghost use Rattle.pb_engine.specs.Free.{IsFree};
 ghost use Rattle.pb_subtree.specs.SearchState.{IsAtPath, IsAtSomePath};
-ghost use Rattle.pb_dive.specs.Budget.{one_more};
+ghost use Rattle.pb_control.specs.Budget.{one_more};
 
-use pb_dive::count_down;
+use pb_control::{Branch, count_down};
 use pb_engine::{Coefficient, EngineAt};
-use pb_inst::{Lit, Number};
-use pb_prune::Hints;
-
-/// A decision of the search.
-#[derive(Clone, Copy)]
-pub struct Branch {
-    /// The literal that is assumed.
-    pub lit: Lit,
-    /// Whether the other value was tried before it, or has nothing to give.
-    pub flipped: bool,
-    /// The bound of the trail before the decision, or none where none was taken: no more than a hint of whether to ask the
-    /// engine again. It is a cost, in the instance's numbers.
-    pub bound: Option<Number>,
-    pub hints: Hints,
-}
-
-/// The decision for a literal whose negation has nothing to give: its other value counts as tried.
-pub fn one_sided(lit: Lit, bound: Option<Number>, hints: Hints) -> Branch
-    ensures literal { result.lit ≡ lit }
-    ensures flipped { result.flipped ≡ true }
-{
-    Branch {
-        lit,
-        flipped: true,
-        bound,
-        hints,
-    }
-}
 
 /// Adds a decision to the path, assumes its literal, and takes one off what is left of the budget.
 pub fn decide<C: Coefficient>(

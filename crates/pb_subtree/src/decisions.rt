@@ -5,11 +5,10 @@ ghost use Rattle.pb_inst.specs.declared.limits.TheConstants.{MAX_VARS};
 ghost use Rattle.pb_engine.specs.Trail.{value_on};
 ghost use Rattle.pb_engine.specs.Soundness.{IsFull};
 
-use crate::branch::Branch;
+use pb_control::{Branch, Hints, Pruning};
 use pb_engine::{Coefficient, EngineAt, is_free, lowest_free, settled_from};
 use pb_inst::{Lit, Number};
 use pb_order::Order;
-use pb_prune::{Hints, Pruning};
 
 /// A decision of a variable without a value, or none where every variable has one. Any such decision is right. Where the
 /// bound equals the best cost, the lowest variable up to the first difference to the best assignment comes first, 0

@@ -7,7 +7,8 @@ ghost use Rattle.pb_engine.specs.Soundness.{IsFull, IsSolved, IsSoundTrail};
 ghost use Rattle.pb_prune.specs.Held.{MovesOn};
 ghost use Rattle.pb_prune.specs.AgreedPrefix.{KnowsHeldPrefix};
 ghost use Rattle.pb_dive.specs.Dives.{LeadsBack};
-ghost use Rattle.pb_subtree.specs.Left.{IsLeftOf, IsPaidFrom, IsDescentPaid};
+ghost use Rattle.pb_control.specs.Budget.{IsLeftOf, IsPaidFrom};
+ghost use Rattle.pb_subtree.specs.Descent.{IsDescentPaid};
 ghost use Rattle.pb_subtree.specs.Nodes.{IsFoundAt, IsBackFromDive};
 ghost use Rattle.pb_subtree.specs.SearchState.{IsStateOf, IsSameBeside, SameBranches};
 ghost use Rattle.pb_prune.specs.Subtree.{IsEngineOf};
@@ -115,15 +116,15 @@ fn go_down<C: Coefficient, S: Share>(
     ensures paid { IsDescentPaid state.old.engine state.new.engine run.old.left run.new.left }
 {
     let floor = state.engine.level();
-    let first = begin_descent(&mut state.engine, &mut state.root_work.dive);
+    let first = begin_descent(&mut state.engine, &mut state.dive);
     let Some(mut branch) = first else {
         return false;
     };
     let mut rest = most.min(MAX_DECISIONS);
     for _ in 0..MAX_DECISIONS {
-        let part = rest.min(state.root_work.looks.until_due());
+        let part = rest.min(state.root_work.until_look());
         let limit = limit_below(best, run.left);
-        let path = &mut state.root_work.dive;
+        let path = &mut state.dive;
         let left = &mut run.left;
         let descent = descend(&mut state.engine, path, branch, floor, part, limit, left);
         rest = rest.saturating_sub(descent.decisions);

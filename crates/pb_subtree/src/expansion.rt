@@ -7,22 +7,22 @@ ghost use Rattle.pb_engine.specs.Propagation.{AddsForced};
 ghost use Rattle.pb_engine.specs.Soundness.{IsFull, IsSolved, IsSoundTrail};
 ghost use Rattle.pb_engine.specs.Trail.{value_on};
 ghost use Rattle.pb_prune.specs.AgreedPrefix.{KnowsHeldPrefix};
-ghost use Rattle.pb_subtree.specs.Left.{IsLeftOf};
+ghost use Rattle.pb_control.specs.Budget.{IsLeftOf};
 ghost use Rattle.pb_subtree.specs.SearchState.{IsSameBeside, IsStateOf, SameBranches};
 ghost use Rattle.pb_subtree.specs.Nodes.{IsExpanded};
 
 use crate::Share;
 use crate::at_root::work_at_root;
-use crate::branch::{Branch, one_sided};
 use crate::decisions::next_decision;
 use crate::feedback::{last_decided, learn, learn_conflict, learn_gap};
 use crate::improvement::Origin;
 use crate::incumbent::take_leaf;
 use crate::run::Run;
 use crate::search_state::SearchState;
+use pb_control::{Branch, Hints, Pruning, one_sided};
 use pb_engine::{Coefficient, Step};
 use pb_inst::{Best, Number};
-use pb_prune::{Hints, Pruning, Verdict, classify_node};
+use pb_prune::{Verdict, classify_node};
 
 /// Expands the node where the trail stands: propagates, compares the bound, tries literals at the root, and takes a full
 /// trail. Gives the decision to make next, or none where no completion of the trail is before what is held.
@@ -89,7 +89,7 @@ fn propagate<C: Coefficient>(state: &mut SearchState<C>) -> Step
     let length = state.engine.trail_len();
     let step = state.engine.propagate();
     let added = state.engine.trail_len().saturating_sub(length);
-    state.root_work.probing.earn(added);
+    state.root_work.note_propagated(added);
     learn_conflict(&mut state.order, &state.engine, step);
     step
 }
@@ -111,7 +111,7 @@ fn choose<C: Coefficient>(
 {
     let vars = state.candidate.len();
     state.order.lead_by_gains(state.engine.multipliers_pay());
-    let is_calm = state.root_work.ties.is_calm;
+    let is_calm = state.root_work.is_calm();
     let branch = next_decision(
         &state.engine,
         vars,
@@ -121,9 +121,9 @@ fn choose<C: Coefficient>(
         bound,
         is_calm,
     )?;
+    let decisions = state.branches.len();
     state
         .root_work
-        .ties
-        .note(pruning, branch.lit, state.branches.len());
+        .note_decision(pruning, branch.lit, decisions);
     Some(branch)
 }

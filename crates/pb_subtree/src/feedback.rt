@@ -2,10 +2,10 @@
 //! values of a new best assignment. No answer depends on it, so nothing is promised.
 
 use crate::search_state::SearchState;
+use pb_control::Pruning;
 use pb_engine::{Coefficient, EngineAt, Step};
 use pb_inst::{Best, Lit};
 use pb_order::{Gain, Order};
-use pb_prune::Pruning;
 
 /// Of how many ties one after another a bound is taken at each.
 const MOST_TIES: u32 = 2;

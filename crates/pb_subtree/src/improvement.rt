@@ -42,7 +42,7 @@ pub fn tell<C: Coefficient>(
         // What led to it is looked at again: ties above it, and its values.
         Origin::Leaf => {
             agreed.begin_again(best);
-            state.root_work.ties.has_improved = is_better;
+            state.root_work.note_full(is_better);
             learn_values(&mut state.order, best, is_better);
         }
         // The search stays at its root, where more may be fixed now.
@@ -55,7 +55,7 @@ pub fn tell<C: Coefficient>(
         // The node that the dive began at is expanded again.
         Origin::LentToDive => {
             agreed.begin_with_borrowed(best);
-            state.root_work.looks.note_borrowed();
+            state.root_work.note_borrowed();
         }
     }
 }

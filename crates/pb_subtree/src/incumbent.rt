@@ -132,12 +132,12 @@ pub fn borrow_after<C: Coefficient, S: Share>(
     ensures refused { result ≡ false → best.new.held ≡ best.old.held }
     ensures known { (trail : List Literal) → KnowsHeldPrefix trail best.old.held agreed.old → KnowsHeldPrefix trail best.new.held agreed.new }
 {
-    let looks = &mut state.root_work.looks;
-    looks.count(decisions);
-    if !looks.is_due() {
+    let work = &mut state.root_work;
+    work.count(decisions);
+    if !work.is_look_due() {
         return false;
     }
-    looks.begin_again();
+    work.note_look();
     if !borrow(&mut state.candidate, best, share) {
         return false;
     }

@@ -5,9 +5,9 @@
 //! propagates, pb_prune says whether the subtree may be left, and `decisions` names the one (`branch`) to make next, by
 //! the order of pb_order. Where there is none, `incumbent` takes the full trail, and `backtrack` goes back to a decision
 //! whose other value is still to be tried. Conflicts, and what decisions did to the bound, are told to the order
-//! (`feedback`). `root_work` says when the search takes more decisions back (`step_back`): to try literals (`probing`) `at_root` and to
-//! dive from there (`diving`), or since ties alone are left below them (`ties`). Now and then it asks its share for what another
-//! search found (`looks`). All that go by the best assignment are told of another one at one place (`improvement`).
+//! (`feedback`). pb_control says when the search takes more decisions back (`step_back`): to try literals (`probing`) `at_root` and to
+//! dive from there (`diving`), or since ties alone are left below them; and when it asks its share for what another
+//! search found. All that go by the best assignment are told of another one at one place (`improvement`).
 #![tactic(auto)]
 
 mod at_root;
@@ -17,24 +17,20 @@ mod decisions;
 mod diving;
 mod expansion;
 mod feedback;
-mod goal;
 mod improvement;
 mod incumbent;
-mod looks;
 mod node;
 mod outcome;
 mod probing;
 mod root;
-mod root_work;
 mod run;
 mod search_state;
 mod share;
 mod step_back;
-mod ties;
 mod under;
 
-pub use goal::Goal;
 pub use outcome::Outcome;
+pub use pb_control::Goal;
 pub use search_state::SearchState;
 pub use share::{Alone, Share};
 pub use under::search_under;

@@ -3,26 +3,26 @@
 ghost use Rattle.std.specs.Prelude.{◌≡◌, ◌⊎◌, ◌+◌, ◌<◌, false, [], Some, IfSome};
 ghost use Rattle.pb_inst.specs.Incumbent.{IsSound};
 ghost use Rattle.pb_engine.specs.Soundness.{IsSoundTrail};
-ghost use Rattle.pb_subtree.specs.Goal.{IsMet};
+ghost use Rattle.pb_control.specs.Goal.{IsMet};
 ghost use Rattle.pb_prune.specs.Held.{MovesOn};
 ghost use Rattle.pb_prune.specs.Solutions.{SameConstraints};
 ghost use Rattle.pb_prune.specs.AgreedPrefix.{KnowsHeldPrefix};
-ghost use Rattle.pb_subtree.specs.Left.{IsLeftOf};
+ghost use Rattle.pb_control.specs.Budget.{IsLeftOf};
 ghost use Rattle.pb_subtree.specs.SearchState.{IsStateOf, IsAtSomePath, LeavesFewer, IsSearched, IsOwn};
 ghost use Rattle.pb_subtree.specs.Nodes.{IsExpanded, IsFurther};
 
 use crate::Share;
 use crate::backtrack::backtrack;
-use crate::branch::{Branch, decide};
+use crate::branch::decide;
 use crate::diving::{dive_from_root, renew_at_root};
 use crate::expansion::expand_node;
-use crate::goal::Goal;
 use crate::improvement::Origin;
 use crate::incumbent::borrow_after;
 use crate::outcome::Outcome;
 use crate::run::Run;
 use crate::search_state::SearchState;
 use crate::step_back::step_back;
+use pb_control::{Branch, Goal};
 use pb_engine::Coefficient;
 use pb_inst::Best;
 
@@ -52,7 +52,7 @@ fn expand<C: Coefficient, S: Share>(
         return Some(branch);
     }
     let is_better = dive_from_root(state, best, share, run);
-    if !state.root_work.looks.take_borrowed() && !is_better {
+    if !state.root_work.take_borrowed() && !is_better {
         return Some(branch);
     }
     expand_with_looks(state, best, share, run)
@@ -80,7 +80,7 @@ fn expand_with_looks<C: Coefficient, S: Share>(
         let Some(branch) = expand_node(state, best, share, run) else {
             return None;
         };
-        if !state.root_work.looks.is_due() {
+        if !state.root_work.is_look_due() {
             return Some(branch);
         }
         let has_borrowed = borrow_after(state, best, share, &mut run.agreed, 0, Origin::Lent);
@@ -136,7 +136,7 @@ fn expand_above<C: Coefficient, S: Share>(
     requires at_path { IsAtSomePath state.old.engine state.old.branches.items }
     requires known { KnowsHeldPrefix state.old.engine.trail best.old.held run.old.agreed }
     ensures further { IsFurther (S.lends share.old) state.old state.new best.old best.new result }
-    ensures returns { state.new.root_work.returns ≡ state.old.root_work.returns }
+    ensures returns { state.new.root_work ≡ state.old.root_work }
     ensures kept { S.keeps share.old share.new }
     ensures same_lending { S.lends share.new ≡ S.lends share.old }
     ensures known { KnowsHeldPrefix state.new.engine.trail best.new.held run.new.agreed }

@@ -6,13 +6,12 @@ ghost use Rattle.pb_inst.specs.declared.limits.TheConstants.{MAX_CUBES};
 ghost use Rattle.pb_engine.specs.Tables.{AreBeside};
 ghost use Rattle.pb_subtree.specs.Made.{IsMade};
 
-use crate::branch::Branch;
-use crate::root_work::RootWork;
+use pb_control::{Branch, Hints, RootWork};
+use pb_dive::DivePath;
 use pb_engine::{Clauses, Coefficient, EngineAt, Rows, TablesSource};
 use pb_inst::{Assignment, Cube, Memory};
 use pb_normal::Form;
 use pb_order::Order;
-use pb_prune::Hints;
 use std::alloc::Global;
 use std::sync::Arc;
 
@@ -23,6 +22,7 @@ pub struct SearchState<C: Coefficient> {
     pub candidate: Assignment,
     pub order: Order,
     pub root_work: RootWork,
+    pub dive: DivePath,
 }
 
 // By hand, so that letting go of a state is a call wherever it is done, and its parts are written out here alone. What a
@@ -35,6 +35,7 @@ impl<C: Coefficient> Drop for SearchState<C> {
             candidate: _,
             order: _,
             root_work: _,
+            dive: _,
         } = self;
     }
 }
@@ -47,7 +48,8 @@ impl<C: Coefficient> SearchState<C> {
         ensures { IfOk result (IsMade form.now negated.now) }
     {
         // The engine comes last: an early return past it would let go of it field by field, and cost a minute to prove.
-        let (branches, candidate, order, root_work) = make_room(alloc, form, negated)?;
+        let (branches, candidate, order, dive) = make_room(alloc, form, negated)?;
+        let root_work = work_for(form);
         let engine = EngineAt::new(alloc, form, negated)?;
         Ok(SearchState {
             engine,
@@ -55,6 +57,7 @@ impl<C: Coefficient> SearchState<C> {
             candidate,
             order,
             root_work,
+            dive,
         })
     }
 
@@ -72,7 +75,8 @@ impl<C: Coefficient> SearchState<C> {
         ensures candidate { IfOk result (λ t. length t.candidate ≡ (arc_value rows.now).form.vars) }
         ensures room { IfOk result (λ t. (arc_value rows.now).form.vars ≤ vec_capacity t.branches) }
     {
-        let (branches, candidate, order, root_work) = make_room(alloc, rows.form(), negated)?;
+        let (branches, candidate, order, dive) = make_room(alloc, rows.form(), negated)?;
+        let root_work = work_for(rows.form());
         let engine = EngineAt::over(alloc, TablesSource::shared(rows, clauses)?)?;
         Ok(SearchState {
             engine,
@@ -80,6 +84,7 @@ impl<C: Coefficient> SearchState<C> {
             candidate,
             order,
             root_work,
+            dive,
         })
     }
 
@@ -107,12 +112,12 @@ impl<C: Coefficient> SearchState<C> {
 }
 
 /// What a state has beside its engine: room for a decision of each variable and for one assignment, the order of decisions,
-/// and the work at the root.
+/// and room for a dive where something is minimised.
 fn make_room<C: Coefficient>(
     alloc: Global,
     form: &Form<C>,
     negated: &[Cube],
-) -> Result<(Vec<Branch>, Assignment, Order, RootWork), Memory>
+) -> Result<(Vec<Branch>, Assignment, Order, DivePath), Memory>
     ensures branches { IfOk result (λ t. form.now.vars ≤ vec_capacity t.0) }
     ensures candidate { IfOk result (λ t. length t.1 ≡ form.now.vars) }
 {
@@ -120,6 +125,16 @@ fn make_room<C: Coefficient>(
     let branches = Vec::with_capacity(alloc, vars as usize)?;
     let candidate = Assignment::new(alloc, vars)?;
     let order = Order::new(alloc, form, negated)?;
-    let root_work = RootWork::new(alloc, form)?;
-    Ok((branches, candidate, order, root_work))
+    let dive = DivePath::new(alloc, if is_decision(form) { 0 } else { vars })?;
+    Ok((branches, candidate, order, dive))
+}
+
+/// The work at the root of the form's search, of which nothing was done.
+fn work_for<C: Coefficient>(form: &Form<C>) -> RootWork {
+    RootWork::new(form.vars(), is_decision(form))
+}
+
+/// Whether nothing is minimised.
+fn is_decision<C: Coefficient>(form: &Form<C>) -> bool {
+    form.objective().is_empty()
 }

@@ -29,7 +29,7 @@ pub fn step_back<C: Coefficient>(
     ensures made_for { IsStateOf best.now.problem state.new }
     ensures at_path { IsAtSomePath state.new.engine state.new.branches.items }
     ensures constraints { SameConstraints state.old.engine state.new.engine }
-    ensures returns { state.new.root_work.returns ≡ state.old.root_work.returns }
+    ensures returns { state.new.root_work ≡ state.old.root_work }
     ensures known { KnowsHeldPrefix state.new.engine.trail best.now.held agreed.new }
 {
     while state.branches.len() > count {

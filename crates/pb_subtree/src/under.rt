@@ -2,20 +2,20 @@
 
 ghost use Rattle.std.specs.Prelude.{◌≡◌, ◌⊎◌, ◌≤◌, false, List, Bool, All, Some, IsSomeAnd};
 ghost use Rattle.pb_inst.specs.Incumbent.{IsSound};
-ghost use Rattle.pb_subtree.specs.Goal.{IsMet};
+ghost use Rattle.pb_control.specs.Goal.{IsMet};
 ghost use Rattle.pb_prune.specs.Held.{IsImprovement, MovesOn};
 ghost use Rattle.pb_prune.specs.Solutions.{SameConstraints, SatisfiesUnder};
 ghost use Rattle.pb_subtree.specs.SearchState.{IsStateOf};
-ghost use Rattle.pb_subtree.specs.Left.{IsLeftOf};
+ghost use Rattle.pb_control.specs.Budget.{IsLeftOf};
 
 use crate::Share;
-use crate::goal::Goal;
 use crate::incumbent::borrow;
 use crate::node::search_subtree;
 use crate::outcome::Outcome;
 use crate::root::{assume_cube, return_to_root};
 use crate::run::Run;
 use crate::search_state::SearchState;
+use pb_control::Goal;
 use pb_engine::{Coefficient, Step};
 use pb_inst::{Best, Lit};
 

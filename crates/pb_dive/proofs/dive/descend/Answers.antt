@@ -1,6 +1,6 @@
 use Rattle.std.proofs.Common.{◌≤◌, ◌∙◌, refl, subst, sym, ℕ, arith}
 use Rattle.pb_inst.specs.declared.limits.TheConstants.{MAX_VARS}
-use Rattle.pb_dive.proofs.BudgetLemmas.{none_counted, counted_onward}
+use Rattle.pb_control.proofs.BudgetLemmas.{none_counted, counted_onward}
 use Rattle.pb_dive.proofs.dive.descend.Goals as goal
 
 pub loop-made-init : goal.loop-made-init

@@ -2,7 +2,7 @@ use Rattle.std.proofs.Common.{◌≡◌, ◌≤◌, ◌+◌, length}
 use Rattle.pb_engine.specs.EngineState.{EngineState}
 use Rattle.pb_engine.specs.Soundness.{IsSoundTrail}
 use Rattle.pb_engine.specs.Free.{IsFree}
-use Rattle.pb_dive.specs.Budget.{with_more}
+use Rattle.pb_control.specs.Budget.{with_more}
 use Rattle.pb_dive.specs.Dives.{LeadsBack}
 use Rattle.pb_dive.proofs.dive.descend.Given as goal
 

@@ -1,7 +1,7 @@
 use Rattle.std.proofs.lemmas.List.{append-nil}
 use Rattle.std.proofs.Common.{◌≡◌, ◌++◌, ◌∷◌, [], ◌<◌, ◌⊎◌, List, arith, true, refl, subst, sym}
 use Rattle.pb_engine.specs.EngineState.{EngineState}
-use Rattle.pb_subtree.specs.declared.branch.Branch.{Branch}
+use Rattle.pb_control.specs.declared.branch.Branch.{Branch}
 use Rattle.pb_subtree.specs.declared.search_state.SearchState.{SearchState}
 use Rattle.pb_subtree.specs.Paths.{LeavesOpen, steps_left}
 use Rattle.pb_prune.specs.AgreedPrefix.{KnowsHeldPrefix}
@@ -15,7 +15,7 @@ use Rattle.pb_subtree.proofs.backtrack.backtrack.Goals as goal
 
 pub returns-then-not-is_spent-clause-next : goal.returns-then-not-is_spent-clause-next
 returns-then-not-is_spent-clause-next g c start h =
-    let u : SearchState _ = record { engine = c.is_spent.new.engine; branches = c.undo_decision.new.path; candidate = c.loop-branch.state.candidate; order = c.loop-branch.state.order; root_work = c.loop-branch.state.root_work } in
+    let u : SearchState _ = record { engine = c.is_spent.new.engine; branches = c.undo_decision.new.path; candidate = c.loop-branch.state.candidate; order = c.loop-branch.state.order; root_work = c.loop-branch.state.root_work; dive = c.loop-branch.state.dive } in
     let step : IsStep c.args.best.now.problem c.loop-branch.state u c.in-Some.branch = step_of c.args.best.now.problem c.loop-branch.state u c.undo_decision.new.engine c.in-Some.branch c.in-Some.ensures.popped c.undo_decision.ensures.constraints c.undo_decision.ensures.at_path c.in-Some.ensures.free c.undo_decision.ensures.same_room refl c.is_spent.ensures.unchanged in
     turn_next c.args.best.now.problem start c.loop-branch.state u c.in-Some.branch c.other_value.result c.args.best.now.held step c.other_value.ensures (c.loop-branch.invariant.leaving start h)
 
@@ -26,11 +26,11 @@ returns-then-not-is_spent-clause-fewer g c few =
     let falls : steps_left n (c.undo_decision.new.path.items ++ c.other_value.result ∷ []) < steps_left n c.args.state.now.branches.items =
     subst (λ (x : List Branch). steps_left n (c.undo_decision.new.path.items ++ c.other_value.result ∷ []) < steps_left n x) (sym s.1)
     (turn_falls n c.undo_decision.new.path.items s.0 c.in-Some.branch c.other_value.result (c.is_spent.ensures.fresh c.if-not-is_spent.true) c.other_value.ensures.flipped) in
-    fewer_steps n c.args.state.now.root_work.returns c.loop-branch.state.root_work.returns c.args.state.now.branches.items (c.undo_decision.new.path.items ++ c.other_value.result ∷ []) (omega (arith, c.loop-branch.invariant.returns)) falls
+    fewer_steps n c.args.state.now.root_work c.loop-branch.state.root_work c.args.state.now.branches.items (c.undo_decision.new.path.items ++ c.other_value.result ∷ []) (omega (arith, c.loop-branch.invariant.returns)) falls
 
 pub loop-branch-preserved : goal.loop-branch-preserved
 loop-branch-preserved g c =
-    let u : SearchState _ = record { engine = c.is_spent.new.engine; branches = c.undo_decision.new.path; candidate = c.loop-branch.state.candidate; order = c.loop-branch.state.order; root_work = c.loop-branch.state.root_work } in
+    let u : SearchState _ = record { engine = c.is_spent.new.engine; branches = c.undo_decision.new.path; candidate = c.loop-branch.state.candidate; order = c.loop-branch.state.order; root_work = c.loop-branch.state.root_work; dive = c.loop-branch.state.dive } in
     let step : IsStep c.args.best.now.problem c.loop-branch.state u c.in-Some.branch = step_of c.args.best.now.problem c.loop-branch.state u c.undo_decision.new.engine c.in-Some.branch c.in-Some.ensures.popped c.undo_decision.ensures.constraints c.undo_decision.ensures.at_path c.in-Some.ensures.free c.undo_decision.ensures.same_room refl c.is_spent.ensures.unchanged in
     let s = shortened_more c.args.state.now.branches.items c.loop-branch.state.branches.items c.undo_decision.new.path.items c.in-Some.branch c.loop-branch.invariant.shortened c.in-Some.ensures.popped in
     let spent : (c.in-Some.branch.flipped ≡ true) ⊎ IsClosed c.args.best.now.problem u.engine c.args.best.now.held = subst (λ (e : EngineState). (c.in-Some.branch.flipped ≡ true) ⊎ IsClosed c.args.best.now.problem e c.args.best.now.held) (sym c.is_spent.ensures.unchanged) (c.is_spent.ensures.spent c.if-not-is_spent.false) in
@@ -63,7 +63,7 @@ is_spent-requires-clause-engine g c = same_engine c.args.best.now.problem c.loop
 
 pub returns-then-not-is_spent-clause-made_for : goal.returns-then-not-is_spent-clause-made_for
 returns-then-not-is_spent-clause-made_for g c =
-    let u : SearchState _ = record { engine = c.is_spent.new.engine; branches = c.undo_decision.new.path; candidate = c.loop-branch.state.candidate; order = c.loop-branch.state.order; root_work = c.loop-branch.state.root_work } in
+    let u : SearchState _ = record { engine = c.is_spent.new.engine; branches = c.undo_decision.new.path; candidate = c.loop-branch.state.candidate; order = c.loop-branch.state.order; root_work = c.loop-branch.state.root_work; dive = c.loop-branch.state.dive } in
     let constraints : SameConstraints c.loop-branch.state.engine u.engine = subst (λ (e : EngineState). SameConstraints c.loop-branch.state.engine e) (sym c.is_spent.ensures.unchanged) c.undo_decision.ensures.constraints in
     state_moves c.args.best.now.problem c.loop-branch.state u constraints c.undo_decision.ensures.same_room refl c.loop-branch.invariant.made_for
 
@@ -77,7 +77,7 @@ returns-clause-finished g c start h a below better = subst (λ (x : List Branch)
 
 pub returns-clause-made_for : goal.returns-clause-made_for
 returns-clause-made_for g c =
-    let u : SearchState _ = record { engine = c.undo_decision.new.engine; branches = c.undo_decision.new.path; candidate = c.loop-branch.state.candidate; order = c.loop-branch.state.order; root_work = c.loop-branch.state.root_work } in
+    let u : SearchState _ = record { engine = c.undo_decision.new.engine; branches = c.undo_decision.new.path; candidate = c.loop-branch.state.candidate; order = c.loop-branch.state.order; root_work = c.loop-branch.state.root_work; dive = c.loop-branch.state.dive } in
     state_moves c.args.best.now.problem c.loop-branch.state u c.undo_decision.ensures.constraints c.undo_decision.ensures.same_room refl c.loop-branch.invariant.made_for
 
 pub returns-clause-constraints : goal.returns-clause-constraints

@@ -10,7 +10,7 @@ abbrev pub invariant-loop-branch : goal.invariant-loop-branch
 invariant-loop-branch g l = record {
   made_for : IsStateOf l.best.problem l.state;
   at_path : IsAtSomePath l.state.engine l.state.branches.items;
-  returns : l.state.root_work.returns ≡ l.initial.state.root_work.returns;
+  returns : l.state.root_work ≡ l.initial.state.root_work;
   shortened : IsShortened l.initial.state.branches.items l.state.branches.items;
   constraints : SameConstraints l.initial.state.engine l.state.engine;
   leaving : (start : EngineState) → IsLeaving l.best.problem start l.initial.state l.best.held → IsLeaving l.best.problem start l.state l.best.held;

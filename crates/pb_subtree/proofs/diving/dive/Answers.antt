@@ -8,7 +8,7 @@ use Rattle.pb_prune.specs.AgreedPrefix.{KnowsHeldPrefix}
 use Rattle.pb_subtree.specs.Nodes.{IsFoundAt}
 use Rattle.pb_subtree.specs.declared.search_state.SearchState.{SearchState}
 use Rattle.pb_prune.specs.Subtree.{IsEngineOf}
-use Rattle.pb_subtree.proofs.BudgetLemmas.{left_of_more}
+use Rattle.pb_control.proofs.BudgetLemmas.{left_of_more}
 use Rattle.pb_subtree.proofs.HeldLemmas.{moves_onward}
 use Rattle.pb_subtree.proofs.SearchLemmas.{same_engine}
 use Rattle.pb_subtree.proofs.DivingLemmas.{dive_constraints, own_at_start, dive_is_paid, same_branches_back}

@@ -2,7 +2,7 @@ use Rattle.std.proofs.Common.{rules, ◌∙◌, subst, sym}
 use Rattle.pb_dive.specs.Dives.{LeadsBack}
 use Rattle.pb_engine.specs.EngineState.{EngineState}
 use Rattle.pb_engine.specs.Soundness.{IsSoundTrail}
-use Rattle.pb_subtree.proofs.BudgetLemmas.{descent_goes_on}
+use Rattle.pb_subtree.proofs.DescentLemmas.{descent_goes_on}
 use Rattle.pb_subtree.proofs.HeldLemmas.{moves_onward}
 use Rattle.pb_subtree.proofs.diving.go_down.Goals as goal
 

@@ -5,7 +5,7 @@ use Rattle.pb_engine.specs.Free.{IsFree}
 use Rattle.pb_engine.specs.Soundness.{IsSoundTrail}
 use Rattle.pb_prune.specs.AgreedPrefix.{KnowsHeldPrefix}
 use Rattle.pb_prune.specs.Held.{MovesOn}
-use Rattle.pb_subtree.specs.Left.{IsDescentPaid}
+use Rattle.pb_subtree.specs.Descent.{IsDescentPaid}
 use Rattle.pb_subtree.specs.SearchState.{IsSameBeside}
 use Rattle.pb_subtree.proofs.diving.go_down.Given as goal
 

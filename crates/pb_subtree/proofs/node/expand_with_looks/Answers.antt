@@ -3,7 +3,7 @@ use Rattle.pb_engine.specs.EngineState.{EngineState}
 use Rattle.pb_prune.specs.AgreedPrefix.{KnowsHeldPrefix}
 use Rattle.pb_subtree.specs.Nodes.{IsExpanded}
 use Rattle.pb_subtree.specs.declared.search_state.SearchState.{SearchState}
-use Rattle.pb_subtree.proofs.BudgetLemmas.{left_after}
+use Rattle.pb_control.proofs.BudgetLemmas.{left_after}
 use Rattle.pb_subtree.proofs.ExpandLemmas.{expanded_looked, expanded_onward, looked_onward}
 use Rattle.pb_subtree.proofs.node.expand_with_looks.Goals as goal
 
@@ -13,8 +13,8 @@ returns-in_default-clause-expanded g c =
     expanded_onward _ c.args.state.now c.loop.state c.expand_node.new.state c.args.best.now c.loop.best c.expand_node.new.best None before.same_branches before.sound before.moves_on before.own
     (subst (λ (b : Bool). IsExpanded b c.loop.state c.expand_node.new.state c.loop.best c.expand_node.new.best None) before.same_lending c.in_default.ensures.expanded)
 
-pub returns-then-not-is_due-clause-expanded : goal.returns-then-not-is_due-clause-expanded
-returns-then-not-is_due-clause-expanded g c =
+pub returns-then-not-is_look_due-clause-expanded : goal.returns-then-not-is_look_due-clause-expanded
+returns-then-not-is_look_due-clause-expanded g c =
     let before = c.loop.invariant in
     expanded_onward _ c.args.state.now c.loop.state c.expand_node.new.state c.args.best.now c.loop.best c.expand_node.new.best (Some c.in-Some.branch) before.same_branches before.sound before.moves_on before.own
     (subst (λ (b : Bool). IsExpanded b c.loop.state c.expand_node.new.state c.loop.best c.expand_node.new.best (Some c.in-Some.branch)) before.same_lending c.in-Some.ensures.expanded)

@@ -2,7 +2,7 @@ use Rattle.std.proofs.Common.{◌≡◌, false}
 use Rattle.pb_engine.specs.Soundness.{IsSoundTrail}
 use Rattle.pb_prune.specs.AgreedPrefix.{KnowsHeldPrefix}
 use Rattle.pb_prune.specs.Held.{MovesOn}
-use Rattle.pb_subtree.specs.Left.{IsLeftOf}
+use Rattle.pb_control.specs.Budget.{IsLeftOf}
 use Rattle.pb_subtree.specs.Nodes.{IsFoundAt}
 use Rattle.pb_subtree.specs.SearchState.{SameBranches}
 use Rattle.pb_subtree.proofs.node.expand_with_looks.Given as goal

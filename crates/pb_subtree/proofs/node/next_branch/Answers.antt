@@ -29,7 +29,7 @@ returns-in-Some-clause-fewer g c few =
     let n = c.args.best.now.problem.vars in
     let path = c.expand.new.state.branches.items in
     let there = c.in-Some.ensures.expanded.same_branches in
-    fewer_steps n c.args.state.now.root_work.returns c.expand.new.state.root_work.returns c.args.state.now.branches.items (path ++ c.in-Some.branch ∷ []) (omega (arith, there.returns))
+    fewer_steps n c.args.state.now.root_work c.expand.new.state.root_work c.args.state.now.branches.items (path ++ c.in-Some.branch ∷ []) (omega (arith, there.returns))
     (subst (λ v. steps_left n (path ++ c.in-Some.branch ∷ []) < steps_left n v.items) there.branches (decide_falls n path c.in-Some.branch few))
 
 pub returns-in-Some-take_return-clause-further : goal.returns-in-Some-take_return-clause-further
@@ -41,7 +41,7 @@ returns-in-Some-take_return-clause-further g c =
     let w = c.take_return.new.self in
     let t = c.expand.new.state in
     let u = c.expand_above.new.state in
-    let s : SearchState _ = record { engine = t.engine; branches = t.branches; candidate = t.candidate; order = t.order; root_work = w } in
+    let s : SearchState _ = record { engine = t.engine; branches = t.branches; candidate = t.candidate; order = t.order; root_work = w; dive = t.dive } in
     let there = c.in_default.ensures.expanded in
     let above = c.expand_above.ensures.further in
     let same = there.moves_on.same_instance in
@@ -69,7 +69,7 @@ returns-in-Some-take_return-clause-further g c =
 pub returns-in-Some-take_return-clause-fewer : goal.returns-in-Some-take_return-clause-fewer
 returns-in-Some-take_return-clause-fewer g c =
     if_some_map c.expand_above.result _ (λ b. LeavesFewer c.args.best.now.problem c.args.state.now c.expand_above.new.state b)
-    (λ b _ few. step_back_falls c.args.best.now.problem.vars c.args.state.now.root_work.returns c.expand_above.new.state.root_work.returns c.args.state.now.branches.items c.expand_above.new.state.branches.items b
+    (λ b _ few. step_back_falls c.args.best.now.problem.vars c.args.state.now.root_work c.expand_above.new.state.root_work c.args.state.now.branches.items c.expand_above.new.state.branches.items b
     (omega (arith, c.in_default.ensures.expanded.same_branches.returns, c.in-Some-take_return.ensures.used, c.expand_above.ensures.returns)) few)
     c.expand_above.ensures.further.onward
 
@@ -81,7 +81,7 @@ returns-in-None-clause-further g c =
     let w = c.take_return.new.self in
     let t = c.expand.new.state in
     let u = c.backtrack.new.state in
-    let s : SearchState _ = record { engine = t.engine; branches = t.branches; candidate = t.candidate; order = t.order; root_work = w } in
+    let s : SearchState _ = record { engine = t.engine; branches = t.branches; candidate = t.candidate; order = t.order; root_work = w; dive = t.dive } in
     let there = c.in_default.ensures.expanded in
     let same = there.moves_on.same_instance in
     let leaving : (start : EngineState) → IsUnderWay p start c.args.state.now c.args.best.now.held → IsLeaving p start s held =
@@ -109,12 +109,12 @@ returns-in-None-clause-fewer g c =
     let q = c.expand.new.best.problem in
     let w = c.take_return.new.self in
     let t = c.expand.new.state in
-    let s : SearchState _ = record { engine = t.engine; branches = t.branches; candidate = t.candidate; order = t.order; root_work = w } in
+    let s : SearchState _ = record { engine = t.engine; branches = t.branches; candidate = t.candidate; order = t.order; root_work = w; dive = t.dive } in
     let there = c.in_default.ensures.expanded in
     if_some_map c.backtrack.result (λ b. LeavesFewer q s c.backtrack.new.state b) (λ b. LeavesFewer p c.args.state.now c.backtrack.new.state b)
     (λ b f few.
-    subst (λ v. search_steps p.vars c.backtrack.new.state.root_work.returns (c.backtrack.new.state.branches.items ++ b ∷ []) < search_steps p.vars c.args.state.now.root_work.returns v.items) there.same_branches.branches
-    (fewer_from p.vars (search_steps p.vars c.backtrack.new.state.root_work.returns (c.backtrack.new.state.branches.items ++ b ∷ [])) c.args.state.now.root_work.returns w.returns t.branches.items
+    subst (λ v. search_steps p.vars c.backtrack.new.state.root_work (c.backtrack.new.state.branches.items ++ b ∷ []) < search_steps p.vars c.args.state.now.root_work v.items) there.same_branches.branches
+    (fewer_from p.vars (search_steps p.vars c.backtrack.new.state.root_work (c.backtrack.new.state.branches.items ++ b ∷ [])) c.args.state.now.root_work w t.branches.items
     (omega (arith, there.same_branches.returns, c.in-None.ensures.kept))
     (subst (λ (x : Problem). LeavesFewer x s c.backtrack.new.state b) there.moves_on.same_instance f few)))
     c.backtrack.ensures.fewer

@@ -9,7 +9,7 @@ use Rattle.pb_subtree.specs.Paths.{search_steps}
 use Rattle.pb_subtree.specs.declared.search_state.SearchState.{SearchState}
 use Rattle.pb_subtree.specs.SearchState.{IsUnderWay, IsNext, IsOwn, IsSearched, IsStateOf, SameBranches}
 use Rattle.pb_prune.proofs.AgreedPrefixLemmas.{knows_longer}
-use Rattle.pb_subtree.proofs.BudgetLemmas.{left_itself, left_after, left_of_more}
+use Rattle.pb_control.proofs.BudgetLemmas.{left_itself, left_after, left_of_more}
 use Rattle.pb_subtree.proofs.DivingLemmas.{same_branches_back}
 use Rattle.pb_subtree.proofs.Engines.{same_constraints_onward}
 use Rattle.pb_subtree.proofs.HeldLemmas.{moves_onward, moves_itself, not_after_itself}
@@ -47,7 +47,7 @@ returns-clause-moves_on g c = moves_onward c.args.best.now c.loop-branch.best c.
 
 pub loop-branch-init : goal.loop-branch-init
 loop-branch-init g c =
-    let t : SearchState _ = record { engine = c.args.state.now.engine; branches = c.args.state.now.branches; candidate = c.args.state.now.candidate; order = c.args.state.now.order; root_work = c.begin.new.self } in
+    let t : SearchState _ = record { engine = c.args.state.now.engine; branches = c.args.state.now.branches; candidate = c.args.state.now.candidate; order = c.args.state.now.order; root_work = c.begin.new.self; dive = c.args.state.now.dive } in
     let made : IsStateOf c.args.best.now.problem t = record { engine = c.requires.state.engine; few_variables = c.requires.state.few_variables; candidate = c.requires.state.candidate; room = c.requires.state.room } in
     record {
       under_way = begins c.args.best.now.problem t c.args.best.now.held made c.requires.sound c.requires.no_decisions;
@@ -84,10 +84,10 @@ pub loop-branch-smaller : goal.loop-branch-smaller
 loop-branch-smaller g c =
     let next = at_next c.args.best.now.problem c.loop-branch.best.problem c.args.state.now.engine c.loop-branch.state c.next_branch.new.state c.in-Some.branch c.loop-branch.best.held c.next_branch.new.best.held c.loop-branch.invariant.moves_on.same_instance (c.in-Some.ensures.further.onward c.args.state.now.engine) c.loop-branch.invariant.under_way in
     let n = c.args.best.now.problem.vars in
-    let before = search_steps n c.loop-branch.state.root_work.returns c.loop-branch.state.branches.items in
-    let falls : search_steps n c.next_branch.new.state.root_work.returns c.decide.new.path.items < before =
+    let before = search_steps n c.loop-branch.state.root_work c.loop-branch.state.branches.items in
+    let falls : search_steps n c.next_branch.new.state.root_work c.decide.new.path.items < before =
     next_falls c.args.best.now.problem c.loop-branch.best.problem c.next_branch.new.state.engine.vars c.loop-branch.state c.next_branch.new.state c.decide.new.path.items c.in-Some.branch c.loop-branch.invariant.moves_on.same_instance c.in-Some.ensures.fewer c.decide.ensures.added c.decide.ensures.few next.made_for.engine.vars in
-    subst (λ v. search_steps n c.borrow_after.new.state.root_work.returns v.items < before) (sym c.borrow_after.ensures.beside.branches)
+    subst (λ v. search_steps n c.borrow_after.new.state.root_work v.items < before) (sym c.borrow_after.ensures.beside.branches)
     (subst (λ (r : ℕ). search_steps n r c.decide.new.path.items < before) (sym c.borrow_after.ensures.beside.returns) falls)
 
 pub returns-clause-searched : goal.returns-clause-searched

@@ -3,7 +3,7 @@ use Rattle.pb_prune.specs.Held.{MovesOn}
 use Rattle.pb_prune.specs.AgreedPrefix.{KnowsHeldPrefix}
 use Rattle.pb_subtree.specs.SearchState.{IsUnderWay, IsOwn}
 use Rattle.pb_subtree.specs.Paths.{search_steps}
-use Rattle.pb_subtree.specs.Left.{IsLeftOf}
+use Rattle.pb_control.specs.Budget.{IsLeftOf}
 use Rattle.pb_subtree.proofs.node.search_subtree.Given as goal
 
 abbrev pub invariant-loop-branch : goal.invariant-loop-branch
@@ -18,4 +18,4 @@ invariant-loop-branch g l = record {
 }
 
 abbrev pub decreases-loop-branch : goal.decreases-loop-branch
-decreases-loop-branch g l = search_steps l.fn.best.problem.vars l.state.root_work.returns l.state.branches.items
+decreases-loop-branch g l = search_steps l.fn.best.problem.vars l.state.root_work l.state.branches.items

@@ -6,7 +6,7 @@ use Rattle.pb_subtree.proofs.step_back.step_back.Goals as goal
 
 pub loop-state-preserved : goal.loop-state-preserved
 loop-state-preserved g c =
-    let u : SearchState _ = record { engine = c.undo_decision.new.engine; branches = c.undo_decision.new.path; candidate = c.loop-state.state.candidate; order = c.loop-state.state.order; root_work = c.loop-state.state.root_work } in
+    let u : SearchState _ = record { engine = c.undo_decision.new.engine; branches = c.undo_decision.new.path; candidate = c.loop-state.state.candidate; order = c.loop-state.state.order; root_work = c.loop-state.state.root_work; dive = c.loop-state.state.dive } in
     let step : IsStep c.args.best.now.problem c.loop-state.state u c.in-Some.field-0 = step_of c.args.best.now.problem c.loop-state.state u c.undo_decision.new.engine c.in-Some.field-0 c.in-Some.ensures.popped c.undo_decision.ensures.constraints c.undo_decision.ensures.at_path c.in-Some.ensures.free c.undo_decision.ensures.same_room refl refl in
     record {
       made_for = step.made_for c.loop-state.invariant.made_for;

@@ -11,7 +11,7 @@ invariant-loop-state g l = record {
   at_path : IsAtSomePath l.state.engine l.state.branches.items;
   under_way : (start : EngineState) → IsUnderWay l.best.problem start l.initial.state l.best.held → IsUnderWay l.best.problem start l.state l.best.held;
   constraints : SameConstraints l.initial.state.engine l.state.engine;
-  returns : l.state.root_work.returns ≡ l.initial.state.root_work.returns;
+  returns : l.state.root_work ≡ l.initial.state.root_work;
   known : KnowsHeldPrefix l.state.engine.trail l.best.held l.agreed;
 }
 

@@ -1,6 +1,6 @@
 use Rattle.std.proofs.Common.{rules, ◌≡◌, ◌∙◌, ℕ, Option, subst}
 use Rattle.pb_inst.specs.Problem.{Problem}
-use Rattle.pb_subtree.specs.Left.{IsLeftOf}
+use Rattle.pb_control.specs.Budget.{IsLeftOf}
 use Rattle.pb_prune.specs.Solutions.{SameConstraints}
 use Rattle.pb_trail.specs.declared.propagation.Step.TheVariants.{Fixed, Conflict}
 use Rattle.pb_subtree.specs.SearchState.{IsSearched}

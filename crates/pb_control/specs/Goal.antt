@@ -1,7 +1,7 @@
 -- What a search is for.
 use Rattle.std.specs.Prelude.{Option, IsSomeAnd, ◌≤ℤ◌, ⊤}
 use Rattle.pb_inst.specs.Incumbent.{Solution}
-use Rattle.pb_subtree.specs.declared.goal.Goal.{Goal}
+use Rattle.pb_control.specs.declared.goal.Goal.{Goal}
 
 -- what is held ends a search for any assignment, or for one that costs no more; nothing ends the search for the least one
 abbrev pub IsMet : Goal → Option Solution → Type 0

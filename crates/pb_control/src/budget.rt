@@ -1,7 +1,7 @@
 //! A budget of decisions.
 
 ghost use Rattle.std.specs.Prelude.{◌≡◌, ◌≢◌, Some};
-ghost use Rattle.pb_dive.specs.Budget.{one_more};
+ghost use Rattle.pb_control.specs.Budget.{one_more};
 
 /// Takes one decision off what is left, where there is a budget.
 pub fn count_down(left: &mut Option<u64>)

@@ -5,8 +5,8 @@
 //! with it. And as long as nothing objects variables are decided in order, 0 first, since the improvement is the greatest so.
 
 use crate::branch::Branch;
+use crate::pruning::Pruning;
 use pb_inst::{Lit, Number};
-use pb_prune::Pruning;
 
 /// How the search stands to the assignment that was found last.
 #[derive(Clone, Copy)]

@@ -1,7 +1,7 @@
 //! When a search is over before all was searched.
 
 ghost use Rattle.std.specs.Prelude.{◌≡◌, ◌≢◌, ◌⊎◌, false, Some, IsTrue};
-ghost use Rattle.pb_subtree.specs.Goal.{IsMet};
+ghost use Rattle.pb_control.specs.Goal.{IsMet};
 
 use pb_inst::{Best, Number};
 

@@ -7,13 +7,10 @@ use crate::branch::Branch;
 use crate::goal::Goal;
 use crate::looks::Looks;
 use crate::probing::Probing;
+use crate::pruning::Pruning;
 use crate::ties::Ties;
-use pb_dive::DivePath;
-use pb_engine::Coefficient;
-use pb_inst::{Memory, Number};
-use pb_normal::Form;
-use pb_prune::Pruning;
-use std::alloc::Global;
+use pb_inst::{Lit, Number};
+use std::marker::Model;
 
 /// How many variables there are at least where work at the root may pay and nothing is minimised.
 const LEAST_VARIABLES: u32 = 512;
@@ -51,11 +48,12 @@ const LEAST_RENEWED: usize = 8;
 /// One in so many of the decisions of a budget may be one of a dive.
 const DIVE_OF_A_BUDGET: u64 = 8;
 
-/// What the work at the root goes on from.
+/// What the work at the root goes on from. Contracts see how often the search of the piece may still step back: each step back counts
+/// in the measure of the search's loop. No answer depends on the rest, so nothing is promised of it.
 #[derive(Drop)]
 pub struct RootWork {
     /// How often the search of the piece may still step back to its root.
-    pub returns: u32,
+    returns: u32,
     /// How many decisions, from the first on, are known to have no other value to try.
     prefix: usize,
     /// Whether there are so many variables that work may pay though nothing is minimised.
@@ -67,29 +65,34 @@ pub struct RootWork {
     leaves: u32,
     /// Whether the root is worked on since.
     is_open: bool,
-    pub ties: Ties,
+    ties: Ties,
     /// The trail's length and the best cost where no literal failed in the last round.
     done: Option<(usize, Option<Number>)>,
-    pub probing: Probing,
+    probing: Probing,
     /// What may still be paid for dives.
     dives: u32,
     /// The trail's length and the best cost where the last dive began.
     dived: Option<(usize, Option<Number>)>,
-    pub dive: DivePath,
-    pub looks: Looks,
+    looks: Looks,
     /// How often multipliers may still be improved anew at the root.
     renewals: u32,
     /// The length of the root's trail when that was done last.
     renewed: usize,
 }
 
+impl Model for RootWork {
+    ghost use Rattle.std.specs.Prelude.{ℕ};
+
+    ghost Value = { ℕ };
+
+    ghost view = { λ w. w.returns };
+}
+
 impl RootWork {
-    /// Nothing was done.
-    pub fn new<C: Coefficient>(alloc: Global, form: &Form<C>) -> Result<RootWork, Memory> {
-        let vars = form.vars();
+    /// Nothing was done. There are so many variables, and nothing is minimised or something is.
+    pub fn new(vars: u32, is_decision: bool) -> RootWork {
         let is_large = vars >= LEAST_VARIABLES;
-        let is_decision = form.objective().is_empty();
-        Ok(RootWork {
+        RootWork {
             returns: 0,
             prefix: 0,
             is_large,
@@ -104,8 +107,7 @@ impl RootWork {
             renewals: 0,
             renewed: 0,
             looks: Looks::new(),
-            dive: DivePath::new(alloc, if is_decision { 0 } else { vars })?,
-        })
+        }
     }
 
     /// The search of a piece begins, for this goal and with so many decisions left of its budget.
@@ -143,8 +145,8 @@ impl RootWork {
         is_conflict: bool,
         cost: Option<Number>,
     ) -> Option<usize>
-        ensures used { IfSome result (λ _. self.old.returns ≡ self.new.returns + 1) }
-        ensures kept { IfNone result (self.new.returns ≤ self.old.returns) }
+        ensures used { IfSome result (λ _. self.old ≡ self.new + 1) }
+        ensures kept { IfNone result (self.new ≤ self.old) }
     {
         let count = self.return_to(path, is_conflict, cost)?;
         if self.returns == 0 || count >= path.len() {
@@ -162,7 +164,7 @@ impl RootWork {
         is_conflict: bool,
         cost: Option<Number>,
     ) -> Option<usize>
-        ensures { self.new.returns ≡ self.old.returns }
+        ensures { self.new ≡ self.old }
     {
         let prefix = self.prefix_of(path);
         let count = self.ties.leave(path, prefix, cost);
@@ -181,7 +183,7 @@ impl RootWork {
     /// Whether the search pays for a step back to its root, by what it did so far. Where nothing is minimised the root is
     /// worked on for its literals that fail alone, and never so soon again: what was searched counts more.
     fn pays(&mut self, path: &[Branch], is_conflict: bool) -> bool
-        ensures { self.new.returns ≡ self.old.returns }
+        ensures { self.new ≡ self.old }
     {
         if self.is_decision {
             self.probing.raise();
@@ -193,7 +195,7 @@ impl RootWork {
     /// Whether the search stands at its root, and works there for a better assignment than that of the best cost. Once the root's
     /// bound is that cost, ties alone are left, and nothing is left to work for.
     fn is_worked_on(&mut self, path: &[Branch], cost: Option<Number>) -> bool
-        ensures { self.new.returns ≡ self.old.returns }
+        ensures { self.new ≡ self.old }
     {
         if !self.is_open || (cost.is_some() && self.ties.root_bound >= cost) {
             return false;
@@ -203,7 +205,7 @@ impl RootWork {
 
     /// Whether the search stands at its root: no decision of its path has another value to try.
     pub fn is_at_root(&mut self, path: &[Branch]) -> bool
-        ensures { self.new.returns ≡ self.old.returns }
+        ensures { self.new ≡ self.old }
     {
         self.prefix_of(path) == path.len()
     }
@@ -216,11 +218,11 @@ impl RootWork {
 
     /// No literal failed. A round that waits for a look at the share goes on after it.
     pub fn end_round(&mut self, length: usize, cost: Option<Number>)
-        ensures { self.new.returns ≡ self.old.returns }
+        ensures { self.new ≡ self.old }
     {
         if !self.looks.is_due() {
             self.done = Some((length, cost));
-            self.probing.passed = 0;
+            self.probing.end_round();
         }
     }
 
@@ -233,7 +235,7 @@ impl RootWork {
         cost: Option<Number>,
         left: Option<u64>,
     ) -> Option<u64>
-        ensures { self.new.returns ≡ self.old.returns }
+        ensures { self.new ≡ self.old }
     {
         let most = match left {
             Some(count) => count / DIVE_OF_A_BUDGET,
@@ -261,7 +263,7 @@ impl RootWork {
         vars: u32,
         cost: Option<Number>,
     ) -> bool
-        ensures { self.new.returns ≡ self.old.returns }
+        ensures { self.new ≡ self.old }
     {
         if self.renewals == 0 || !self.is_worked_on(path, cost) {
             return false;
@@ -276,9 +278,110 @@ impl RootWork {
         true
     }
 
+    /// A node was propagated, which put so many literals on the trail.
+    pub fn note_propagated(&mut self, literals: usize)
+        ensures { self.new ≡ self.old }
+    {
+        self.probing.earn(literals);
+    }
+
+    /// The literal is decided, after so many decisions, where the bound says so much.
+    pub fn note_decision(&mut self, pruning: Pruning, lit: Lit, decisions: usize)
+        ensures { self.new ≡ self.old }
+    {
+        self.ties.note(pruning, lit, decisions);
+    }
+
+    /// Whether nothing objected since the last improvement: no conflict, no bound, no full trail that is none.
+    pub fn is_calm(&self) -> bool {
+        self.ties.is_calm
+    }
+
+    /// A full trail was taken, which improved on the best assignment or did not.
+    pub fn note_full(&mut self, is_better: bool)
+        ensures { self.new ≡ self.old }
+    {
+        self.ties.has_improved = is_better;
+    }
+
+    /// Whether a bound was taken at the root.
+    pub fn has_root_bound(&self) -> bool {
+        self.ties.root_bound.is_some()
+    }
+
+    /// A bound was taken at the root, or none.
+    pub fn note_root_bound(&mut self, bound: Option<Number>)
+        ensures { self.new ≡ self.old }
+    {
+        self.ties.root_bound = self.ties.root_bound.max(bound);
+    }
+
+    /// The search made so many decisions.
+    pub fn count(&mut self, decisions: u64)
+        ensures { self.new ≡ self.old }
+    {
+        self.looks.count(decisions);
+    }
+
+    /// Whether the share is to be asked before the next decision.
+    pub fn is_look_due(&self) -> bool {
+        self.looks.is_due()
+    }
+
+    /// How many decisions may be made before the share is to be asked.
+    pub fn until_look(&self) -> u64 {
+        self.looks.until_due()
+    }
+
+    /// The share is asked now.
+    pub fn note_look(&mut self)
+        ensures { self.new ≡ self.old }
+    {
+        self.looks.begin_again();
+    }
+
+    /// A dive was handed a better assignment.
+    pub fn note_borrowed(&mut self)
+        ensures { self.new ≡ self.old }
+    {
+        self.looks.note_borrowed();
+    }
+
+    /// Whether a dive was handed a better assignment since this was asked last.
+    pub fn take_borrowed(&mut self) -> bool
+        ensures { self.new ≡ self.old }
+    {
+        self.looks.take_borrowed()
+    }
+
+    /// How many literals are still to be passed in the round of trials that stands at the root, over so many variables; 0 where none may
+    /// begin, since too little was searched.
+    pub fn left_of_round(&self, vars: u32) -> u32 {
+        self.probing.left_of_round(vars)
+    }
+
+    /// Whether one more literal may be tried before the share is asked.
+    pub fn may_try(&self) -> bool {
+        self.probing.may_try() && !self.looks.is_due()
+    }
+
+    /// The literal to try next, of so many variables.
+    pub fn next_literal(&mut self, vars: u32) -> Option<Lit>
+        ensures { self.new ≡ self.old }
+    {
+        self.probing.next_literal(vars)
+    }
+
+    /// A literal was tried, which put so many on the trail.
+    pub fn note_trial(&mut self, literals: usize, has_failed: bool)
+        ensures { self.new ≡ self.old }
+    {
+        self.probing.note_trial(literals, has_failed);
+    }
+
     /// A better assignment over so many variables was found by a dive: more literals may fail now.
     pub fn reopen(&mut self, vars: u32)
-        ensures { self.new.returns ≡ self.old.returns }
+        ensures { self.new ≡ self.old }
     {
         self.done = None;
         self.dives = self.dives.saturating_add(GAIN_OF_A_DIVE);
@@ -288,7 +391,7 @@ impl RootWork {
     /// How many decisions of the path, from the first on, have no other value to try.
     fn prefix_of(&mut self, path: &[Branch]) -> usize
         ensures within { result ≤ length path.now }
-        ensures returns { self.new.returns ≡ self.old.returns }
+        ensures returns { self.new ≡ self.old }
     {
         self.prefix = self.prefix.min(path.len());
         for place in self.prefix..path.len() {

@@ -1,9 +1,17 @@
--- What is left of a budget of decisions.
-use Rattle.std.proofs.Common.{◌≡◌, ◌<◌, ◌≤◌, ℕ, ◌+◌, refl, sym, subst, arith, length, Option, None, Some}
-use Rattle.pb_dive.specs.Budget.{with_more}
-use Rattle.pb_subtree.specs.Left.{IsLeftOf, IsPaidFrom, IsDescentPaid}
-use Rattle.pb_dive.proofs.BudgetLemmas.{none_counted, counted_onward}
-use Rattle.pb_engine.specs.EngineState.{EngineState}
+-- What is left of a budget of decisions, and that they are counted together.
+use Rattle.std.proofs.Common.{◌≡◌, ◌∙◌, ◌<◌, ℕ, ◌+◌, refl, ap, arith, Option, None, Some}
+use Rattle.pb_control.specs.Budget.{with_more, IsLeftOf, IsPaidFrom}
+
+pub none_counted : (left : Option ℕ) → left ≡ with_more 0 left
+none_counted None = refl
+none_counted (Some n) = ap (λ (m : ℕ). Some m) (omega arith)
+
+pub counted_onward : (count more : ℕ) (budget left less : Option ℕ) → budget ≡ with_more count left → left ≡ with_more more less → budget ≡ with_more (count + more) less
+counted_onward count more budget left less h e = h ∙ ap (λ (o : Option ℕ). with_more count o) e ∙ together less
+  where
+    together : (o : Option ℕ) → with_more count (with_more more o) ≡ with_more (count + more) o
+    together None = refl
+    together (Some n) = ap (λ (m : ℕ). Some m) (omega arith)
 
 pub left_itself : (budget : Option ℕ) → IsLeftOf budget budget
 left_itself None = refl
@@ -29,15 +37,3 @@ paid_of_more count None None some e = refl
 paid_of_more count None (Some n) some e = let bad : ⊥ = cc in absurd bad
 paid_of_more count (Some b) None some e = let bad : ⊥ = cc in absurd bad
 paid_of_more count (Some b) (Some n) some e = let same : b ≡ n + count = cc in omega arith
-
--- before the first decision
-pub descent_begun : (s : EngineState) (budget : Option ℕ) → IsDescentPaid s s budget budget
-descent_begun s budget = record { decisions = 0; counted = none_counted budget; assumed = omega arith }
-
--- after so many decisions more, and where the engine is the same then
-pub descent_goes_on : (s e f g : EngineState) (more : ℕ) (budget left less : Option ℕ) → IsDescentPaid s e budget left → length f.levels ≤ length e.levels + more → left ≡ with_more more less → g ≡ f → IsDescentPaid s g budget less
-descent_goes_on s e f g more budget left less h assumed counted same = record {
-  decisions = h.decisions + more;
-  counted = counted_onward h.decisions more budget left less h.counted counted;
-  assumed = subst (λ (x : EngineState). length x.levels ≤ length s.levels + (h.decisions + more)) (sym same) (omega (arith, h.assumed, assumed));
-}

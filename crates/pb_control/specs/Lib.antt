@@ -1,0 +1,2 @@
+pub mod Goal
+pub mod Budget

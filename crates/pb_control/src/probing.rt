@@ -1,0 +1,134 @@
+//! Which literals are tried at the root, and how many may be. No answer depends on it, so nothing is promised.
+
+use pb_inst::Lit;
+
+// Trials pay with what the search did and with what came of them: each literal that the search puts on the trail lets them
+// put one there. So a search that is soon over makes none.
+
+/// How many literals trials may put on the trail for each literal that failed.
+const CREDIT_OF_A_FAILURE: u64 = 4_096;
+
+/// How many they may put there at most before the next one fails.
+const MOST_CREDIT: u64 = 1 << 24;
+
+/// How many they may put there at least where a round begins.
+const LEAST_CREDIT: u64 = 64;
+
+/// The same where nothing is minimised.
+const LEAST_CREDIT_OF_A_DECISION: u64 = 2_048;
+
+/// How many times what was searched until then counts at the first conflict of a search in which nothing is minimised:
+/// instances that trials decide come to it after some 150 literals, less than a round needs.
+const FIRST_CREDIT: u64 = 16;
+
+/// How many they may put there at least for each variable once a better assignment is known.
+const CREDIT_OF_A_DIVE: u64 = 64;
+
+/// Which literal is tried next, and how many more may be.
+#[derive(Clone, Copy)]
+pub struct Probing {
+    /// The place of the next literal, of two for each variable.
+    place: u32,
+    /// How many literals were passed since the round began, or one failed.
+    passed: u32,
+    /// How many literals trials may still put on the trail: as many as the search did, and more for those that failed.
+    credit: u64,
+    /// How many they may put there at least where a round begins.
+    least: u64,
+    /// How many trials the budget of the piece still has room for.
+    trials: u64,
+}
+
+impl Probing {
+    /// From the first literal on.
+    pub fn new(is_decision: bool) -> Probing {
+        let least = if is_decision {
+            LEAST_CREDIT_OF_A_DECISION
+        } else {
+            LEAST_CREDIT
+        };
+        Probing {
+            place: 0,
+            passed: 0,
+            credit: 0,
+            least,
+            trials: 0,
+        }
+    }
+
+    /// The search of a piece begins, whose budget has room for so many trials.
+    pub fn begin(&mut self, trials: u64) {
+        self.passed = 0;
+        self.credit = 0;
+        self.trials = trials;
+    }
+
+    /// The search put so many literals on the trail by propagation at a node, and one by the decision before it: trials may
+    /// put as many there.
+    pub fn earn(&mut self, literals: usize) {
+        let credit = self
+            .credit
+            .saturating_add(literals as u64)
+            .saturating_add(1);
+        self.credit = credit.min(MOST_CREDIT);
+    }
+
+    /// A better assignment over so many variables is known: a round is due, and may be paid for.
+    pub fn grant(&mut self, vars: u32) {
+        let credit = CREDIT_OF_A_DIVE.saturating_mul(vars as u64);
+        self.credit = self.credit.max(credit).min(MOST_CREDIT);
+        self.passed = 0;
+    }
+
+    /// What was searched so far counts more.
+    pub fn raise(&mut self) {
+        let credit = self.credit.saturating_mul(FIRST_CREDIT);
+        self.credit = credit.min(MOST_CREDIT);
+    }
+
+    /// Whether so much was searched that a round may begin.
+    pub fn pays(&self) -> bool {
+        self.credit >= self.least
+    }
+
+    /// No literal failed in the round that ends here.
+    pub fn end_round(&mut self) {
+        self.passed = 0;
+    }
+
+    /// How many literals the round still passes; 0 where none may begin.
+    pub fn left_of_round(&self, vars: u32) -> u32 {
+        if self.passed == 0 && !self.pays() {
+            return 0;
+        }
+        vars.saturating_mul(2).saturating_sub(self.passed)
+    }
+
+    /// Whether one more literal may be tried.
+    pub fn may_try(&self) -> bool {
+        self.credit != 0 && self.trials != 0
+    }
+
+    /// A literal was tried, which put so many on the trail. Where it failed, the round begins again.
+    pub fn note_trial(&mut self, literals: usize, has_failed: bool) {
+        self.trials = self.trials.saturating_sub(1);
+        self.credit = self.credit.saturating_sub(literals as u64);
+        if has_failed {
+            self.passed = 0;
+            self.credit = self.credit.saturating_add(CREDIT_OF_A_FAILURE);
+        }
+    }
+
+    /// The literal to try next, of so many variables.
+    pub fn next_literal(&mut self, vars: u32) -> Option<Lit> {
+        let place = self.place;
+        let next = place.saturating_add(1);
+        self.place = if next < vars.saturating_mul(2) {
+            next
+        } else {
+            0
+        };
+        self.passed = self.passed.saturating_add(1);
+        Lit::new(place / 2 + 1, place % 2 == 0).ok()
+    }
+}
