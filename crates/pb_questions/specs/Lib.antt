@@ -1,4 +1,4 @@
-pub mod Form
+pub use Rattle.pb_search.specs.Form
 pub mod Under
 pub mod Sought
 pub mod Explained

@@ -17,6 +17,8 @@ use Rattle.pb_engine.specs.EngineState.{EngineState}
 use Rattle.pb_engine.specs.Soundness.{assumptions, literal_at, IsSoundTrail}
 use Rattle.pb_cubes.specs.Pieces.{LiesIn}
 use Rattle.pb_cubes.specs.Done.{Division, IsCandidate, IsDone}
+use Rattle.pb_control.specs.declared.goal.Goal.{Goal}
+use Rattle.pb_control.specs.Goal.{IsMet}
 use Rattle.pb_subtree.specs.Held.{IsImprovement}
 use Rattle.pb_subtree.specs.Solutions.{SameConstraints, Satisfies, SatisfiesUnder}
 use Rattle.pb_subtree.specs.SearchState.{IsOwn}
@@ -90,3 +92,17 @@ own_makes_true s cube old new (inr found) = inr (within new.held found)
     within : (o : Option Solution) → IsSomeAnd o (λ r. SatisfiesUnder s cube r.assignment) → IsSomeAnd o (λ r. MakesTrue r.assignment cube)
     within None h = h
     within (Some r) h = h.makes_true
+
+-- what a search under a cube found lies in the cube's piece
+pub cube_own : (d : Division) (i : ℕ) (s : EngineState) (cube : List Literal) (old new : Incumbent) → slice_get d.cubes i ≡ Some cube → (new ≡ old) ⊎ IsSomeAnd new.held (λ r. SatisfiesUnder s cube r.assignment) → (new ≡ old) ⊎ IsSomeAnd new.held (λ r. LiesIn d.cubes i r.assignment)
+cube_own d i s cube old new is (inl same) = inl same
+cube_own d i s cube old new is (inr found) = inr (inside new.held found)
+  where
+    inside : (o : Option Solution) → IsSomeAnd o (λ r. SatisfiesUnder s cube r.assignment) → IsSomeAnd o (λ r. LiesIn d.cubes i r.assignment)
+    inside None h = h
+    inside (Some r) h = inl (subst (λ (o : Option (List Literal)). IsSomeAnd o (λ c. MakesTrue r.assignment c)) (sym is) h.makes_true)
+
+-- a search for the least assignment is cut by its budget alone
+pub used_up : {left : Option ℕ} (held : Option Solution) → (left ≡ Some 0) ⊎ IsMet Goal.Least held → left ≡ Some 0
+used_up held (inl none_left) = none_left
+used_up held (inr met) = absurd met

@@ -1,4 +1,6 @@
 pub mod Budget
 pub mod Layout
+pub mod Form
+pub mod Searched
 pub use Rattle.pb_cubes.specs.Done
 pub use Rattle.pb_subtree.specs.Held

@@ -1,11 +1,9 @@
 //! Searches of pieces that count in numbers of one width.
 
-ghost use Rattle.std.specs.Prelude.{◌≡◌, ◌⊎◌, ◌≤◌, [], false, length, IfOk, IfNone, IfSome, Some, IsSomeAnd};
-ghost use Rattle.pb_normal.specs.NormalForm.{KeepsCost, KeepsFeasible};
-ghost use Rattle.pb_cubes.specs.Pieces.{LiesIn};
-ghost use Rattle.pb_subtree.specs.Held.{IsNotAfter};
+ghost use Rattle.std.specs.Prelude.{◌≡◌, ◌≤◌, [], length, IfOk, IfNone, IfSome};
+ghost use Rattle.pb_search.specs.Form.{IsFormOf};
 ghost use Rattle.pb_search.specs.Layout.{IsCubeState};
-ghost use Rattle.pb_control.specs.Budget.{IsLeftOf};
+ghost use Rattle.pb_search.specs.Searched.{IsPieceSearched};
 
 use crate::facts::facts_of;
 use crate::piece_tables::PieceTables;
@@ -24,9 +22,7 @@ fn cube_state<'a, C: Coefficient>(
     form: &Form<C>,
     pieces: &Pieces,
 ) -> Result<Option<SearchState<C>>, Memory>
-    requires vars { form.now.vars ≡ instance.now.vars }
-    requires feasible { KeepsFeasible instance.now form.now }
-    requires costs { KeepsCost instance.now form.now }
+    requires form { IsFormOf instance.now form.now }
     ensures none { IfOk result (λ made. IfNone made (pieces.now.cubes ≡ [])) }
     ensures some { IfOk result (λ made. IfSome made (IsCubeState instance.now)) }
 {
@@ -73,8 +69,6 @@ impl<'a, C: Coefficient> Drop for PieceSearch<'a, C> {
 }
 
 impl<'a, C: Coefficient> PieceSearch<'a, C> {
-    ghost use Rattle.pb_cubes.specs.Done.{IsDone};
-
     /// Makes all that the searches of the pieces need, over a normal form of the instance. Fails where memory is refused.
     pub fn new(
         alloc: Global,
@@ -82,9 +76,7 @@ impl<'a, C: Coefficient> PieceSearch<'a, C> {
         form: &Form<C>,
         pieces: &'a Pieces,
     ) -> Result<PieceSearch<'a, C>, Memory>
-        requires vars { form.now.vars ≡ instance.now.vars }
-        requires feasible { KeepsFeasible instance.now form.now }
-        requires costs { KeepsCost instance.now form.now }
+        requires form { IsFormOf instance.now form.now }
         requires pieces { pieces.now.vars ≡ instance.now.vars }
         ensures { IfOk result (λ s. s ≡ record { problem = instance.now; cubes = pieces.now.cubes }) }
     {
@@ -124,14 +116,9 @@ impl<'a, C: Coefficient> PieceSearch<'a, C> {
     ) -> Outcome
         requires piece { piece ≤ length self.old.cubes }
         requires same_instance { best.old.problem ≡ self.old.problem }
-        ensures done { result ≡ Outcome.Whole → IsDone self.old piece best.new.held }
-        ensures used_up { result ≡ Outcome.Cut → left.new ≡ Some 0 }
-        ensures budget { IsLeftOf left.old left.new }
-        ensures not_after { IsNotAfter self.old.problem best.old.held best.new.held }
-        ensures own { S.lends share.old ≡ false → (best.new ≡ best.old) ⊎ IsSomeAnd best.new.held (λ s. LiesIn self.old.cubes piece s.assignment) }
+        ensures searched { IsPieceSearched self.old piece (S.lends share.old) best.old best.new left.old left.new result }
         ensures kept { S.keeps share.old share.new }
         ensures same_lending { S.lends share.new ≡ S.lends share.old }
-        ensures same_instance { best.new.problem ≡ best.old.problem }
         ensures unchanged { self.new ≡ self.old }
     {
         match self.pieces.piece(piece) {

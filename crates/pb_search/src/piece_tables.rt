@@ -1,7 +1,7 @@
 //! Tables that count in numbers of one width.
 
 ghost use Rattle.std.specs.Prelude.{◌≡◌, [], IfOk, IfNone, IfSome};
-ghost use Rattle.pb_normal.specs.NormalForm.{KeepsCost, KeepsFeasible};
+ghost use Rattle.pb_search.specs.Form.{IsFormOf};
 ghost use Rattle.pb_search.specs.Layout.{AreTables, IsCubeState, IsLaidOut, pieces_of};
 
 use crate::facts::facts_of;
@@ -58,9 +58,7 @@ impl<'a, C: Coefficient> PieceTables<'a, C> {
         form: &Form<C>,
         pieces: &'a Pieces,
     ) -> Result<PieceTables<'a, C>, Memory>
-        requires vars { form.now.vars ≡ instance.now.vars }
-        requires feasible { KeepsFeasible instance.now form.now }
-        requires costs { KeepsCost instance.now form.now }
+        requires form { IsFormOf instance.now form.now }
         requires pieces { pieces.now.vars ≡ instance.now.vars }
         ensures { IfOk result (λ t. t ≡ record { problem = instance.now; cubes = pieces.now.cubes }) }
     {

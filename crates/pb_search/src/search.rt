@@ -4,7 +4,7 @@ ghost use Rattle.std.specs.Prelude.{◌≡◌, ◌⊎◌, ◌≤◌, false, leng
 ghost use Rattle.pb_normal.specs.NormalForm.{KeepsCost, KeepsFeasible};
 ghost use Rattle.pb_cubes.specs.Pieces.{LiesIn};
 ghost use Rattle.pb_subtree.specs.Held.{IsNotAfter};
-ghost use Rattle.pb_control.specs.Budget.{IsLeftOf};
+ghost use Rattle.pb_search.specs.Searched.{IsPieceSearched};
 
 use crate::piece_search::PieceSearch;
 use crate::tables::SearchTables;
@@ -134,14 +134,9 @@ impl<'a> Search<'a> {
     ) -> Outcome
         requires piece { piece ≤ length self.old.division.cubes }
         requires same_instance { best.old.problem ≡ self.old.division.problem }
-        ensures done { result ≡ Outcome.Whole → IsDone self.old.division piece best.new.held }
-        ensures used_up { result ≡ Outcome.Cut → left.new ≡ Some 0 }
-        ensures budget { IsLeftOf left.old left.new }
-        ensures not_after { IsNotAfter self.old.division.problem best.old.held best.new.held }
-        ensures own { S.lends share.old ≡ false → (best.new ≡ best.old) ⊎ IsSomeAnd best.new.held (λ s. LiesIn self.old.division.cubes piece s.assignment) }
+        ensures searched { IsPieceSearched self.old.division piece (S.lends share.old) best.old best.new left.old left.new result }
         ensures kept { S.keeps share.old share.new }
         ensures same_lending { S.lends share.new ≡ S.lends share.old }
-        ensures same_instance { best.new.problem ≡ best.old.problem }
         ensures unchanged { self.new ≡ self.old }
     {
         match &mut self.at_width {

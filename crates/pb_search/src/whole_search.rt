@@ -1,12 +1,7 @@
 //! The search of a whole instance under literals, again and again.
 
-ghost use Rattle.std.specs.Prelude.{◌≡◌, ◌⊎◌, ◌≤◌, [], ◌∷◌, false, All, IfOk, Some, IsSomeAnd};
-ghost use Rattle.pb_normal.specs.NormalForm.{KeepsCost, KeepsFeasible};
-ghost use Rattle.pb_inst.specs.Cubes.{MakesTrue};
-ghost use Rattle.pb_inst.specs.declared.limits.TheConstants.{MAX_VARS};
-ghost use Rattle.pb_control.specs.Goal.{IsMet};
-ghost use Rattle.pb_subtree.specs.Held.{IsNotAfter};
-ghost use Rattle.pb_control.specs.Budget.{IsLeftOf};
+ghost use Rattle.std.specs.Prelude.{◌≡◌, IfOk};
+ghost use Rattle.pb_search.specs.Searched.{IsSearchedUnder, MaySearchUnder};
 
 use crate::whole_search_at::WholeSearchAt;
 use pb_inst::{Assignment, Best, Lit, Memory};
@@ -39,8 +34,6 @@ impl Drop for WholeSearch {
 }
 
 impl WholeSearch {
-    ghost use Rattle.pb_cubes.specs.Done.{IsDone};
-
     /// Makes all that the searches need, over a normal form. Fails where memory is refused.
     pub fn new(alloc: Global, normal: &Normal) -> Result<WholeSearch, Memory>
         ensures { IfOk result (λ s. s ≡ normal.now) }
@@ -65,19 +58,10 @@ impl WholeSearch {
         goal: Goal,
         left: &mut Option<u64>,
     ) -> Outcome
-        requires vars { self.old.vars ≡ best.old.problem.vars }
-        requires feasible { KeepsFeasible best.old.problem self.old }
-        requires costs { KeepsCost best.old.problem self.old }
-        requires few { self.old.vars ≤ MAX_VARS }
-        requires variables { All (λ l. l.var ≤ self.old.vars) cube.now }
-        ensures done { result ≡ Outcome.Whole → IsDone (record { problem = best.old.problem; cubes = cube.now ∷ [] }) 0 best.new.held }
-        ensures cut { result ≡ Outcome.Cut → (left.new ≡ Some 0) ⊎ IsMet goal best.new.held }
-        ensures budget { IsLeftOf left.old left.new }
-        ensures not_after { IsNotAfter best.old.problem best.old.held best.new.held }
-        ensures own { S.lends share.old ≡ false → (best.new ≡ best.old) ⊎ IsSomeAnd best.new.held (λ s. MakesTrue s.assignment cube.now) }
+        requires { MaySearchUnder best.old.problem self.old cube.now }
+        ensures searched { IsSearchedUnder cube.now goal (S.lends share.old) best.old best.new left.old left.new result }
         ensures kept { S.keeps share.old share.new }
         ensures same_lending { S.lends share.new ≡ S.lends share.old }
-        ensures same_instance { best.new.problem ≡ best.old.problem }
         ensures unchanged { self.new ≡ self.old }
     {
         match &mut self.at_width {

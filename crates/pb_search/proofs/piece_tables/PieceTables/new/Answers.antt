@@ -6,10 +6,10 @@ use Rattle.pb_search.proofs.piece_tables.PieceTables.new.Goals as goal
 
 pub of_parts-requires : goal.of_parts-requires
 of_parts-requires g c = record {
-  vars = ap (λ (f : NormalForm). f.vars) c.in_ok-rows.ensures ∙ c.requires.vars;
+  vars = ap (λ (f : NormalForm). f.vars) c.in_ok-rows.ensures ∙ c.requires.form.vars;
   few_variables = c.facts_of.ensures.variable_count;
-  feasible = subst (λ (f : NormalForm). KeepsFeasible c.args.instance.now f) (sym c.in_ok-rows.ensures) c.requires.feasible;
-  costs = subst (λ (f : NormalForm). KeepsCost c.args.instance.now f) (sym c.in_ok-rows.ensures) c.requires.costs;
+  feasible = subst (λ (f : NormalForm). KeepsFeasible c.args.instance.now f) (sym c.in_ok-rows.ensures) c.requires.form.feasible;
+  costs = subst (λ (f : NormalForm). KeepsCost c.args.instance.now f) (sym c.in_ok-rows.ensures) c.requires.form.costs;
   piece_vars = c.requires.pieces;
   none_beside = record { variables = c.in_ok-none.ensures.variables; numbers = c.in_ok-none.ensures.first };
   rest_beside = record { variables = c.in_ok-rest.ensures.variables; numbers = c.in_ok-rest.ensures.first };

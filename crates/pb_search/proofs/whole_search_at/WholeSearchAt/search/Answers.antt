@@ -11,7 +11,7 @@ use Rattle.pb_search.proofs.whole_search_at.WholeSearchAt.search.Goals as goal
 
 pub search_under-outcome-requires-clause-state : goal.search_under-outcome-requires-clause-state
 search_under-outcome-requires-clause-state g c =
-    (whole_state c.args.best.now.problem c.args.self.now c.self.inside.state c.clause_laws.ensures.met c.self.view_is c.requires.vars c.requires.feasible c.requires.costs c.requires.few c.self.invariant).state
+    (whole_state c.args.best.now.problem c.args.self.now c.self.inside.state c.clause_laws.ensures.met c.self.view_is c.requires.form_of.vars c.requires.form_of.feasible c.requires.form_of.costs c.requires.few c.self.invariant).state
 
 pub search_under-outcome-requires-clause-variables : goal.search_under-outcome-requires-clause-variables
 search_under-outcome-requires-clause-variables g c =
@@ -22,13 +22,18 @@ invariant_of-self g c =
     let old = c.self.inside.state in let new = c.search_under-outcome.new.state in let same = c.search_under-outcome.ensures.constraints in
     subst (λ (t : SearchState _). IsMade t.engine.form [] t) (sym c.begin_question.ensures)
     (subst (λ (f : NormalForm). IsMade f [] new) (sym same.form)
-    (still_made c.args.best.now.problem old.engine.form old new (ap (λ (f : NormalForm). f.vars) c.self.view_is ∙ c.requires.vars) c.self.invariant c.search_under-outcome.ensures.made_for same))
+    (still_made c.args.best.now.problem old.engine.form old new (ap (λ (f : NormalForm). f.vars) c.self.view_is ∙ c.requires.form_of.vars) c.self.invariant c.search_under-outcome.ensures.made_for same))
 
-pub returns-clause-done : goal.returns-clause-done
-returns-clause-done g c whole =
+pub returns-clause-searched : goal.returns-clause-searched
+returns-clause-searched g c =
     let p = c.args.best.now.problem in let d : Division = record { problem = p; cubes = c.args.cube.now ∷ [] } in
-    let state : IsCubeState p c.self.inside.state = whole_state p c.args.self.now c.self.inside.state c.clause_laws.ensures.met c.self.view_is c.requires.vars c.requires.feasible c.requires.costs c.requires.few c.self.invariant in
-    cube_done p d 0 c.self.inside.state.engine c.args.cube.now c.search_under-outcome.new.best refl c.search_under-outcome.ensures.moves_on.same_instance state.state.engine.vars state.rows refl c.search_under-outcome.ensures.held_sound (c.search_under-outcome.ensures.searched whole)
-
-pub returns-clause-own : goal.returns-clause-own
-returns-clause-own g c none = own_makes_true c.self.inside.state.engine c.args.cube.now c.args.best.now c.search_under-outcome.new.best (c.search_under-outcome.ensures.own none)
+    let under = c.search_under-outcome in
+    let state : IsCubeState p c.self.inside.state = whole_state p c.args.self.now c.self.inside.state c.clause_laws.ensures.met c.self.view_is c.requires.form_of.vars c.requires.form_of.feasible c.requires.form_of.costs c.requires.few c.self.invariant in
+    record {
+      done = λ whole. cube_done p d 0 c.self.inside.state.engine c.args.cube.now under.new.best refl under.ensures.moves_on.same_instance state.state.engine.vars state.rows refl under.ensures.held_sound (under.ensures.searched whole);
+      cut = under.ensures.cut;
+      budget = under.ensures.budget;
+      not_after = under.ensures.moves_on.not_after;
+      own = λ none. own_makes_true c.self.inside.state.engine c.args.cube.now c.args.best.now under.new.best (under.ensures.own none);
+      same_instance = under.ensures.moves_on.same_instance;
+    }

@@ -1,4 +1,4 @@
--- The normal form of an instance of which questions are asked.
+-- The normal form of an instance that is searched.
 use Rattle.std.specs.Prelude.{◌≡◌}
 use Rattle.pb_inst.specs.Problem.{Problem}
 use Rattle.pb_normal.specs.NormalForm.{NormalForm, KeepsCost, KeepsFeasible}
