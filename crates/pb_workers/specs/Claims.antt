@@ -1,10 +1,12 @@
 -- What workers claim of the pieces, and which of it their parts name.
-use Rattle.std.specs.Prelude.{◌≡◌, ℕ, ◌+◌, ◌<◌, ◌≤◌, ◌⊎◌, List, [], ◌∷◌, ◌++◌, length, filter, All, Any, Option, IfNone, IfSome}
+use Rattle.std.specs.Prelude.{◌≡◌, ℕ, ◌+◌, ◌*◌, ◌^◌, ◌<◌, ◌≤◌, ◌⊎◌, List, [], ◌∷◌, ◌++◌, length, filter, All, Any, Option, IfNone, IfSome}
 use Rattle.pb_inst.specs.Problem.{Problem}
+use Rattle.pb_inst.specs.declared.limits.TheConstants.{MAX_WORKERS}
 use Rattle.pb_cubes.specs.Pieces.{CubeList}
 use Rattle.pb_subtree.specs.declared.outcome.Outcome.{Outcome}
 use Rattle.pb_subtree.specs.declared.outcome.Outcome.TheVariants.{Whole, Cut}
 use Rattle.pb_board.specs.Numbers.{times}
+use Rattle.pb_board.specs.Seats.{BoardView, SeatView}
 use Rattle.pb_workers.specs.Dealing.{TaskView, is_own_piece}
 use Rattle.pb_workers.specs.Parts.{PartView, KeepsBudget, all_numbers}
 
@@ -58,3 +60,30 @@ pub record AreWholeWork (p : Problem) (pieces : CubeList) (task : Option TaskVie
   pub uncut : IfNone nodes (All (λ part. part.cut ≡ []) parts)
   pub budget : IfSome nodes (λ budget. All (KeepsBudget budget) parts)
   pub past : GoesPast (piece_count pieces) claimed
+
+-- a worker of this number may work on the board with the seat, which is of the board and has claimed nothing
+pub record MayWork (board : BoardView) (seat : SeatView) (worker : ℕ) : Type 0 where
+  pub of_board : seat.board ≡ board.id
+  pub unclaimed : seat.claimed ≡ []
+  pub below : worker < board.workers
+
+-- as many workers may work on the board as the seat has parts, from the first one on
+pub record MayFork (board : BoardView) (seat : SeatView) (first : ℕ) : Type 0 where
+  pub of_board : seat.board ≡ board.id
+  pub unclaimed : seat.claimed ≡ []
+  pub workers : first + seat.parts ≤ board.workers
+  pub most : board.workers ≤ MAX_WORKERS
+
+-- One worker's whole work with a seat, which it gives back with its claims. The seat's board and parts stay.
+pub record IsWorkWith (p : Problem) (pieces : CubeList) (task : Option TaskView) (nodes : Option ℕ) (seat : SeatView) (part : PartView) (after : SeatView) : Type 0 where
+  pub whole : IsWholeWork p pieces task nodes part after.claimed
+  pub board : after.board ≡ seat.board
+  pub parts : after.parts ≡ seat.parts
+  pub claims : length after.claimed ≤ 2 ^ 32
+
+-- the same of several workers, who have a part of the seat each
+pub record AreWorkWith (p : Problem) (pieces : CubeList) (task : Option TaskView) (nodes : Option ℕ) (seat : SeatView) (work : List PartView) (after : SeatView) : Type 0 where
+  pub whole : AreWholeWork p pieces task nodes work after.claimed
+  pub board : after.board ≡ seat.board
+  pub parts : after.parts ≡ seat.parts
+  pub claims : length after.claimed ≤ 2 ^ 32 * seat.parts

@@ -1,8 +1,7 @@
 //! Workers on threads of their own, forked by halves.
-ghost use Rattle.std.specs.Prelude.{◌≡◌, ◌≤◌, ◌+◌, ◌*◌, ◌^◌, [], length, IfOk};
+ghost use Rattle.std.specs.Prelude.{IfOk};
 ghost use Rattle.std.specs.Thread.{IsSync};
-ghost use Rattle.pb_inst.specs.declared.limits.TheConstants.{MAX_WORKERS};
-ghost use Rattle.pb_workers.specs.Claims.{AreWholeWork};
+ghost use Rattle.pb_workers.specs.Claims.{AreWorkWith, MayFork};
 
 use crate::part::Part;
 use crate::worker_set::WorkerSet;
@@ -21,12 +20,8 @@ pub(crate) fn fork<'c, R: Threads + Sync, C: WorkerSet + Sync>(
     seat: Seat,
     first: u32,
 ) -> Result<(Vec<Part<'c>>, Seat), Memory>
-    requires seat { (seat.board ≡ (C.meets_on set.now).id) × (seat.claimed ≡ []) }
-    requires workers { first + seat.parts ≤ (C.meets_on set.now).workers }
-    requires most { (C.meets_on set.now).workers ≤ MAX_WORKERS }
-    ensures whole { IfOk result (λ done. AreWholeWork (C.problem set.now) (C.pieces set.now) (C.task set.now) (C.nodes set.now) done.0.items done.1.claimed) }
-    ensures seat { IfOk result (λ done. (done.1.board ≡ (C.meets_on set.now).id) × (done.1.parts ≡ seat.parts)) }
-    ensures claims { IfOk result (λ done. length done.1.claimed ≤ 2 ^ 32 * seat.parts) }
+    requires { MayFork (C.meets_on set.now) seat first }
+    ensures { IfOk result (λ done. AreWorkWith (C.problem set.now) (C.pieces set.now) (C.task set.now) (C.nodes set.now) seat done.0.items done.1) }
 {
     let parts = seat.parts();
     if parts == 1 {
@@ -40,12 +35,12 @@ pub(crate) fn fork<'c, R: Threads + Sync, C: WorkerSet + Sync>(
     let (low, high) = thread::join(
         rt,
         move || -> Result<(Vec<Part<'_>>, Seat), Memory>
-            requires { IsSync R.row × IsSync C.row × (low.board ≡ (C.meets_on set.now).id) × (low.claimed ≡ []) × (first + low.parts ≤ (C.meets_on set.now).workers) × ((C.meets_on set.now).workers ≤ MAX_WORKERS) }
-            ensures { IfOk result (λ done. AreWholeWork (C.problem set.entry.now) (C.pieces set.entry.now) (C.task set.entry.now) (C.nodes set.entry.now) done.0.items done.1.claimed × (done.1.board ≡ (C.meets_on set.entry.now).id) × (done.1.parts ≡ low.parts) × (length done.1.claimed ≤ 2 ^ 32 * low.parts)) }
+            requires { IsSync R.row × IsSync C.row × MayFork (C.meets_on set.now) low first }
+            ensures { IfOk result (λ done. AreWorkWith (C.problem set.entry.now) (C.pieces set.entry.now) (C.task set.entry.now) (C.nodes set.entry.now) low done.0.items done.1) }
         { fork(rt, alloc, set, low, first) },
         move || -> Result<(Vec<Part<'_>>, Seat), Memory>
-            requires { IsSync R.row × IsSync C.row × (high.board ≡ (C.meets_on set.now).id) × (high.claimed ≡ []) × (middle + high.parts ≤ (C.meets_on set.now).workers) × ((C.meets_on set.now).workers ≤ MAX_WORKERS) }
-            ensures { IfOk result (λ done. AreWholeWork (C.problem set.entry.now) (C.pieces set.entry.now) (C.task set.entry.now) (C.nodes set.entry.now) done.0.items done.1.claimed × (done.1.board ≡ (C.meets_on set.entry.now).id) × (done.1.parts ≡ high.parts) × (length done.1.claimed ≤ 2 ^ 32 * high.parts)) }
+            requires { IsSync R.row × IsSync C.row × MayFork (C.meets_on set.now) high middle }
+            ensures { IfOk result (λ done. AreWorkWith (C.problem set.entry.now) (C.pieces set.entry.now) (C.task set.entry.now) (C.nodes set.entry.now) high done.0.items done.1) }
         { fork(rt, alloc, set, high, middle) },
     );
     let (mut parts, low) = low?;

@@ -1,6 +1,6 @@
 //! The share through which workers lend each other what they found: rows and the least word of the board, and what is known
 //! beside it.
-ghost use Rattle.std.specs.Prelude.{◌≡◌, ◌<◌, ◌≤◌, ◌+◌, ◌^◌, ◌++◌, ◌∷◌, [], refl, length, nat_lt, ◌||◌, ℕ, ℤ, ◌≤ℤ◌, false, true, IsTrue};
+ghost use Rattle.std.specs.Prelude.{◌≡◌, ◌<◌, ◌≤◌, ◌+◌, ◌^◌, ◌++◌, ◌∷◌, [], refl, length, nat_lt, ◌||◌, ℕ, ℤ, ◌≤ℤ◌, true, IsTrue};
 ghost use Rattle.std.proofs.Common.{◌∙◌};
 ghost use Rattle.pb_board.specs.Seats.{BoardView, SeatView};
 ghost use Rattle.pb_workers.specs.Keys.{IsKeyOf};
@@ -10,7 +10,7 @@ use crate::beyond::Beside;
 use pb_board::{Board, Seat};
 use pb_inst::{Assignment, Number};
 use pb_notes::next_other;
-use pb_search::{Alone, Share};
+use pb_search::Share;
 use std::marker::Model;
 
 /// What a cost is raised by to be a key of the board: 2^63.
@@ -41,20 +41,9 @@ impl<'b, S: Beside + Drop> Model for BoardShare<'b, S> {
     ghost invariant = { λ s. (s.worker < s.board.now.workers) × (s.last_read < s.board.now.workers) × (s.seat.board ≡ s.board.now.id) };
 }
 
-impl<'b> BoardShare<'b, Alone> {
-    /// The share of a worker below the board's number of workers, with a seat of the board. Beside the board there is nobody.
-    pub fn new(board: &'b Board, seat: Seat, worker: u32) -> BoardShare<'b, Alone>
-        requires seat { seat.board ≡ board.now.id }
-        requires worker { worker < board.now.workers }
-        ensures { result ≡ record { board = board.now; worker = worker; seat = seat; lends_beside = false } }
-    {
-        BoardShare::beside(board, seat, worker, Alone)
-    }
-}
-
 impl<'b, S: Beside + Drop> BoardShare<'b, S> {
-    /// The same with a share beside the board, which is told of each assignment that is offered, and is asked where the board
-    /// has nothing to lend.
+    /// The share of a worker below the board's number of workers, with a seat of the board. The share beside the board is told of each
+    /// assignment that is offered, and is asked where the board has nothing to lend.
     pub fn beside(board: &'b Board, seat: Seat, worker: u32, beside: S) -> BoardShare<'b, S>
         requires seat { seat.board ≡ board.now.id }
         requires worker { worker < board.now.workers }

@@ -1,9 +1,9 @@
 //! A set of workers, as those who fork it know it.
-ghost use Rattle.std.specs.Prelude.{◌≡◌, ◌<◌, ◌≤◌, ◌^◌, ℕ, [], length, Option, IfOk};
+ghost use Rattle.std.specs.Prelude.{◌≡◌, ℕ, Option, IfOk};
 ghost use Rattle.pb_inst.specs.Problem.{Problem};
 ghost use Rattle.pb_cubes.specs.Pieces.{CubeList};
 ghost use Rattle.pb_board.specs.Seats.{BoardView};
-ghost use Rattle.pb_workers.specs.Claims.{IsWholeWork};
+ghost use Rattle.pb_workers.specs.Claims.{IsWorkWith, MayWork};
 ghost use Rattle.pb_workers.specs.Dealing.{TaskView};
 
 use crate::part::Part;
@@ -34,9 +34,6 @@ pub(crate) trait WorkerSet {
     /// The whole work of one worker. Asks for a seat of the board without claims, and a worker below the board's number of
     /// workers. At `Memory` the seat is dropped.
     fn work(&self, alloc: Global, seat: Seat, worker: u32) -> Result<(Part<'_>, Seat), Memory>
-        requires seat { (seat.board ≡ (meets_on self.now).id) × (seat.claimed ≡ []) }
-        requires worker { worker < (meets_on self.now).workers }
-        ensures whole { IfOk result (λ done. IsWholeWork (problem self.now) (pieces self.now) (task self.now) (nodes self.now) done.0 done.1.claimed) }
-        ensures seat { IfOk result (λ done. (done.1.board ≡ (meets_on self.now).id) × (done.1.parts ≡ seat.parts)) }
-        ensures claims { IfOk result (λ done. length done.1.claimed ≤ 2 ^ 32) };
+        requires { MayWork (meets_on self.now) seat worker }
+        ensures { IfOk result (λ done. IsWorkWith (problem self.now) (pieces self.now) (task self.now) (nodes self.now) seat done.0 done.1) };
 }

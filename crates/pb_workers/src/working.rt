@@ -2,7 +2,7 @@
 ghost use Rattle.std.specs.Prelude.{◌≡◌, ◌<◌, ◌≤◌, ◌⊎◌, ◌+◌, ◌^◌, ◌++◌, ◌∷◌, [], length, Option, All, IfOk, IfSome, IfNone};
 ghost use Rattle.pb_normal.specs.NormalForm.{KeepsCost, KeepsFeasible};
 ghost use Rattle.pb_search.specs.Done.{IsDone};
-ghost use Rattle.pb_workers.specs.Claims.{AreDealt, EndsPast, IsWholeWork, pieces_among};
+ghost use Rattle.pb_workers.specs.Claims.{AreDealt, EndsPast, IsWholeWork, IsWorkWith, MayWork, pieces_among};
 ghost use Rattle.pb_workers.specs.Dealing.{TaskView};
 ghost use Rattle.std.specs.Option.{option_map};
 ghost use Rattle.pb_workers.specs.Parts.{AreCounted};
@@ -108,12 +108,8 @@ impl<'a, 'i, N: Notes, G: Gate> SearchWorkers<'a, 'i, N, G> {
     /// The whole work of the worker of this number. Asks for a seat of the board without claims, and a worker below the board's
     /// number of workers. At `Memory` the seat is dropped.
     fn work_of(&self, alloc: Global, seat: Seat, worker: u32) -> Result<(Part<'i>, Seat), Memory>
-        requires seat { seat.board ≡ self.now.board.now.id }
-        requires unclaimed { seat.claimed ≡ [] }
-        requires worker { worker < self.now.board.now.workers }
-        ensures whole { IfOk result (λ done. IsWholeWork self.now.inst.now self.now.pieces.now self.now.task self.now.nodes done.0 done.1.claimed) }
-        ensures seat { IfOk result (λ done. (done.1.board ≡ self.now.board.now.id) × (done.1.parts ≡ seat.parts)) }
-        ensures claims { IfOk result (λ done. length done.1.claimed ≤ 2 ^ 32) }
+        requires { MayWork self.now.board.now seat worker }
+        ensures { IfOk result (λ done. IsWorkWith self.now.inst.now self.now.pieces.now self.now.task self.now.nodes seat done.0 done.1) }
     {
         let mut best = Best::none(alloc, self.inst)?;
         let mut search = Search::over(alloc, self.tables)?;

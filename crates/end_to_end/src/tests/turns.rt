@@ -3,7 +3,7 @@ ghost use Rattle.std.specs.Prelude.{◌<◌};
 
 use pb_board::Board;
 use pb_inst::{Assignment, Workers};
-use pb_search::Share;
+use pb_search::{Alone, Share};
 use pb_workers::BoardShare;
 use std::alloc::Global;
 use std::process::Abort;
@@ -18,8 +18,8 @@ fn is_lent_between_claims(rt: &impl Abort, alloc: Global, offerer: u32) -> bool
     let (board, seat) = Board::new(alloc, workers, 1).expect(rt, "a board");
     let (seat, others) = board.split(seat, 1);
     offer.set(1, true);
-    BoardShare::new(&board, others, offerer).offer(0, &offer);
-    let mut share = BoardShare::new(&board, seat, 0);
+    BoardShare::beside(&board, others, offerer, Alone).offer(0, &offer);
+    let mut share = BoardShare::beside(&board, seat, 0, Alone);
     share.claim();
     let in_first_piece = share.borrow(1, &mut row) && row.get(1);
     share.claim();

@@ -2,7 +2,7 @@
 
 use pb_board::Board;
 use pb_inst::{Assignment, Number, Workers};
-use pb_search::Share;
+use pb_search::{Alone, Share};
 use pb_workers::BoardShare;
 use std::alloc::Global;
 use std::process::Abort;
@@ -107,8 +107,8 @@ fn lent(rt: &impl Abort, alloc: Global, exchange: &Exchange) -> [Borrowed; 2] {
     let workers = Workers::new(count).expect(rt, "a number of workers");
     let (board, seat) = Board::new(alloc, workers, VARS).expect(rt, "a board");
     let (low, high) = board.split(seat, 1);
-    let mut share = BoardShare::new(&board, low, borrower);
-    let mut other = BoardShare::new(&board, high, offerer);
+    let mut share = BoardShare::beside(&board, low, borrower, Alone);
+    let mut other = BoardShare::beside(&board, high, offerer, Alone);
     offer_each(rt, alloc, &mut other, exchange.offers);
     [
         borrow(rt, alloc, &mut share, exchange.below[0]),
@@ -148,7 +148,7 @@ fn offered_key(rt: &impl Abort, alloc: Global, cost: Number) -> u64 {
     let worker = Workers::new(1).expect(rt, "a number of workers");
     let nothing = Assignment::new(alloc, 0).expect(rt, "memory");
     let (board, seat) = Board::new(alloc, worker, 0).expect(rt, "a board");
-    let mut share = BoardShare::new(&board, seat, 0);
+    let mut share = BoardShare::beside(&board, seat, 0, Alone);
     share.offer(cost, &nothing);
     let mut seat = share.into_seat();
     board.least(&mut seat)
