@@ -164,13 +164,6 @@ impl<'n, N: Notes> Exchange<'n, N> {
         }
     }
 
-    /// Writes what is still to be written.
-    pub fn close(&mut self)
-        ensures { self.new ≡ self.old }
-    {
-        self.write_due();
-    }
-
     /// What was lent is to be written where the search took it over and has found nothing since: its best assignment then costs
     /// no more. A note that was not what it told goes no further, and the task's own note is written already. What is dearer than
     /// the best assignment is not to be written any more.
