@@ -2,3 +2,4 @@ pub mod Held
 pub mod Solutions
 pub mod Subtree
 pub mod AgreedPrefix
+pub mod Checks

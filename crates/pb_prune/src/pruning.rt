@@ -5,6 +5,7 @@ ghost use Rattle.pb_engine.specs.Completion.{IsLowerBound};
 ghost use Rattle.pb_engine.specs.Fixing.{IsBelowCompletions};
 ghost use Rattle.pb_prune.specs.Subtree.{HasOnesWithin, IsClosed, IsEngineOf, IsNotBefore, IsOpenOnOneSide, IsTied};
 ghost use Rattle.pb_prune.specs.AgreedPrefix.{KnowsPrefix, KnowsHeldPrefix};
+ghost use Rattle.pb_prune.specs.Checks.{Checks};
 
 use crate::agreed_prefix::AgreedPrefix;
 use pb_control::Pruning;
@@ -19,10 +20,7 @@ fn check_bound<C: Coefficient>(
 ) -> (Pruning, Option<Number>)
     requires engine { IsEngineOf best.now.problem engine.old }
     requires known { KnowsHeldPrefix engine.old.trail best.now.held agreed.old }
-    ensures closed { result.0 ≡ Pruning.Closed → IsClosed best.now.problem engine.old best.now.held }
-    ensures tied { (var : ℕ) → result.0 ≡ Pruning.Tied var → IsTied best.now.problem engine.old best.now.held var }
-    ensures unchanged { engine.new ≡ engine.old }
-    ensures known { KnowsHeldPrefix engine.old.trail best.now.held agreed.new }
+    ensures { Checks best.now.problem best.now.held engine.old engine.new agreed.new result.0 }
 {
     let (pruning, bound) = check_rows(engine, best, agreed);
     check_multipliers(engine, best, agreed, pruning, bound)
@@ -36,11 +34,8 @@ pub fn check_rows<C: Coefficient>(
 ) -> (Pruning, Option<Number>)
     requires engine { IsEngineOf best.now.problem engine.old }
     requires known { KnowsHeldPrefix engine.old.trail best.now.held agreed.old }
-    ensures closed { result.0 ≡ Pruning.Closed → IsClosed best.now.problem engine.old best.now.held }
-    ensures tied { (var : ℕ) → result.0 ≡ Pruning.Tied var → IsTied best.now.problem engine.old best.now.held var }
+    ensures checked { Checks best.now.problem best.now.held engine.old engine.new agreed.new result.0 }
     ensures bound { IfSome result.1 (IsLowerBound engine.old.form engine.old.rows engine.old.trail) }
-    ensures unchanged { engine.new ≡ engine.old }
-    ensures known { KnowsHeldPrefix engine.old.trail best.now.held agreed.new }
 {
     // Where nothing is held there is nothing to compare a bound with, and taking one would go through rows for nothing:
     // the first descent to a solution costs propagation, and multipliers as far as they pay, which lead it to a cheap one.
@@ -65,10 +60,7 @@ pub fn check_multipliers<C: Coefficient>(
     requires tied { (var : ℕ) → pruning ≡ Pruning.Tied var → IsTied best.now.problem engine.old best.now.held var }
     requires bound { IfSome bound (IsLowerBound engine.old.form engine.old.rows engine.old.trail) }
     requires known { KnowsHeldPrefix engine.old.trail best.now.held agreed.old }
-    ensures closed { result.0 ≡ Pruning.Closed → IsClosed best.now.problem engine.old best.now.held }
-    ensures tied { (var : ℕ) → result.0 ≡ Pruning.Tied var → IsTied best.now.problem engine.old best.now.held var }
-    ensures unchanged { engine.new ≡ engine.old }
-    ensures known { KnowsHeldPrefix engine.old.trail best.now.held agreed.new }
+    ensures { Checks best.now.problem best.now.held engine.old engine.new agreed.new result.0 }
 {
     // Where nothing is held every completion counts, and what closes the subtree is that there is none.
     let Some(bound) = bound else {
