@@ -10,8 +10,9 @@ ghost use Rattle.pb_rows.specs.Tables.{AreBeside, terms_in};
 ghost use Rattle.pb_trail.specs.Trail.{value_on};
 ghost use Rattle.pb_trail.specs.Completion.{HasNoCompletion, IsLowerBound, IsSettled};
 ghost use Rattle.pb_trail.specs.Propagation.{AddsForced, IsBrokenAt};
-ghost use Rattle.pb_trail.specs.EngineState.{trail_before, is_conflict, HasNegativeSlack};
-ghost use Rattle.pb_trail.specs.Soundness.{IsFull, IsSolved, IsSoundTrail};
+ghost use Rattle.pb_trail.specs.EngineState.{trail_before};
+ghost use Rattle.pb_trail.specs.Soundness.{IsSoundTrail};
+ghost use Rattle.pb_trail.specs.Steps.{Assumes, Propagates};
 ghost use Rattle.pb_row_bound.specs.DisjointRows.{disjoint_bound};
 ghost use Rattle.pb_engine.specs.Fixing.{IsBelowCompletions, IsForcedWithin};
 
@@ -156,10 +157,7 @@ impl<C: Coefficient> EngineAt<C> {
         requires variable { lit.var ≤ self.old.vars }
         requires no_value { value_on self.old.trail lit.var ≡ None }
         requires no_conflict { self.old.conflict ≡ false }
-        ensures assumed { self.new ≡ record self.old { trail = self.old.trail ++ lit ∷ []; levels = self.old.levels ++ length self.old.trail ∷ []; conflict = is_conflict result } }
-        ensures conflict { result ≡ Step.Conflict → HasNegativeSlack self.old.rows self.new.trail }
-        ensures fixed { result ≡ Step.Fixed }
-        ensures sound { IsSoundTrail self.new }
+        ensures { Assumes self.old lit self.new result }
     {
         self.begin_level();
         self.propagator.assume(lit)
@@ -187,13 +185,7 @@ impl<C: Coefficient> EngineAt<C> {
     /// Adds literals that are forced until no more are found by single rows, or a row can't be met any more.
     pub fn propagate(&mut self) -> Step
         requires { self.old.conflict ≡ false }
-        ensures added { self.new ≡ record self.old { trail = self.new.trail; conflict = is_conflict result } }
-        ensures forced { AddsForced self.old.rows self.old.trail self.new.trail }
-        ensures fixed { result ≡ Step.Fixed → All (λ row. IsSettled self.new.trail row) self.old.rows }
-        ensures solved { result ≡ Step.Fixed → IsFull self.new → IsSolved self.new }
-        ensures conflict { result ≡ Step.Conflict → HasNegativeSlack self.old.rows self.new.trail }
-        ensures no_completion { result ≡ Step.Conflict → HasNoCompletion self.old.rows self.new.trail }
-        ensures sound { IsSoundTrail self.new }
+        ensures { Propagates self.old self.new result }
     {
         self.propagator.propagate()
     }

@@ -6,5 +6,6 @@ pub mod Propagation
 pub mod EngineState
 pub mod Levels
 pub mod Soundness
+pub mod Steps
 pub use Rattle.pb_rows.specs.Constraints
 pub use Rattle.pb_rows.specs.Tables

@@ -7,8 +7,9 @@ ghost use Rattle.pb_rows.specs.Tables.{terms_in};
 ghost use Rattle.pb_trail.specs.Trail.{value_on};
 ghost use Rattle.pb_trail.specs.Completion.{HasNoCompletion, IsSettled};
 ghost use Rattle.pb_trail.specs.Propagation.{AddsForced, IsBrokenAt};
-ghost use Rattle.pb_trail.specs.EngineState.{trail_before, is_conflict, HasNegativeSlack};
-ghost use Rattle.pb_trail.specs.Soundness.{IsFull, IsSolved, IsSoundTrail};
+ghost use Rattle.pb_trail.specs.EngineState.{trail_before};
+ghost use Rattle.pb_trail.specs.Soundness.{IsSoundTrail};
+ghost use Rattle.pb_trail.specs.Steps.{Assumes, Propagates};
 
 use crate::propagation::{Step, propagate_all};
 use crate::reasons::NO_ROW;
@@ -178,10 +179,7 @@ impl<C: Coefficient> Propagator<C> {
         requires variable { lit.var ≤ self.old.vars }
         requires no_value { value_on self.old.trail lit.var ≡ None }
         requires no_conflict { self.old.conflict ≡ false }
-        ensures assumed { self.new ≡ record self.old { trail = self.old.trail ++ lit ∷ []; levels = self.old.levels ++ length self.old.trail ∷ []; conflict = is_conflict result } }
-        ensures conflict { result ≡ Step.Conflict → HasNegativeSlack self.old.rows self.new.trail }
-        ensures fixed { result ≡ Step.Fixed }
-        ensures sound { IsSoundTrail self.new }
+        ensures { Assumes self.old lit self.new result }
     {
         let start = self.trail.len();
         let settled = is_at(self.propagated, start);
@@ -193,13 +191,7 @@ impl<C: Coefficient> Propagator<C> {
     /// Adds literals that are forced until no more are found by single rows, or a row can't be met any more.
     pub fn propagate(&mut self) -> Step
         requires { self.old.conflict ≡ false }
-        ensures added { self.new ≡ record self.old { trail = self.new.trail; conflict = is_conflict result } }
-        ensures forced { AddsForced self.old.rows self.old.trail self.new.trail }
-        ensures fixed { result ≡ Step.Fixed → All (λ row. IsSettled self.new.trail row) self.old.rows }
-        ensures solved { result ≡ Step.Fixed → IsFull self.new → IsSolved self.new }
-        ensures conflict { result ≡ Step.Conflict → HasNegativeSlack self.old.rows self.new.trail }
-        ensures no_completion { result ≡ Step.Conflict → HasNoCompletion self.old.rows self.new.trail }
-        ensures sound { IsSoundTrail self.new }
+        ensures { Propagates self.old self.new result }
     {
         let tables = self.source.tables();
         let step = propagate_all(&tables, &mut self.trail, self.propagated);

@@ -1,8 +1,8 @@
-use Rattle.std.proofs.Common.{◌≡◌, List, ap, sym, subst}
+use Rattle.std.proofs.Common.{◌≡◌, ap, sym, subst}
 use Rattle.std.specs.Prelude.{IfSome}
-use Rattle.pb_normal.specs.NormalForm.{PositiveRow, NormalForm}
-use Rattle.pb_trail.specs.Completion.{HasNoCompletion}
+use Rattle.pb_normal.specs.NormalForm.{NormalForm}
 use Rattle.pb_trail.specs.EngineState.{EngineState, is_conflict}
+use Rattle.pb_trail.specs.Steps.{Propagates}
 use Rattle.pb_lagrange.specs.Relaxation.{IsBeside}
 use Rattle.pb_engine.proofs.RelaxedLemmas.{beside-if-forced}
 use Rattle.pb_engine.proofs.LongerLemmas.{standing-longer, front-forced}
@@ -19,6 +19,5 @@ invariant_of-self g c =
     let front = front-forced s.propagator.rows s.propagator.trail t.trail c.propagate.ensures.forced in
     (HasCounters-propagated s.propagator t s.deficits s.marks (is_conflict c.propagate.result) c.self.invariant.0 c.propagate.ensures.added c.propagate.ensures.forced, subst (λ (f : NormalForm). IfSome s.relaxation (λ m. IsBeside f t.trail m)) (sym form) beside, standing-longer s.propagator t s.standing form rows front c.self.invariant.2)
 
-pub returns-clause-no_completion : goal.returns-clause-no_completion
-returns-clause-no_completion g c = λ found.
-    subst (λ (rows : List PositiveRow). HasNoCompletion rows c.propagate.new.self.trail) (ap (λ (e : EngineState). e.rows) c.self.view_is) (c.propagate.ensures.no_completion found)
+pub returns : goal.returns
+returns g c = subst (λ (e : EngineState). Propagates e c.propagate.new.self c.propagate.result) c.self.view_is c.propagate.ensures
