@@ -36,7 +36,7 @@ FEWEST_VARIABLES, MOST_VARIABLES = 3, 12  # of the other half
 FEWEST_TO_STOP = 18  # on so many variables the program stops at the first place, on one more at the next, and so on
 MOST_TO_STOP = 200  # so many of these larger instances are run for a place at most, until one stops there
 CONSTANTS = {  # what they are in the copy
-    ("pb_lagrange/src/relaxation/passes.rt", "PATIENCE"): 1,
+    ("pb_lagrange/src/relaxation/sweeps.rt", "PATIENCE"): 1,
     ("pb_lagrange/src/relaxation/schedule.rt", "WORK_OF_A_BOUND"): 30,
     ("pb_lagrange/src/relaxation/levels.rt", "CHANGES_OF_A_ROW"): 1,
     ("pb_lagrange/src/relaxation/levels.rt", "CHANGES_OF_FEW_ROWS"): 24,
@@ -51,7 +51,7 @@ CONSTANTS = {  # what they are in the copy
 LINES = {  # what they become in the copy
     ("pb_inst/src/lib.rt", "mod cubes;"): "mod cubes;\nmod draws;",
     ("pb_inst/src/lib.rt", "pub use cubes::Cube;"): "pub use cubes::Cube;\npub use draws::{drawn, drawn_multiplier};",
-    ("pb_lagrange/src/relaxation/passes.rt", "        self.is_renewed || self.nodes == LONG_PATIENCE"): "        self.is_renewed || self.nodes % 4 == 1",
+    ("pb_lagrange/src/relaxation/sweeps.rt", "        self.is_renewed || self.nodes == LONG_PATIENCE"): "        self.is_renewed || self.nodes % 4 == 1",
     ("pb_control/src/root_work.rt", "        self.returns = u32::MAX;"): "        self.returns = 3;",
     (f"{PROGRAM}/src/solving.rt", "        split: 0,"): "        split: (text.len() % 3) as u32,",
 }

@@ -7,7 +7,7 @@
 A PROGRAM is a build of `bench`; without one it takes those that the merge gate built. Each family needs a part of the search that
 others can do without; its comment tells how many times as many decisions it takes where that part is lost. A search makes the same
 decisions in each run, so that their number needs no clock. A search asks for what others found at its beginning and whenever 256 more
-decisions have passed, trials and those of dives among them, and offers nothing where nothing is feasible. With --measure it prints the
+decisions have passed, probes and those of dives among them, and offers nothing where nothing is feasible. With --measure it prints the
 decisions of today in place of the bounds.
 """
 import re

@@ -1,4 +1,4 @@
-//! When the search asks its share for an assignment: at the beginning of a piece, and after every 256th decision, those of trials
+//! When the search asks its share for an assignment: at the beginning of a piece, and after every 256th decision, those of probes
 //! and dives among them.
 
 /// After how many decisions the share is asked. Any moment would do. Asked this seldom, it costs next to nothing, and the bound is still

@@ -2,10 +2,10 @@
 
 use pb_inst::Lit;
 
-// Trials pay with what the search did and with what came of them: each literal that the search puts on the trail lets them
+// Probes pay with what the search did and with what came of them: each literal that the search puts on the trail lets them
 // put one there. So a search that is soon over makes none.
 
-/// How many literals trials may put on the trail for each literal that failed.
+/// How many literals probes may put on the trail for each literal that failed.
 const CREDIT_OF_A_FAILURE: u64 = 4_096;
 
 /// How many they may put there at most before the next one fails.
@@ -18,7 +18,7 @@ const LEAST_CREDIT: u64 = 64;
 const LEAST_CREDIT_OF_A_DECISION: u64 = 2_048;
 
 /// How many times what was searched until then counts at the first conflict of a search in which nothing is minimised:
-/// instances that trials decide come to it after some 150 literals, less than a round needs.
+/// instances that probes decide come to it after some 150 literals, less than a round needs.
 const FIRST_CREDIT: u64 = 16;
 
 /// How many they may put there at least for each variable once a better assignment is known.
@@ -31,12 +31,12 @@ pub struct Probing {
     place: u32,
     /// How many literals were passed since the round began, or one failed.
     passed: u32,
-    /// How many literals trials may still put on the trail: as many as the search did, and more for those that failed.
+    /// How many literals probes may still put on the trail: as many as the search did, and more for those that failed.
     credit: u64,
     /// How many they may put there at least where a round begins.
     least: u64,
-    /// How many trials the budget of the piece still has room for.
-    trials: u64,
+    /// How many probes the budget of the piece still has room for.
+    probes: u64,
 }
 
 impl Probing {
@@ -52,18 +52,18 @@ impl Probing {
             passed: 0,
             credit: 0,
             least,
-            trials: 0,
+            probes: 0,
         }
     }
 
-    /// The search of a piece begins, whose budget has room for so many trials.
-    pub fn begin(&mut self, trials: u64) {
+    /// The search of a piece begins, whose budget has room for so many probes.
+    pub fn begin(&mut self, probes: u64) {
         self.passed = 0;
         self.credit = 0;
-        self.trials = trials;
+        self.probes = probes;
     }
 
-    /// The search put so many literals on the trail by propagation at a node, and one by the decision before it: trials may
+    /// The search put so many literals on the trail by propagation at a node, and one by the decision before it: probes may
     /// put as many there.
     pub fn earn(&mut self, literals: usize) {
         let credit = self
@@ -105,13 +105,13 @@ impl Probing {
     }
 
     /// Whether one more literal may be tried.
-    pub fn may_try(&self) -> bool {
-        self.credit != 0 && self.trials != 0
+    pub fn may_probe(&self) -> bool {
+        self.credit != 0 && self.probes != 0
     }
 
     /// A literal was tried, which put so many on the trail. Where it failed, the round begins again.
-    pub fn note_trial(&mut self, literals: usize, has_failed: bool) {
-        self.trials = self.trials.saturating_sub(1);
+    pub fn note_probe(&mut self, literals: usize, has_failed: bool) {
+        self.probes = self.probes.saturating_sub(1);
         self.credit = self.credit.saturating_sub(literals as u64);
         if has_failed {
             self.passed = 0;

@@ -19,8 +19,8 @@ const LEAST_VARIABLES: u32 = 512;
 /// rows are shifted at once in any case, so a search that is over sooner pays for nothing.
 const LEAST_DECISIONS: usize = 20;
 
-/// One in so many of the decisions of a budget may be a trial at the root.
-const TRIALS_OF_A_BUDGET: u64 = 4;
+/// One in so many of the decisions of a budget may be a probe at the root.
+const PROBES_OF_A_BUDGET: u64 = 4;
 
 /// How often a search that minimises may be about to turn to another value before it is too late to step back for work at the
 /// root: what was closed by then is closed again soon.
@@ -125,11 +125,11 @@ impl RootWork {
         self.is_open = false;
         self.ties = Ties::new();
         self.done = None;
-        let trials = match left {
-            Some(count) => count / TRIALS_OF_A_BUDGET,
+        let probes = match left {
+            Some(count) => count / PROBES_OF_A_BUDGET,
             None => u64::MAX,
         };
-        self.probing.begin(trials);
+        self.probing.begin(probes);
         self.dives = if self.is_decision { 0 } else { CREDIT_OF_DIVES };
         self.dived = None;
         self.renewals = if self.is_decision { 0 } else { MOST_RENEWALS };
@@ -354,15 +354,15 @@ impl RootWork {
         self.looks.take_borrowed()
     }
 
-    /// How many literals are still to be passed in the round of trials that stands at the root, over so many variables; 0 where none may
+    /// How many literals are still to be passed in the round of probes that stands at the root, over so many variables; 0 where none may
     /// begin, since too little was searched.
     pub fn left_of_round(&self, vars: u32) -> u32 {
         self.probing.left_of_round(vars)
     }
 
     /// Whether one more literal may be tried before the share is asked.
-    pub fn may_try(&self) -> bool {
-        self.probing.may_try() && !self.looks.is_due()
+    pub fn may_probe(&self) -> bool {
+        self.probing.may_probe() && !self.looks.is_due()
     }
 
     /// The literal to try next, of so many variables.
@@ -373,10 +373,10 @@ impl RootWork {
     }
 
     /// A literal was tried, which put so many on the trail.
-    pub fn note_trial(&mut self, literals: usize, has_failed: bool)
+    pub fn note_probe(&mut self, literals: usize, has_failed: bool)
         ensures { self.new ≡ self.old }
     {
-        self.probing.note_trial(literals, has_failed);
+        self.probing.note_probe(literals, has_failed);
     }
 
     /// A better assignment over so many variables was found by a dive: more literals may fail now.

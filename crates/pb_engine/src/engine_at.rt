@@ -86,7 +86,7 @@ impl<C: Coefficient> EngineAt<C> {
     {
         let relaxation = relaxation_over(alloc, tables.tables().form())?;
         let propagator = Propagator::new(alloc, tables)?;
-        let deficits = Deficits::new(alloc, &propagator.slacks())?;
+        let deficits = Deficits::new(alloc, &propagator.trail())?;
         let marks = Marks::new(alloc, propagator.vars())?;
         Ok(EngineAt {
             propagator,
@@ -199,9 +199,9 @@ impl<C: Coefficient> EngineAt<C> {
         ensures range { (neg_ℤ (pos SUM_BOUND) ≤ℤ result) × (result ≤ℤ pos SUM_BOUND) }
         ensures unchanged { self.new ≡ self.old }
     {
-        let slacks = self.propagator.slacks();
-        let payment = payment(&slacks, &mut self.deficits, &mut self.marks);
-        let bound = bound_with(&slacks, payment);
+        let trail = self.propagator.trail();
+        let payment = payment(&trail, &mut self.deficits, &mut self.marks);
+        let bound = bound_with(&trail, payment);
         self.standing = Some(bound);
         bound
     }
@@ -222,7 +222,7 @@ impl<C: Coefficient> EngineAt<C> {
     {
         self.standing = None;
         let start = self.propagator.start_of(level);
-        self.deficits.take_back(&self.propagator.slacks(), start);
+        self.deficits.take_back(&self.propagator.trail(), start);
         self.propagator.undo_to(level);
         if let Some(relaxation) = &mut self.relaxation {
             relaxation.undo_to(level as usize, start);
@@ -237,12 +237,12 @@ impl<C: Coefficient> EngineAt<C> {
         ensures bound { IsLowerBound self.old.form self.old.rows self.old.trail result }
         ensures unchanged { self.new ≡ self.old }
     {
-        let slacks = self.propagator.slacks();
-        slacks.tables().facts();
+        let trail = self.propagator.trail();
+        trail.tables().facts();
         let Some(relaxation) = &mut self.relaxation else {
             return bound;
         };
-        let raised = relaxation.raise(&slacks, bound, goal);
+        let raised = relaxation.raise(&trail, bound, goal);
         self.standing = Some(raised);
         raised
     }
@@ -253,12 +253,12 @@ impl<C: Coefficient> EngineAt<C> {
         ensures bound { IfSome result (IsBelowCompletions self.old) }
         ensures unchanged { self.new ≡ self.old }
     {
-        let slacks = self.propagator.slacks();
-        slacks.tables().facts();
+        let trail = self.propagator.trail();
+        trail.tables().facts();
         let Some(relaxation) = &mut self.relaxation else {
             return None;
         };
-        relaxation.bound_at_hand(&slacks)
+        relaxation.bound_at_hand(&trail)
     }
 
     /// Improves the multipliers, if there are any, where no bound is asked for. Answers whether they tell that nothing completes
@@ -267,12 +267,12 @@ impl<C: Coefficient> EngineAt<C> {
         ensures no_completion { result ≡ true → HasNoCompletion self.old.rows self.old.trail }
         ensures unchanged { self.new ≡ self.old }
     {
-        let slacks = self.propagator.slacks();
-        slacks.tables().facts();
+        let trail = self.propagator.trail();
+        trail.tables().facts();
         let Some(relaxation) = &mut self.relaxation else {
             return false;
         };
-        relaxation.improve_multipliers(&slacks)
+        relaxation.improve_multipliers(&trail)
     }
 
     /// A literal without a value that every completion of the trail that costs no more than the limit makes true, by the
@@ -282,12 +282,12 @@ impl<C: Coefficient> EngineAt<C> {
         ensures bound { IfSome result (λ f. IsBelowCompletions self.old f.bound) }
         ensures unchanged { self.new ≡ self.old }
     {
-        let slacks = self.propagator.slacks();
-        slacks.tables().facts();
+        let trail = self.propagator.trail();
+        trail.tables().facts();
         let Some(relaxation) = &mut self.relaxation else {
             return None;
         };
-        relaxation.fixed_literal(&slacks, limit)
+        relaxation.fixed_literal(&trail, limit)
     }
 
     /// Whether the last call of `fixed_literal` gave a literal and nothing was undone since: there may be more, and the
@@ -314,10 +314,10 @@ impl<C: Coefficient> EngineAt<C> {
     pub fn plan(&mut self, steps: u32)
         ensures { self.new ≡ self.old }
     {
-        let slacks = self.propagator.slacks();
-        slacks.tables().facts();
+        let trail = self.propagator.trail();
+        trail.tables().facts();
         if let Some(relaxation) = &mut self.relaxation {
-            relaxation.plan(&slacks, steps);
+            relaxation.plan(&trail, steps);
         }
     }
 
@@ -371,10 +371,10 @@ impl<C: Coefficient> EngineAt<C> {
         requires { lit.var ≤ self.now.vars }
         ensures { result.var ≡ lit.var }
     {
-        let slacks = self.propagator.slacks();
-        slacks.tables().facts();
+        let trail = self.propagator.trail();
+        trail.tables().facts();
         match &self.relaxation {
-            Some(relaxation) => relaxation.cheaper(lit, slacks.tables().cost(lit.negate())),
+            Some(relaxation) => relaxation.cheaper(lit, trail.tables().cost(lit.negate())),
             None => lit,
         }
     }

@@ -14,12 +14,13 @@ mod literals;
 mod numbers;
 mod order;
 mod sums;
+mod workers;
 
 pub use assignments::Assignment;
 pub use builders::{FinishFault, InstanceBuilder};
 pub use constraints::{Constraint, Relation, Term};
 pub use cubes::Cube;
-pub use faults::{BadWorkers, InstFault, Memory, Workers};
+pub use faults::{InstFault, Memory};
 pub use flat_terms::Terms;
 pub use incumbents::Best;
 pub use instances::Instance;
@@ -29,6 +30,7 @@ pub use limits::{
 pub use literals::Lit;
 pub use order::{order_laws, precedes};
 pub use sums::sum_laws;
+pub use workers::{BadWorkers, Workers, next_in_turn, next_other};
 
 /// A coefficient, a bound or a cost.
 pub type Number = i128;

@@ -2,11 +2,11 @@
 //! they are; what follows from any multipliers is told by `Multipliers`.
 
 mod levels;
-mod passes;
 mod reduced_cost_fixing;
 mod refuting;
 mod schedule;
 mod steps;
+mod sweeps;
 
 ghost use Rattle.std.specs.Prelude.{◌≡◌, ◌⊎◌, ◌+◌, ◌^◌, ◌<◌, ◌≤◌, ◌≤ℤ◌, [], true, IfOk, IfSome, length, take};
 ghost use Rattle.pb_dual.specs.Multipliers.{IsBelowCosts, IsFixed};
@@ -16,7 +16,6 @@ ghost use Rattle.pb_saddle.specs.Shifting.{IsSameButShifted};
 
 use crate::effort::Effort;
 use levels::{Levels, changes_for};
-use passes::Passes;
 use pb_count::{Coefficient, Counter};
 use pb_dual::Multipliers;
 use pb_inst::{Lit, Memory, Number};
@@ -29,6 +28,7 @@ use schedule::Schedule;
 use std::alloc::Global;
 use std::marker::Model;
 use steps::Steps;
+use sweeps::Sweeps;
 
 /// How many literals below the root's are far below it: the multipliers of a place so far away are a worse beginning for all
 /// rows at once than the root's.
@@ -56,7 +56,7 @@ pub struct Relaxation<C: Coefficient = u64> {
     multipliers: Multipliers<C>,
     schedule: Schedule,
     steps: Steps<C>,
-    passes: Passes,
+    sweeps: Sweeps,
     reduced_cost_fixing: Fixing,
     effort: Effort,
     /// Where there is no objective: whether multipliers were found that refute, and when they are looked for.
@@ -77,7 +77,7 @@ impl<C: Coefficient> Drop for Relaxation<C> {
             multipliers: _,
             schedule: _,
             steps: _,
-            passes: _,
+            sweeps: _,
             reduced_cost_fixing: _,
             effort: _,
             refuting: _,
@@ -121,10 +121,10 @@ impl<C: Coefficient> Relaxation<C> {
         requires { multipliers.form ≡ form.now }
         ensures { IfOk result (λ r. r ≡ multipliers) }
     {
-        let passes = Passes::new(alloc, form)?;
-        let effort = Effort::new(passes.terms());
+        let sweeps = Sweeps::new(alloc, form)?;
+        let effort = Effort::new(sweeps.terms());
         let refuting = if form.objective().is_empty() {
-            Some(Refuting::new(passes.terms()))
+            Some(Refuting::new(sweeps.terms()))
         } else {
             None
         };
@@ -132,7 +132,7 @@ impl<C: Coefficient> Relaxation<C> {
             multipliers,
             schedule: Schedule::new(alloc, form)?,
             steps: Steps::new(alloc, form)?,
-            passes,
+            sweeps,
             reduced_cost_fixing: Fixing::new(),
             effort,
             refuting,
@@ -146,15 +146,15 @@ impl<C: Coefficient> Relaxation<C> {
     /// The bound, or that of the multipliers where they are used and it is greater. Where the latter is below the goal, the
     /// rows that the trail touched since the last time are stepped at first. Where it alone would reach the goal it is left
     /// out now and then, to see what it saves.
-    pub fn raise(&mut self, slacks: &TrailView<'_, C>, bound: Number, goal: Number) -> Number
-        requires { IsBeside slacks.now.form slacks.now.trail self.old }
-        ensures bound { (result ≡ bound) ⊎ ((bound ≤ℤ result) × IsBelowCosts slacks.now.form slacks.now.trail result) }
-        ensures beside { IsBeside slacks.now.form slacks.now.trail self.new }
+    pub fn raise(&mut self, trail: &TrailView<'_, C>, bound: Number, goal: Number) -> Number
+        requires { IsBeside trail.now.form trail.now.trail self.old }
+        ensures bound { (result ≡ bound) ⊎ ((bound ≤ℤ result) × IsBelowCosts trail.now.form trail.now.trail result) }
+        ensures beside { IsBeside trail.now.form trail.now.trail self.new }
     {
         if self.refuting.is_some() {
             return bound;
         }
-        let is_used = self.use_at(slacks, goal);
+        let is_used = self.use_at(trail, goal);
         if !is_used {
             return bound;
         }
@@ -167,15 +167,15 @@ impl<C: Coefficient> Relaxation<C> {
 
     /// Follows the trail and improves the multipliers, where they are used, as `raise` does; no bound is asked for. Answers
     /// whether they tell that nothing completes the trail. Now and then that is left out, to see what it saves.
-    pub fn improve_multipliers(&mut self, slacks: &TrailView<'_, C>) -> bool
-        requires { IsBeside slacks.now.form slacks.now.trail self.old }
-        ensures no_completion { result ≡ true → HasNoCompletion slacks.now.form.rows slacks.now.trail }
-        ensures beside { IsBeside slacks.now.form slacks.now.trail self.new }
+    pub fn improve_multipliers(&mut self, trail: &TrailView<'_, C>) -> bool
+        requires { IsBeside trail.now.form trail.now.trail self.old }
+        ensures no_completion { result ≡ true → HasNoCompletion trail.now.form.rows trail.now.trail }
+        ensures beside { IsBeside trail.now.form trail.now.trail self.new }
     {
         if let Some(refuting) = self.refuting {
-            return self.refute(slacks, refuting);
+            return self.refute(trail, refuting);
         }
-        let is_used = self.use_at(slacks, Number::MAX);
+        let is_used = self.use_at(trail, Number::MAX);
         if !is_used {
             return false;
         }
@@ -187,34 +187,34 @@ impl<C: Coefficient> Relaxation<C> {
 
     /// Whether the multipliers tell that nothing completes the trail, where there is no objective. They are looked for beside
     /// the root's trail, a few times at most, and used only if they refute that: then they refute each trail beyond it too.
-    fn refute(&mut self, slacks: &TrailView<'_, C>, refuting: Refuting) -> bool
-        requires { IsBeside slacks.now.form slacks.now.trail self.old }
-        ensures no_completion { result ≡ true → HasNoCompletion slacks.now.form.rows slacks.now.trail }
-        ensures beside { IsBeside slacks.now.form slacks.now.trail self.new }
+    fn refute(&mut self, trail: &TrailView<'_, C>, refuting: Refuting) -> bool
+        requires { IsBeside trail.now.form trail.now.trail self.old }
+        ensures no_completion { result ≡ true → HasNoCompletion trail.now.form.rows trail.now.trail }
+        ensures beside { IsBeside trail.now.form trail.now.trail self.new }
     {
         let mut refuting = refuting;
-        refuting.count_node(slacks.len().saturating_sub(self.counted));
-        self.counted = slacks.len();
+        refuting.count_node(trail.len().saturating_sub(self.counted));
+        self.counted = trail.len();
         if let Some(steps) = refuting.steps() {
-            self.return_to_root(slacks);
+            self.return_to_root(trail);
             self.multipliers.saturate();
-            self.passes.refute(&mut self.multipliers, steps);
+            self.sweeps.refute(&mut self.multipliers, steps);
             refuting.end(self.multipliers.refutes());
         }
         self.refuting = Some(refuting);
         if !refuting.are_found {
             return false;
         }
-        self.confirm(slacks, refuting)
+        self.confirm(trail, refuting)
     }
 
     /// Whether the multipliers that were found refute the trail. Where they do not, they are of another root.
-    fn confirm(&mut self, slacks: &TrailView<'_, C>, refuting: Refuting) -> bool
-        requires { IsBeside slacks.now.form slacks.now.trail self.old }
-        ensures no_completion { result ≡ true → HasNoCompletion slacks.now.form.rows slacks.now.trail }
-        ensures beside { IsBeside slacks.now.form slacks.now.trail self.new }
+    fn confirm(&mut self, trail: &TrailView<'_, C>, refuting: Refuting) -> bool
+        requires { IsBeside trail.now.form trail.now.trail self.old }
+        ensures no_completion { result ≡ true → HasNoCompletion trail.now.form.rows trail.now.trail }
+        ensures beside { IsBeside trail.now.form trail.now.trail self.new }
     {
-        self.catch_up(slacks);
+        self.catch_up(trail);
         let mut refuting = refuting;
         refuting.are_found = self.multipliers.refutes();
         self.refuting = Some(refuting);
@@ -223,37 +223,37 @@ impl<C: Coefficient> Relaxation<C> {
 
     /// Uses the multipliers at the node, if they pay: they follow the trail to its end, and are improved where their bound is
     /// below the goal. Answers whether they are used.
-    fn use_at(&mut self, slacks: &TrailView<'_, C>, goal: Number) -> bool
-        requires { IsBeside slacks.now.form slacks.now.trail self.old }
-        ensures followed { result ≡ true → self.new.trail ≡ slacks.now.trail }
-        ensures beside { IsBeside slacks.now.form slacks.now.trail self.new }
+    fn use_at(&mut self, trail: &TrailView<'_, C>, goal: Number) -> bool
+        requires { IsBeside trail.now.form trail.now.trail self.old }
+        ensures followed { result ≡ true → self.new.trail ≡ trail.now.trail }
+        ensures beside { IsBeside trail.now.form trail.now.trail self.new }
     {
-        self.count_node(slacks.len());
-        if self.passes.is_shift_due() {
-            self.shift_all(slacks, goal);
+        self.count_node(trail.len());
+        if self.sweeps.is_shift_due() {
+            self.shift_all(trail, goal);
         }
         self.is_used = self.effort.is_open();
         self.was_used = self.is_used;
         if !self.is_used {
             return false;
         }
-        if self.passes.is_due(&self.effort) {
-            self.step_all(slacks);
+        if self.sweeps.is_due(&self.effort) {
+            self.step_all(trail);
         }
-        self.catch_up(slacks);
-        self.improve(slacks.tables(), goal);
+        self.catch_up(trail);
+        self.improve(trail.tables(), goal);
         self.effort.count_use(self.schedule.work());
         true
     }
 
     /// Shifts all rows at once beside the root's trail, and counts them as it leaves them. Where the search's place is far below
     /// it, its multipliers are no beginning, and the root's are.
-    fn shift_all(&mut self, slacks: &TrailView<'_, C>, goal: Number)
-        requires { IsBeside slacks.now.form slacks.now.trail self.old }
-        ensures { IsBeside slacks.now.form slacks.now.trail self.new }
+    fn shift_all(&mut self, trail: &TrailView<'_, C>, goal: Number)
+        requires { IsBeside trail.now.form trail.now.trail self.old }
+        ensures { IsBeside trail.now.form trail.now.trail self.new }
     {
-        self.return_to_root(slacks);
-        if slacks.len().saturating_sub(self.multipliers.len()) >= FAR {
+        self.return_to_root(trail);
+        if trail.len().saturating_sub(self.multipliers.len()) >= FAR {
             let changes = match self.levels.root_end() {
                 Some(mark) => mark.changes,
                 None => usize::MAX,
@@ -261,53 +261,53 @@ impl<C: Coefficient> Relaxation<C> {
             self.take_back_to(changes);
         }
         self.multipliers.saturate();
-        self.passes
+        self.sweeps
             .shift_all(&mut self.multipliers, &mut self.steps, goal);
     }
 
     /// Steps all rows beside the root's trail.
-    fn step_all(&mut self, slacks: &TrailView<'_, C>)
-        requires { IsBeside slacks.now.form slacks.now.trail self.old }
-        ensures { IsBeside slacks.now.form slacks.now.trail self.new }
+    fn step_all(&mut self, trail: &TrailView<'_, C>)
+        requires { IsBeside trail.now.form trail.now.trail self.old }
+        ensures { IsBeside trail.now.form trail.now.trail self.new }
     {
-        self.return_to_root(slacks);
-        self.passes
+        self.return_to_root(trail);
+        self.sweeps
             .step_all(&mut self.multipliers, &mut self.steps, &mut self.effort);
     }
 
     /// Follows the trail to the end of the root's, and no further.
-    fn return_to_root(&mut self, slacks: &TrailView<'_, C>)
-        requires { IsBeside slacks.now.form slacks.now.trail self.old }
-        ensures { IsBeside slacks.now.form slacks.now.trail self.new }
+    fn return_to_root(&mut self, trail: &TrailView<'_, C>)
+        requires { IsBeside trail.now.form trail.now.trail self.old }
+        ensures { IsBeside trail.now.form trail.now.trail self.new }
     {
-        self.catch_up(slacks);
+        self.catch_up(trail);
         let length = match self.levels.root_end() {
-            Some(mark) => mark.length.min(slacks.len()),
-            None => slacks.len(),
+            Some(mark) => mark.length.min(trail.len()),
+            None => trail.len(),
         };
         self.multipliers.unassign_to(length);
     }
 
     /// Plans in which order the variables without a value may be decided, by a point of least cost beside the trail that is
     /// approached by so many steps from the last one.
-    pub fn plan(&mut self, slacks: &TrailView<'_, C>, steps: u32)
-        requires { IsBeside slacks.now.form slacks.now.trail self.old }
-        ensures { IsBeside slacks.now.form slacks.now.trail self.new }
+    pub fn plan(&mut self, trail: &TrailView<'_, C>, steps: u32)
+        requires { IsBeside trail.now.form trail.now.trail self.old }
+        ensures { IsBeside trail.now.form trail.now.trail self.new }
     {
-        self.catch_up(slacks);
-        self.passes.plan(&self.multipliers, steps);
+        self.catch_up(trail);
+        self.sweeps.plan(&self.multipliers, steps);
     }
 
     /// What is at the place, from 0 on, of the order that was planned last.
     pub fn planned(&self, place: usize) -> Option<Lit> {
-        self.passes.planned(place)
+        self.sweeps.planned(place)
     }
 
     /// A search begins: its nodes are counted from here.
     pub fn begin_search(&mut self)
         ensures { self.new ≡ self.old }
     {
-        self.passes.begin_search();
+        self.sweeps.begin_search();
     }
 
     /// A question of its own begins: what multipliers cost those before, and did not save, counts no more.
@@ -321,7 +321,7 @@ impl<C: Coefficient> Relaxation<C> {
     pub fn renew(&mut self)
         ensures { self.new ≡ self.old }
     {
-        self.passes.renew();
+        self.sweeps.renew();
     }
 
     /// Counts a node of the search whose trail has so many literals.
@@ -330,7 +330,7 @@ impl<C: Coefficient> Relaxation<C> {
     {
         self.schedule.begin();
         self.reduced_cost_fixing.forget();
-        self.passes.count_node();
+        self.sweeps.count_node();
         self.effort
             .count_search(length.saturating_sub(self.counted));
         self.counted = length;
@@ -350,33 +350,33 @@ impl<C: Coefficient> Relaxation<C> {
 
     /// The bound of the multipliers as they are, where they were used at the node that was judged last. They follow the trail,
     /// but no row is touched by that: what is asked for here is taken back at once.
-    pub fn bound_at_hand(&mut self, slacks: &TrailView<'_, C>) -> Option<Number>
-        requires { IsBeside slacks.now.form slacks.now.trail self.old }
-        ensures bound { IfSome result (IsBelowCosts slacks.now.form slacks.now.trail) }
-        ensures beside { IsBeside slacks.now.form slacks.now.trail self.new }
+    pub fn bound_at_hand(&mut self, trail: &TrailView<'_, C>) -> Option<Number>
+        requires { IsBeside trail.now.form trail.now.trail self.old }
+        ensures bound { IfSome result (IsBelowCosts trail.now.form trail.now.trail) }
+        ensures beside { IsBeside trail.now.form trail.now.trail self.new }
     {
         if !self.was_used {
             return None;
         }
-        while self.multipliers.len() < slacks.len() {
-            self.follow_quietly(slacks);
+        while self.multipliers.len() < trail.len() {
+            self.follow_quietly(trail);
         }
         Some(self.multipliers.bound())
     }
 
     /// A literal that every completion of the trail that costs no more than the limit makes true, and that has no value yet,
     /// with the bound of the multipliers as they are; or none. None also where the multipliers are not used at the node.
-    pub fn fixed_literal(&mut self, slacks: &TrailView<'_, C>, limit: Number) -> Option<Fixed>
-        requires { IsBeside slacks.now.form slacks.now.trail self.old }
-        ensures fixed { IfSome result (λ f. IsFixed slacks.now.form slacks.now.trail limit f.lit) }
-        ensures bound { IfSome result (λ f. IsBelowCosts slacks.now.form slacks.now.trail f.bound) }
-        ensures beside { IsBeside slacks.now.form slacks.now.trail self.new }
+    pub fn fixed_literal(&mut self, trail: &TrailView<'_, C>, limit: Number) -> Option<Fixed>
+        requires { IsBeside trail.now.form trail.now.trail self.old }
+        ensures fixed { IfSome result (λ f. IsFixed trail.now.form trail.now.trail limit f.lit) }
+        ensures bound { IfSome result (λ f. IsBelowCosts trail.now.form trail.now.trail f.bound) }
+        ensures beside { IsBeside trail.now.form trail.now.trail self.new }
     {
         self.reduced_cost_fixing.forget();
         if !self.is_used {
             return None;
         }
-        self.catch_up(slacks);
+        self.catch_up(trail);
         let bound = self.multipliers.bound();
         if bound > limit {
             return None;
@@ -539,38 +539,38 @@ impl<C: Coefficient> Relaxation<C> {
     }
 
     /// Follows the trail to its end.
-    fn catch_up(&mut self, slacks: &TrailView<'_, C>)
-        requires { IsBeside slacks.now.form slacks.now.trail self.old }
+    fn catch_up(&mut self, trail: &TrailView<'_, C>)
+        requires { IsBeside trail.now.form trail.now.trail self.old }
         ensures form { self.new.form ≡ self.old.form }
-        ensures trail { self.new.trail ≡ slacks.now.trail }
+        ensures trail { self.new.trail ≡ trail.now.trail }
     {
-        while self.multipliers.len() < slacks.len() {
-            self.follow(slacks);
+        while self.multipliers.len() < trail.len() {
+            self.follow(trail);
         }
     }
 
     /// Follows the trail for one literal.
-    fn follow_quietly(&mut self, slacks: &TrailView<'_, C>)
-        requires beside { IsBeside slacks.now.form slacks.now.trail self.old }
-        requires more { length self.old.trail < length slacks.now.trail }
+    fn follow_quietly(&mut self, trail: &TrailView<'_, C>)
+        requires beside { IsBeside trail.now.form trail.now.trail self.old }
+        requires more { length self.old.trail < length trail.now.trail }
         ensures form { self.new.form ≡ self.old.form }
-        ensures trail { self.new.trail ≡ take (length self.old.trail + 1) slacks.now.trail }
+        ensures trail { self.new.trail ≡ take (length self.old.trail + 1) trail.now.trail }
     {
-        let (_vars, _length) = (slacks.tables().vars(), slacks.len());
-        let lit = slacks.literal(self.multipliers.len());
+        let (_vars, _length) = (trail.tables().vars(), trail.len());
+        let lit = trail.literal(self.multipliers.len());
         self.multipliers.assign(lit);
     }
 
     /// Follows the trail for one literal, and notes the rows of its variable.
-    fn follow(&mut self, slacks: &TrailView<'_, C>)
-        requires beside { IsBeside slacks.now.form slacks.now.trail self.old }
-        requires more { length self.old.trail < length slacks.now.trail }
+    fn follow(&mut self, trail: &TrailView<'_, C>)
+        requires beside { IsBeside trail.now.form trail.now.trail self.old }
+        requires more { length self.old.trail < length trail.now.trail }
         ensures form { self.new.form ≡ self.old.form }
-        ensures trail { self.new.trail ≡ take (length self.old.trail + 1) slacks.now.trail }
+        ensures trail { self.new.trail ≡ take (length self.old.trail + 1) trail.now.trail }
     {
-        let (tables, _length) = (slacks.tables(), slacks.len());
-        let lit = slacks.literal(self.multipliers.len());
-        self.follow_quietly(slacks);
+        let (tables, _length) = (trail.tables(), trail.len());
+        let lit = trail.literal(self.multipliers.len());
+        self.follow_quietly(trail);
         self.schedule.touch(tables, lit);
     }
 }

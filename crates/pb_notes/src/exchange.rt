@@ -3,9 +3,8 @@ ghost use Rattle.std.specs.Prelude.{◌≡◌, ◌≤◌, length, IfOk, IfSome};
 
 use crate::notes::Notes;
 use crate::reading::{Note, read_note};
-use crate::turns::{next_in_turn, next_other};
 use crate::writing::{note_room, write_note};
-use pb_inst::{Assignment, Memory, Number};
+use pb_inst::{Assignment, Memory, Number, next_in_turn, next_other};
 use std::alloc::Global;
 use std::io;
 use std::marker::Model;

@@ -6,12 +6,10 @@ mod exchange;
 mod folder;
 mod notes;
 mod reading;
-mod turns;
 mod writing;
 
 pub use exchange::{Exchange, looks_apart};
 pub use folder::Folder;
 pub use notes::Notes;
 pub use reading::{Note, read_note};
-pub use turns::next_other;
 pub use writing::{note_room, write_note};

@@ -7,7 +7,7 @@
 #![tactic(auto)]
 
 mod activity;
-mod causes;
+mod conflict_analysis;
 mod heap;
 mod initial;
 mod order;

@@ -3,7 +3,7 @@
 ghost use Rattle.std.specs.Prelude.{◌<◌, length};
 
 use crate::activity::Activities;
-use crate::causes::Causes;
+use crate::conflict_analysis::ConflictAnalysis;
 use crate::heap::Heap;
 use crate::initial::{initial_activities, initial_phases, literal_scores};
 use crate::pseudocosts::{Gain, Pseudocosts};
@@ -32,7 +32,7 @@ pub struct Order {
     is_decision: bool,
     /// Whether the phases are those of an assignment from outside.
     is_suggested: bool,
-    causes: Causes,
+    analysis: ConflictAnalysis,
 }
 
 // No answer depends on the order, so contracts see nothing of it.
@@ -52,7 +52,7 @@ impl Drop for Order {
             phases: _,
             is_decision: _,
             is_suggested: _,
-            causes: _,
+            analysis: _,
         } = self;
     }
 }
@@ -70,7 +70,7 @@ impl Order {
         let activities = Activities::new(entries, pseudocosts);
         let heap = Heap::new(alloc, form.vars(), &activities)?;
         let phases = initial_phases(alloc, form, &scores)?;
-        let causes = Causes::new(alloc, form.vars())?;
+        let analysis = ConflictAnalysis::new(alloc, form.vars())?;
         Ok(Order {
             activities,
             heap,
@@ -78,7 +78,7 @@ impl Order {
             phases,
             is_decision: form.objective().is_empty(),
             is_suggested: false,
-            causes,
+            analysis,
         })
     }
 
@@ -143,31 +143,31 @@ impl Order {
         };
         self.bump_row(propagator.row_terms(row));
         if self.is_decision {
-            self.bump_causes(propagator, row);
+            self.analyse_conflict(propagator, row);
             self.activities.decay();
         }
     }
 
-    /// Bumps the variables whose values led to the conflict at the row.
-    fn bump_causes<C: Coefficient>(&mut self, propagator: &Propagator<C>, row: usize)
+    /// Conflict analysis: bumps the variables whose values led to the conflict at the row.
+    fn analyse_conflict<C: Coefficient>(&mut self, propagator: &Propagator<C>, row: usize)
         requires { row < length propagator.now.rows }
     {
-        self.causes.begin();
-        self.causes.add_row(propagator, propagator.row_terms(row));
+        self.analysis.begin();
+        self.analysis.add_row(propagator, propagator.row_terms(row));
         for place in (0..propagator.trail_len()).rev() {
-            if !self.causes.are_waiting() {
+            if !self.analysis.are_waiting() {
                 return;
             }
-            self.bump_cause(propagator, propagator.literal(place));
+            self.analyse_literal(propagator, propagator.literal(place));
         }
     }
 
     /// Bumps the literal's variable where it led to the conflict, and then so did those of the row that forced it.
-    fn bump_cause<C: Coefficient>(&mut self, propagator: &Propagator<C>, lit: Lit) {
-        if self.causes.meet(lit.var()) {
+    fn analyse_literal<C: Coefficient>(&mut self, propagator: &Propagator<C>, lit: Lit) {
+        if self.analysis.meet(lit.var()) {
             self.bump(lit);
             if let Some(row) = propagator.reason(lit.var()) {
-                self.causes.add_row(propagator, propagator.row_terms(row));
+                self.analysis.add_row(propagator, propagator.row_terms(row));
             }
         }
     }

@@ -17,34 +17,34 @@ use pb_trail::TrailView;
 
 /// What the trail pays and the contributions of the picked rows.
 pub fn payment<C: Coefficient>(
-    slacks: &TrailView<'_, C>,
+    trail: &TrailView<'_, C>,
     deficits: &mut Deficits<C>,
     marks: &mut Marks,
 ) -> Magnitude
-    requires deficits { AreDeficits C.limit slacks.now.form slacks.now.rows slacks.now.trail deficits.old }
-    requires marks { length marks.old ≡ slacks.now.vars }
-    ensures payment { result ≡ reached slacks.now.trail slacks.now.form.objective + row_contributions slacks.now.form.objective slacks.now.trail (replicate slacks.now.form.vars false) slacks.now.rows }
-    ensures small { result ≤ total_coefficient slacks.now.form.objective }
-    ensures deficits { AreDeficits C.limit slacks.now.form slacks.now.rows slacks.now.trail deficits.new }
+    requires deficits { AreDeficits C.limit trail.now.form trail.now.rows trail.now.trail deficits.old }
+    requires marks { length marks.old ≡ trail.now.vars }
+    ensures payment { result ≡ reached trail.now.trail trail.now.form.objective + row_contributions trail.now.form.objective trail.now.trail (replicate trail.now.form.vars false) trail.now.rows }
+    ensures small { result ≤ total_coefficient trail.now.form.objective }
+    ensures deficits { AreDeficits C.limit trail.now.form trail.now.rows trail.now.trail deficits.new }
     ensures marks { length marks.new ≡ length marks.old }
 {
-    slacks.tables().facts();
-    if slacks.form().objective().is_empty() {
+    trail.tables().facts();
+    if trail.form().objective().is_empty() {
         return 0;
     }
-    deficits.count(slacks);
-    let contributions = row_contributions(deficits, marks, slacks);
+    deficits.count(trail);
+    let contributions = row_contributions(deficits, marks, trail);
     (deficits.paid() + contributions).number()
 }
 
 /// The base with what the trail pays and the contributions: at most the cost of every completion of the trail.
-pub fn bound_with<C: Coefficient>(slacks: &TrailView<'_, C>, payment: Magnitude) -> Number
-    requires payment { payment ≡ reached slacks.now.trail slacks.now.form.objective + row_contributions slacks.now.form.objective slacks.now.trail (replicate slacks.now.form.vars false) slacks.now.rows }
-    requires small { payment ≤ total_coefficient slacks.now.form.objective }
-    ensures value { result ≡ disjoint_bound slacks.now.form slacks.now.rows slacks.now.trail }
-    ensures bound { IsLowerBound slacks.now.form slacks.now.rows slacks.now.trail result }
+pub fn bound_with<C: Coefficient>(trail: &TrailView<'_, C>, payment: Magnitude) -> Number
+    requires payment { payment ≡ reached trail.now.trail trail.now.form.objective + row_contributions trail.now.form.objective trail.now.trail (replicate trail.now.form.vars false) trail.now.rows }
+    requires small { payment ≤ total_coefficient trail.now.form.objective }
+    ensures value { result ≡ disjoint_bound trail.now.form trail.now.rows trail.now.trail }
+    ensures bound { IsLowerBound trail.now.form trail.now.rows trail.now.trail result }
     ensures range { (neg_ℤ (pos SUM_BOUND) ≤ℤ result) × (result ≤ℤ pos SUM_BOUND) }
 {
-    slacks.tables().facts();
-    slacks.form().base() + payment as Number
+    trail.tables().facts();
+    trail.form().base() + payment as Number
 }

@@ -30,10 +30,10 @@ pub struct Deficits<C: Coefficient> {
 
 impl<C: Coefficient> Deficits<C> {
     /// No literal is counted.
-    pub fn new(alloc: Global, slacks: &TrailView<'_, C>) -> Result<Deficits<C>, Memory>
-        ensures { IfOk result (λ deficits. AreDeficits C.limit slacks.now.form slacks.now.rows slacks.now.trail deficits) }
+    pub fn new(alloc: Global, trail: &TrailView<'_, C>) -> Result<Deficits<C>, Memory>
+        ensures { IfOk result (λ deficits. AreDeficits C.limit trail.now.form trail.now.rows trail.now.trail deficits) }
     {
-        let by_row = initial_deficits(alloc, slacks.tables())?;
+        let by_row = initial_deficits(alloc, trail.tables())?;
         let open_rows = open_rows_of(alloc, &by_row)?;
         Ok(Deficits {
             counted: 0,
@@ -44,24 +44,24 @@ impl<C: Coefficient> Deficits<C> {
     }
 
     /// Counts the literals of the trail that were not counted yet.
-    pub fn count(&mut self, slacks: &TrailView<'_, C>)
-        requires { AreDeficits C.limit slacks.now.form slacks.now.rows slacks.now.trail self.old }
-        ensures deficits { AreDeficits C.limit slacks.now.form slacks.now.rows slacks.now.trail self.new }
-        ensures all { self.new.counted ≡ length slacks.now.trail }
+    pub fn count(&mut self, trail: &TrailView<'_, C>)
+        requires { AreDeficits C.limit trail.now.form trail.now.rows trail.now.trail self.old }
+        ensures deficits { AreDeficits C.limit trail.now.form trail.now.rows trail.now.trail self.new }
+        ensures all { self.new.counted ≡ length trail.now.trail }
     {
-        while self.counted < slacks.len() {
-            self.count_next(slacks);
+        while self.counted < trail.len() {
+            self.count_next(trail);
         }
     }
 
     /// Takes back the literals of the trail from a place on.
-    pub fn take_back(&mut self, slacks: &TrailView<'_, C>, start: usize)
-        requires { AreDeficits C.limit slacks.now.form slacks.now.rows slacks.now.trail self.old }
-        ensures deficits { AreDeficits C.limit slacks.now.form slacks.now.rows slacks.now.trail self.new }
+    pub fn take_back(&mut self, trail: &TrailView<'_, C>, start: usize)
+        requires { AreDeficits C.limit trail.now.form trail.now.rows trail.now.trail self.old }
+        ensures deficits { AreDeficits C.limit trail.now.form trail.now.rows trail.now.trail self.new }
         ensures before { self.new.counted ≤ start }
     {
         while self.counted > start {
-            self.take_back_last(slacks);
+            self.take_back_last(trail);
         }
     }
 
@@ -89,32 +89,32 @@ impl<C: Coefficient> Deficits<C> {
     }
 
     /// Counts the next literal.
-    fn count_next(&mut self, slacks: &TrailView<'_, C>)
-        requires deficits { AreDeficits C.limit slacks.now.form slacks.now.rows slacks.now.trail self.old }
-        requires next { self.old.counted < length slacks.now.trail }
-        ensures deficits { AreDeficits C.limit slacks.now.form slacks.now.rows slacks.now.trail self.new }
+    fn count_next(&mut self, trail: &TrailView<'_, C>)
+        requires deficits { AreDeficits C.limit trail.now.form trail.now.rows trail.now.trail self.old }
+        requires next { self.old.counted < length trail.now.trail }
+        ensures deficits { AreDeficits C.limit trail.now.form trail.now.rows trail.now.trail self.new }
         ensures counted { self.new.counted ≡ self.old.counted + 1 }
     {
-        let tables = slacks.tables();
+        let tables = trail.tables();
         tables.facts();
-        let _length = slacks.len();
-        let lit = slacks.literal(self.counted);
+        let _length = trail.len();
+        let lit = trail.literal(self.counted);
         join(&mut self.by_row, &mut self.open_rows, tables, lit);
         self.paid += tables.cost(lit);
         self.counted += 1;
     }
 
     /// Takes back the last literal that is counted.
-    fn take_back_last(&mut self, slacks: &TrailView<'_, C>)
-        requires deficits { AreDeficits C.limit slacks.now.form slacks.now.rows slacks.now.trail self.old }
+    fn take_back_last(&mut self, trail: &TrailView<'_, C>)
+        requires deficits { AreDeficits C.limit trail.now.form trail.now.rows trail.now.trail self.old }
         requires some { 0 < self.old.counted }
-        ensures deficits { AreDeficits C.limit slacks.now.form slacks.now.rows slacks.now.trail self.new }
+        ensures deficits { AreDeficits C.limit trail.now.form trail.now.rows trail.now.trail self.new }
         ensures counted { self.new.counted + 1 ≡ self.old.counted }
     {
-        let tables = slacks.tables();
+        let tables = trail.tables();
         tables.facts();
-        slacks.facts();
-        let lit = slacks.literal(self.counted - 1);
+        trail.facts();
+        let lit = trail.literal(self.counted - 1);
         leave(&mut self.by_row, &mut self.open_rows, tables, lit);
         self.paid -= tables.cost(lit);
         self.counted -= 1;

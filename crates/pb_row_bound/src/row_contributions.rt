@@ -61,23 +61,23 @@ impl<C: Coefficient> Offer<C> {
     /// With the term where its literal is costly, or none where its variable has no value and is marked.
     fn joined(
         self,
-        slacks: &TrailView<'_, C>,
+        trail: &TrailView<'_, C>,
         marks: &Marks,
         coef: Counter<C>,
         lit: Lit,
     ) -> Option<Offer<C>>
-        requires variable { (1 ≤ lit.var) × (lit.var ≤ slacks.now.vars) }
-        requires marks { length marks.now ≡ slacks.now.vars }
+        requires variable { (1 ≤ lit.var) × (lit.var ≤ trail.now.vars) }
+        requires marks { length marks.now ≡ trail.now.vars }
         requires fits { self.total + coef < 2 * C.limit }
-        ensures { result ≡ offer_joined slacks.now.form.objective slacks.now.trail marks.now self (record { coef = coef; lit = lit }) }
+        ensures { result ≡ offer_joined trail.now.form.objective trail.now.trail marks.now self (record { coef = coef; lit = lit }) }
     {
-        if slacks.value(lit.var()).is_some() {
+        if trail.value(lit.var()).is_some() {
             return Some(self);
         }
         if marks.is_marked(lit.var()) {
             return None;
         }
-        let cost = slacks.tables().cost(lit);
+        let cost = trail.tables().cost(lit);
         if cost.is_zero() {
             return Some(self);
         }
@@ -103,75 +103,75 @@ impl<C: Coefficient> Offer<C> {
 
 /// What the costly literals of the row are, or none where a variable without a value is marked.
 fn offer_in<C: Coefficient>(
-    slacks: &TrailView<'_, C>,
+    trail: &TrailView<'_, C>,
     marks: &Marks,
     terms: RowTerms<'_, C>,
 ) -> Option<Offer<C>>
-    requires variables { All (λ t. (1 ≤ t.lit.var) × (t.lit.var ≤ slacks.now.vars)) (terms_in terms) }
-    requires marks { length marks.now ≡ slacks.now.vars }
+    requires variables { All (λ t. (1 ≤ t.lit.var) × (t.lit.var ≤ trail.now.vars)) (terms_in terms) }
+    requires marks { length marks.now ≡ trail.now.vars }
     requires fits { sum_by (λ t. t.coef) (terms_in terms) < C.limit }
-    ensures some { ForSome result (λ offer. (offer ≡ offer_of C.limit slacks.now.form.objective slacks.now.trail (terms_in terms.entry)) × (meets_marks slacks.now.trail marks.now (terms_in terms.entry) ≡ false)) }
-    ensures none { result ≡ None → meets_marks slacks.now.trail marks.now (terms_in terms.entry) ≡ true }
+    ensures some { ForSome result (λ offer. (offer ≡ offer_of C.limit trail.now.form.objective trail.now.trail (terms_in terms.entry)) × (meets_marks trail.now.trail marks.now (terms_in terms.entry) ≡ false)) }
+    ensures none { result ≡ None → meets_marks trail.now.trail marks.now (terms_in terms.entry) ≡ true }
 {
     match terms {
-        RowTerms::Weighted(terms) => offer_of_items(slacks, marks, terms),
-        RowTerms::Units(lits) => offer_of_items(slacks, marks, lits),
+        RowTerms::Weighted(terms) => offer_of_items(trail, marks, terms),
+        RowTerms::Units(lits) => offer_of_items(trail, marks, lits),
     }
 }
 
 /// What the costly literals of the items are.
 fn offer_of_items<C: Coefficient, T: Weighs<C>>(
-    slacks: &TrailView<'_, C>,
+    trail: &TrailView<'_, C>,
     marks: &Marks,
     items: &[T],
 ) -> Option<Offer<C>>
-    requires variables { All (λ t. (1 ≤ t.lit.var) × (t.lit.var ≤ slacks.now.vars)) (map T.term items.now) }
-    requires marks { length marks.now ≡ slacks.now.vars }
+    requires variables { All (λ t. (1 ≤ t.lit.var) × (t.lit.var ≤ trail.now.vars)) (map T.term items.now) }
+    requires marks { length marks.now ≡ trail.now.vars }
     requires fits { sum_by (λ t. t.coef) (map T.term items.now) < C.limit }
-    ensures some { ForSome result (λ offer. (offer ≡ offer_of C.limit slacks.now.form.objective slacks.now.trail (map T.term items.now)) × (meets_marks slacks.now.trail marks.now (map T.term items.now) ≡ false)) }
-    ensures none { result ≡ None → meets_marks slacks.now.trail marks.now (map T.term items.now) ≡ true }
+    ensures some { ForSome result (λ offer. (offer ≡ offer_of C.limit trail.now.form.objective trail.now.trail (map T.term items.now)) × (meets_marks trail.now.trail marks.now (map T.term items.now) ≡ false)) }
+    ensures none { result ≡ None → meets_marks trail.now.trail marks.now (map T.term items.now) ≡ true }
 {
     let mut offer = Offer::none();
     for item in items {
-        offer = offer.joined(slacks, marks, item.coef(), item.lit())?;
+        offer = offer.joined(trail, marks, item.coef(), item.lit())?;
     }
     Some(offer)
 }
 
 /// Marks the row's variables that have no value.
-fn mark<C: Coefficient>(marks: &mut Marks, slacks: &TrailView<'_, C>, terms: RowTerms<'_, C>)
-    requires variables { All (λ t. (1 ≤ t.lit.var) × (t.lit.var ≤ slacks.now.vars)) (terms_in terms) }
-    requires marks { length marks.old ≡ slacks.now.vars }
-    ensures { marks.new ≡ marked_by slacks.now.trail marks.old (terms_in terms.entry) }
+fn mark<C: Coefficient>(marks: &mut Marks, trail: &TrailView<'_, C>, terms: RowTerms<'_, C>)
+    requires variables { All (λ t. (1 ≤ t.lit.var) × (t.lit.var ≤ trail.now.vars)) (terms_in terms) }
+    requires marks { length marks.old ≡ trail.now.vars }
+    ensures { marks.new ≡ marked_by trail.now.trail marks.old (terms_in terms.entry) }
 {
     match terms {
-        RowTerms::Weighted(terms) => mark_items(marks, slacks, terms),
-        RowTerms::Units(lits) => mark_items(marks, slacks, lits),
+        RowTerms::Weighted(terms) => mark_items(marks, trail, terms),
+        RowTerms::Units(lits) => mark_items(marks, trail, lits),
     }
 }
 
 /// Marks the variables of the items that have no value.
 fn mark_items<C: Coefficient, T: Weighs<C>>(
     marks: &mut Marks,
-    slacks: &TrailView<'_, C>,
+    trail: &TrailView<'_, C>,
     items: &[T],
 )
-    requires variables { All (λ t. (1 ≤ t.lit.var) × (t.lit.var ≤ slacks.now.vars)) (map T.term items.now) }
-    requires marks { length marks.old ≡ slacks.now.vars }
-    ensures { marks.new ≡ marked_by slacks.now.trail marks.old (map T.term items.now) }
+    requires variables { All (λ t. (1 ≤ t.lit.var) × (t.lit.var ≤ trail.now.vars)) (map T.term items.now) }
+    requires marks { length marks.old ≡ trail.now.vars }
+    ensures { marks.new ≡ marked_by trail.now.trail marks.old (map T.term items.now) }
 {
     for item in items {
-        mark_free(marks, slacks, item.lit());
+        mark_free(marks, trail, item.lit());
     }
 }
 
 /// Marks the literal's variable where it has no value.
-fn mark_free<C: Coefficient>(marks: &mut Marks, slacks: &TrailView<'_, C>, lit: Lit)
-    requires variable { (1 ≤ lit.var) × (lit.var ≤ slacks.now.vars) }
-    requires marks { length marks.old ≡ slacks.now.vars }
-    ensures { marks.new ≡ (if is_free slacks.now.trail lit then slice_set marks.old (lit.var - 1) true else marks.old) }
+fn mark_free<C: Coefficient>(marks: &mut Marks, trail: &TrailView<'_, C>, lit: Lit)
+    requires variable { (1 ≤ lit.var) × (lit.var ≤ trail.now.vars) }
+    requires marks { length marks.old ≡ trail.now.vars }
+    ensures { marks.new ≡ (if is_free trail.now.trail lit then slice_set marks.old (lit.var - 1) true else marks.old) }
 {
-    if slacks.value(lit.var()).is_some() {
+    if trail.value(lit.var()).is_some() {
         return;
     }
     marks.mark(lit.var());
@@ -181,28 +181,28 @@ fn mark_free<C: Coefficient>(marks: &mut Marks, slacks: &TrailView<'_, C>, lit: 
 fn pick<C: Coefficient>(
     deficits: &Deficits<C>,
     marks: &mut Marks,
-    slacks: &TrailView<'_, C>,
+    trail: &TrailView<'_, C>,
     row: usize,
 ) -> Counter<C>
-    requires row { row < length slacks.now.rows }
-    requires deficits { AreDeficits C.limit slacks.now.form slacks.now.rows slacks.now.trail deficits.now }
-    requires counted { deficits.now.counted ≡ length slacks.now.trail }
-    requires marks { length marks.old ≡ slacks.now.vars }
-    ensures contribution { result ≡ (if is_picked slacks.now.form.objective slacks.now.trail marks.old (row_at slacks.now.rows row) then contribution slacks.now.form.objective slacks.now.trail (row_at slacks.now.rows row) else 0) }
-    ensures marks { marks.new ≡ (if is_picked slacks.now.form.objective slacks.now.trail marks.old (row_at slacks.now.rows row) then marked_by slacks.now.trail marks.old (row_at slacks.now.rows row).terms else marks.old) }
+    requires row { row < length trail.now.rows }
+    requires deficits { AreDeficits C.limit trail.now.form trail.now.rows trail.now.trail deficits.now }
+    requires counted { deficits.now.counted ≡ length trail.now.trail }
+    requires marks { length marks.old ≡ trail.now.vars }
+    ensures contribution { result ≡ (if is_picked trail.now.form.objective trail.now.trail marks.old (row_at trail.now.rows row) then contribution trail.now.form.objective trail.now.trail (row_at trail.now.rows row) else 0) }
+    ensures marks { marks.new ≡ (if is_picked trail.now.form.objective trail.now.trail marks.old (row_at trail.now.rows row) then marked_by trail.now.trail marks.old (row_at trail.now.rows row).terms else marks.old) }
 {
-    let tables = slacks.tables();
+    let tables = trail.tables();
     tables.facts();
-    slacks.facts();
+    trail.facts();
     let terms = tables.terms(row);
-    match offer_in(slacks, marks, terms) {
+    match offer_in(trail, marks, terms) {
         None => Counter::of(0),
         Some(offer) => {
             let contribution = offer.contribution(deficits.need(row));
             if contribution.is_zero() {
                 return Counter::of(0);
             }
-            mark(marks, slacks, terms);
+            mark(marks, trail, terms);
             contribution
         }
     }
@@ -212,20 +212,20 @@ fn pick<C: Coefficient>(
 pub fn row_contributions<C: Coefficient>(
     deficits: &Deficits<C>,
     marks: &mut Marks,
-    slacks: &TrailView<'_, C>,
+    trail: &TrailView<'_, C>,
 ) -> Counter<C>
-    requires deficits { AreDeficits C.limit slacks.now.form slacks.now.rows slacks.now.trail deficits.now }
-    requires counted { deficits.now.counted ≡ length slacks.now.trail }
-    requires marks { length marks.old ≡ slacks.now.vars }
-    ensures contributions { result ≡ row_contributions slacks.now.form.objective slacks.now.trail (replicate slacks.now.vars false) slacks.now.rows }
+    requires deficits { AreDeficits C.limit trail.now.form trail.now.rows trail.now.trail deficits.now }
+    requires counted { deficits.now.counted ≡ length trail.now.trail }
+    requires marks { length marks.old ≡ trail.now.vars }
+    ensures contributions { result ≡ row_contributions trail.now.form.objective trail.now.trail (replicate trail.now.vars false) trail.now.rows }
     ensures marks { length marks.new ≡ length marks.old }
 {
     marks.clear();
-    slacks.tables().facts();
+    trail.tables().facts();
     let mut sum = Counter::of(0);
     let mut from = 0;
     while let Some(row) = deficits.next(from) {
-        sum += pick(deficits, marks, slacks, row);
+        sum += pick(deficits, marks, trail, row);
         from = row + 1;
     }
     sum

@@ -1,9 +1,9 @@
-//! Multipliers and a point for the linear relaxation of what a trail leaves, proposed by a first-order method.
+//! Multipliers and a point for the linear relaxation of what a trail leaves, proposed by PDHG, the primal-dual hybrid gradient.
 //!
 //! The rows that the trail does not meet, and the variables that it gives no value, are taken as a linear program: the
-//! variables may have any value from 0 to 1, and the costs are to be least. The method is the primal-dual hybrid
-//! gradient for linear programs, with scaled rows and columns, restarts and a weight between both halves, and with the
-//! reflected Halpern iteration in place of means.
+//! variables may have any value from 0 to 1, and the costs are to be least. A saddle point of its Lagrangian is approached
+//! by PDHG for linear programs, with scaled rows and columns, restarts and a primal weight, and with the reflected Halpern
+//! iteration in place of means.
 //!
 //! All of it is counted in floats, by the plain operations in a fixed order, so each machine finds the same. What it finds
 //! is rounded, and no more than a proposal: `pb_dual` tells what follows from any multipliers, and no answer depends on which
@@ -15,13 +15,13 @@
 
 mod floats;
 mod iterate;
+mod pdhg;
 mod plan;
 mod problem;
 mod restart;
-mod saddle;
 mod scaling;
 mod shifting;
 mod sparse;
 mod step;
 
-pub use saddle::Saddle;
+pub use pdhg::Pdhg;

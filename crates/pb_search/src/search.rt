@@ -94,7 +94,7 @@ impl<'a> Search<'a> {
     /// at most, for first and second values of variables alike; the literals of a cube are no decisions. It answers `Cut`
     /// where it would need one more, and without a budget always `Whole`. After `Whole` no feasible assignment of the piece is
     /// before the best one. In any case the best one is not after what it was, is none only where it was none, and the
-    /// search may run again. It asks the share for an assignment at the beginning and after every 256th decision, trials
+    /// search may run again. It asks the share for an assignment at the beginning and after every 256th decision, probes
     /// and dives aside, and tells it of each improvement of its own. Takes no memory.
     pub fn run<S: Share>(
         &mut self,

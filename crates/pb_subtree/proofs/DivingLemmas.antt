@@ -16,7 +16,7 @@ use Rattle.pb_subtree.specs.Descent.{IsDescentPaid}
 use Rattle.pb_subtree.specs.Nodes.{IsFoundAt}
 use Rattle.pb_subtree.specs.declared.search_state.SearchState.{SearchState}
 use Rattle.pb_prune.specs.Solutions.{SameConstraints, Completes}
-use Rattle.pb_subtree.specs.SearchState.{IsSameBeside, SameBranches}
+use Rattle.pb_subtree.specs.SearchState.{SameBranchesAndRoom, SameBranches}
 use Rattle.pb_control.proofs.BudgetLemmas.{paid_of_more}
 use Rattle.pb_subtree.proofs.Engines.{same_constraints_itself, same_constraints_onward}
 use Rattle.pb_subtree.proofs.RootLemmas.{front_true}
@@ -59,7 +59,7 @@ pub same_branches_itself : {C : Type 0} (t : SearchState C) → SameBranches t t
 same_branches_itself t = record { constraints = same_constraints_itself t.engine; assumptions = refl; branches = refl; room = refl; returns = refl }
 
 -- where the engine is the same again
-pub same_branches_back : {C : Type 0} (t u : SearchState C) → u.engine ≡ t.engine → IsSameBeside t u → SameBranches t u
+pub same_branches_back : {C : Type 0} (t u : SearchState C) → u.engine ≡ t.engine → SameBranchesAndRoom t u → SameBranches t u
 same_branches_back t u same beside = record {
   constraints = subst (λ (e : EngineState). SameConstraints t.engine e) (sym same) (same_constraints_itself t.engine);
   assumptions = ap (λ (e : EngineState). assumptions e) same;

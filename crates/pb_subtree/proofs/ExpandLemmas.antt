@@ -12,7 +12,7 @@ use Rattle.pb_subtree.specs.declared.search_state.SearchState.{SearchState}
 use Rattle.pb_prune.specs.Held.{MovesOn}
 use Rattle.pb_subtree.specs.Nodes.{IsBackFromDive, IsExpanded, IsFoundAt}
 use Rattle.pb_prune.specs.Subtree.{IsClosed, IsOpenOnOneSide}
-use Rattle.pb_subtree.specs.SearchState.{IsFreshOrOneSided, IsSameBeside, SameBranches}
+use Rattle.pb_subtree.specs.SearchState.{IsFreshOrOneSided, SameBranchesAndRoom, SameBranches}
 use Rattle.pb_subtree.proofs.DivingLemmas.{own_later, same_branches_back, same_branches_itself, same_branches_onward}
 use Rattle.pb_subtree.proofs.HeldLemmas.{moves_itself, moves_onward}
 
@@ -39,7 +39,7 @@ pub record IsLookedOn {C : Type 0} (lends : Bool) (s v : SearchState C) (x z : I
   pub moves_on : MovesOn x z
   pub own : lends ≡ false → IsFoundAt v.engine x z
 
-pub looked_onward : {C : Type 0} (lends : Bool) (s u v : SearchState C) (x y z : Incumbent) (next : Option Branch) → v.engine ≡ u.engine → IsSameBeside u v → MovesOn y z → (lends ≡ false → z ≡ y) → IsExpanded lends s u x y next → IsLookedOn lends s v x z
+pub looked_onward : {C : Type 0} (lends : Bool) (s u v : SearchState C) (x y z : Incumbent) (next : Option Branch) → v.engine ≡ u.engine → SameBranchesAndRoom u v → MovesOn y z → (lends ≡ false → z ≡ y) → IsExpanded lends s u x y next → IsLookedOn lends s v x z
 looked_onward lends s u v x y z next same beside moves own e = record {
   same_branches = same_branches_onward s u v e.same_branches (same_branches_back u v same beside);
   sound = subst (λ (r : EngineState). IsSoundTrail r) (sym same) e.sound;
@@ -48,7 +48,7 @@ looked_onward lends s u v x y z next same beside moves own e = record {
 }
 
 -- the same where it gave nothing: the node is as it was
-pub expanded_looked : {C : Type 0} (lends : Bool) (s u v : SearchState C) (x y z : Incumbent) (next : Option Branch) → v.engine ≡ u.engine → IsSameBeside u v → MovesOn y z → z.held ≡ y.held → (lends ≡ false → z ≡ y) → IsExpanded lends s u x y next → IsExpanded lends s v x z next
+pub expanded_looked : {C : Type 0} (lends : Bool) (s u v : SearchState C) (x y z : Incumbent) (next : Option Branch) → v.engine ≡ u.engine → SameBranchesAndRoom u v → MovesOn y z → z.held ≡ y.held → (lends ≡ false → z ≡ y) → IsExpanded lends s u x y next → IsExpanded lends s v x z next
 expanded_looked lends s u v x y z next same beside moves nothing own e =
     let looked = looked_onward lends s u v x y z next same beside moves own e in
     record {
@@ -86,7 +86,7 @@ one_side_left lends s u x b l is same sound none side =
     some_left lends s u x b same sound (record { variable = here.variable; no_value = here.no_value; no_conflict = none }) (inr here.one_sided)
 
 -- a full trail was handed over, and the engine is the same
-pub leaf_left : {C : Type 0} (lends : Bool) (s t u : SearchState C) (x y : Incumbent) → SameBranches s t → IsSoundTrail t.engine → u.engine ≡ t.engine → IsSameBeside t u → IsClosed x.problem t.engine y.held → MovesOn x y → IsFoundAt t.engine x y → IsExpanded lends s u x y None
+pub leaf_left : {C : Type 0} (lends : Bool) (s t u : SearchState C) (x y : Incumbent) → SameBranches s t → IsSoundTrail t.engine → u.engine ≡ t.engine → SameBranchesAndRoom t u → IsClosed x.problem t.engine y.held → MovesOn x y → IsFoundAt t.engine x y → IsExpanded lends s u x y None
 leaf_left lends s t u x y same sound is beside closed moves own = record {
   free = tt;
   sides = tt;
@@ -98,5 +98,5 @@ leaf_left lends s t u x y same sound is beside closed moves own = record {
 }
 
 -- nothing but what stands beside the engine changed
-pub beside_left : {C : Type 0} (s t u : SearchState C) → SameBranches s t → u.engine ≡ t.engine → IsSameBeside t u → SameBranches s u
+pub beside_left : {C : Type 0} (s t u : SearchState C) → SameBranches s t → u.engine ≡ t.engine → SameBranchesAndRoom t u → SameBranches s u
 beside_left s t u same is beside = same_branches_onward s t u same (same_branches_back t u is beside)

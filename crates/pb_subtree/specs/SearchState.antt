@@ -40,8 +40,8 @@ pub record SameBranches {C : Type 0} (old new : SearchState C) : Type 0 where
   pub room : length new.candidate ≡ length old.candidate
   pub returns : new.root_work ≡ old.root_work
 
--- beside the engine all is the same that a search goes by: decisions, room, and as many steps back to the root
-pub record IsSameBeside {C : Type 0} (old new : SearchState C) : Type 0 where
+-- the decisions and the room are the same, and as many steps back to the root are left
+pub record SameBranchesAndRoom {C : Type 0} (old new : SearchState C) : Type 0 where
   pub branches : new.branches ≡ old.branches
   pub room : length new.candidate ≡ length old.candidate
   pub returns : new.root_work ≡ old.root_work

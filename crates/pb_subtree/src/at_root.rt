@@ -4,7 +4,7 @@ ghost use Rattle.std.specs.Prelude.{◌≡◌, false, IfSome};
 ghost use Rattle.pb_engine.specs.Soundness.{IsSoundTrail};
 ghost use Rattle.pb_prune.specs.Subtree.{IsEngineOf, IsOpenOnOneSide};
 ghost use Rattle.pb_control.specs.Budget.{IsLeftOf};
-ghost use Rattle.pb_subtree.specs.SearchState.{IsSameBeside};
+ghost use Rattle.pb_subtree.specs.SearchState.{SameBranchesAndRoom};
 
 use crate::probing::find_failed;
 use crate::search_state::SearchState;
@@ -13,7 +13,7 @@ use pb_engine::{Coefficient, EngineAt};
 use pb_inst::{Best, Lit, Number};
 
 /// Works at the root, where the search stands there. Gives a literal whose negation has nothing to give, or none where none
-/// was found. Its trials are decisions. Once ties alone are left there is nothing to work for.
+/// was found. Its probes are decisions. Once ties alone are left there is nothing to work for.
 pub fn work_at_root<C: Coefficient>(
     state: &mut SearchState<C>,
     best: &Best<'_>,
@@ -26,7 +26,7 @@ pub fn work_at_root<C: Coefficient>(
     requires no_conflict { state.old.engine.conflict ≡ false }
     ensures found { IfSome result (IsOpenOnOneSide best.now.problem state.new.engine best.now.held) }
     ensures engine { state.new.engine ≡ state.old.engine }
-    ensures beside { IsSameBeside state.old state.new }
+    ensures beside { SameBranchesAndRoom state.old state.new }
     ensures budget { IsLeftOf left.old left.new }
 {
     let work = &mut state.root_work;

@@ -10,7 +10,7 @@ ghost use Rattle.pb_dive.specs.Dives.{LeadsBack};
 ghost use Rattle.pb_control.specs.Budget.{IsLeftOf, IsPaidFrom};
 ghost use Rattle.pb_subtree.specs.Descent.{IsDescentPaid};
 ghost use Rattle.pb_subtree.specs.Nodes.{IsFoundAt, IsBackFromDive};
-ghost use Rattle.pb_subtree.specs.SearchState.{IsStateOf, IsSameBeside, SameBranches};
+ghost use Rattle.pb_subtree.specs.SearchState.{IsStateOf, SameBranchesAndRoom, SameBranches};
 ghost use Rattle.pb_prune.specs.Subtree.{IsEngineOf};
 
 use crate::Share;
@@ -107,7 +107,7 @@ fn go_down<C: Coefficient, S: Share>(
     ensures sound { IsSoundTrail state.new.engine }
     ensures full { result ≡ true → IsFull state.new.engine }
     ensures solved { result ≡ true → IsSolved state.new.engine }
-    ensures beside { IsSameBeside state.old state.new }
+    ensures beside { SameBranchesAndRoom state.old state.new }
     ensures moves_on { MovesOn best.old best.new }
     ensures own { S.lends share.old ≡ false → best.new ≡ best.old }
     ensures kept { S.keeps share.old share.new }
@@ -162,7 +162,7 @@ fn take_where_full<C: Coefficient, S: Share>(
     requires sound { IsSoundTrail state.old.engine }
     ensures only_full { result ≡ true → is_full ≡ true }
     ensures engine { state.new.engine ≡ state.old.engine }
-    ensures beside { IsSameBeside state.old state.new }
+    ensures beside { SameBranchesAndRoom state.old state.new }
     ensures moves_on { MovesOn best.old best.new }
     ensures own { IsFoundAt state.old.engine best.old best.new }
     ensures kept { S.keeps share.old share.new }

@@ -8,7 +8,7 @@ ghost use Rattle.pb_engine.specs.Soundness.{IsFull, IsSolved, IsSoundTrail};
 ghost use Rattle.pb_engine.specs.Trail.{value_on};
 ghost use Rattle.pb_prune.specs.AgreedPrefix.{KnowsHeldPrefix};
 ghost use Rattle.pb_control.specs.Budget.{IsLeftOf};
-ghost use Rattle.pb_subtree.specs.SearchState.{IsSameBeside, IsStateOf, SameBranches};
+ghost use Rattle.pb_subtree.specs.SearchState.{SameBranchesAndRoom, IsStateOf, SameBranches};
 ghost use Rattle.pb_subtree.specs.Nodes.{IsExpanded};
 
 use crate::Share;
@@ -107,7 +107,7 @@ fn choose<C: Coefficient>(
     ensures fresh { IfSome result (λ b. b.flipped ≡ false) }
     ensures full { IfNone result (IsFull state.old.engine) }
     ensures engine { state.new.engine ≡ state.old.engine }
-    ensures beside { IsSameBeside state.old state.new }
+    ensures beside { SameBranchesAndRoom state.old state.new }
 {
     let vars = state.candidate.len();
     state.order.lead_by_gains(state.engine.multipliers_pay());

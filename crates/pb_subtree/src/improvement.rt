@@ -3,7 +3,7 @@
 ghost use Rattle.std.specs.Prelude.{◌≡◌, List};
 ghost use Rattle.pb_inst.specs.Literal.{Literal};
 ghost use Rattle.pb_prune.specs.AgreedPrefix.{KnowsHeldPrefix};
-ghost use Rattle.pb_subtree.specs.SearchState.{IsSameBeside};
+ghost use Rattle.pb_subtree.specs.SearchState.{SameBranchesAndRoom};
 
 use crate::feedback::learn_values;
 use crate::search_state::SearchState;
@@ -35,7 +35,7 @@ pub fn tell<C: Coefficient>(
     is_better: bool,
 )
     ensures engine { state.new.engine ≡ state.old.engine }
-    ensures beside { IsSameBeside state.old state.new }
+    ensures beside { SameBranchesAndRoom state.old state.new }
     ensures known { (trail : List Literal) → KnowsHeldPrefix trail best.now.held agreed.new }
 {
     match origin {
@@ -63,7 +63,7 @@ pub fn tell<C: Coefficient>(
 /// Once the best assignment is a better one, has the root worked on again, with multipliers that are improved anew.
 fn work_anew<C: Coefficient>(state: &mut SearchState<C>, is_better: bool)
     ensures engine { state.new.engine ≡ state.old.engine }
-    ensures beside { IsSameBeside state.old state.new }
+    ensures beside { SameBranchesAndRoom state.old state.new }
 {
     if !is_better {
         return;

@@ -6,7 +6,7 @@ ghost use Rattle.pb_inst.specs.Incumbent.{IsSound};
 ghost use Rattle.pb_engine.specs.Soundness.{IsFull, IsSolved, IsSoundTrail};
 ghost use Rattle.pb_prune.specs.Held.{MovesOn};
 ghost use Rattle.pb_prune.specs.AgreedPrefix.{KnowsHeldPrefix};
-ghost use Rattle.pb_subtree.specs.SearchState.{IsFilledFrom, IsSameBeside};
+ghost use Rattle.pb_subtree.specs.SearchState.{IsFilledFrom, SameBranchesAndRoom};
 ghost use Rattle.pb_prune.specs.Subtree.{IsClosed, IsEngineOf};
 ghost use Rattle.pb_subtree.specs.Nodes.{IsFoundAt};
 
@@ -44,7 +44,7 @@ pub fn take_leaf<C: Coefficient, S: Share>(
     requires solved { IsSolved state.old.engine }
     requires sound { IsSoundTrail state.old.engine }
     ensures engine { state.new.engine ≡ state.old.engine }
-    ensures beside { IsSameBeside state.old state.new }
+    ensures beside { SameBranchesAndRoom state.old state.new }
     ensures closed { IsClosed best.old.problem state.old.engine best.new.held }
     ensures moves_on { MovesOn best.old best.new }
     ensures own { IsFoundAt state.old.engine best.old best.new }
@@ -124,7 +124,7 @@ pub fn borrow_after<C: Coefficient, S: Share>(
 ) -> bool
     requires room { length state.old.candidate ≡ best.old.problem.vars }
     ensures engine { state.new.engine ≡ state.old.engine }
-    ensures beside { IsSameBeside state.old state.new }
+    ensures beside { SameBranchesAndRoom state.old state.new }
     ensures moves_on { MovesOn best.old best.new }
     ensures own { S.lends share.old ≡ false → best.new ≡ best.old }
     ensures kept { S.keeps share.old share.new }

@@ -26,7 +26,7 @@ use pb_control::{Branch, Goal};
 use pb_engine::Coefficient;
 use pb_inst::Best;
 
-/// How often the share is asked at one node at most: more often than a round of trials comes to.
+/// How often the share is asked at one node at most: more often than a round of probes comes to.
 const MOST_LOOKS: u32 = u32::MAX;
 
 /// Expands the node where the trail stands, and where that is the root, dives from there before a decision is made that has
@@ -58,7 +58,7 @@ fn expand<C: Coefficient, S: Share>(
     expand_with_looks(state, best, share, run)
 }
 
-/// Expands the node where the trail stands. Where trials at the root made a look at the share due, the share is asked; the trials go on
+/// Expands the node where the trail stands. Where probes at the root made a look at the share due, the share is asked; the probes go on
 /// after it, at the node as it is then. Gives the decision to make next, or none where no completion of the trail is before what is
 /// held.
 fn expand_with_looks<C: Coefficient, S: Share>(

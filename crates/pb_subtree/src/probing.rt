@@ -16,7 +16,7 @@ use pb_engine::{Coefficient, EngineAt, Step, is_free};
 use pb_inst::{Best, Lit};
 
 /// A literal without a value whose negation has nothing to give, since it failed when it was tried; or none, where none of a
-/// round fails or no more may be tried. Each trial is a decision. Where the share is to be asked before the next one, the round waits.
+/// round fails or no more may be tried. Each probe is a decision. Where the share is to be asked before the next one, the round waits.
 pub fn find_failed<C: Coefficient>(
     engine: &mut EngineAt<C>,
     work: &mut RootWork,
@@ -33,7 +33,7 @@ pub fn find_failed<C: Coefficient>(
 {
     let vars = engine.vars();
     for _ in 0..work.left_of_round(vars) {
-        if *left == Some(0) || !work.may_try() {
+        if *left == Some(0) || !work.may_probe() {
             return None;
         }
         if let Some(lit) = work.next_literal(vars)
@@ -67,7 +67,7 @@ fn fails<C: Coefficient>(
     let (level, length) = (engine.level(), engine.trail_len());
     let fails = is_closed_with(engine, lit, best);
     let pushed = engine.trail_len().saturating_sub(length);
-    work.note_trial(pushed, fails);
+    work.note_probe(pushed, fails);
     engine.undo_to(level);
     fails
 }

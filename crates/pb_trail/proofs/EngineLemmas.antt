@@ -8,7 +8,7 @@ use Rattle.pb_normal.specs.NormalForm.{PositiveRow, NormalForm}
 use Rattle.pb_trail.specs.declared.propagator.Level.{Level}
 use Rattle.pb_rows.specs.Constraints.{Constraints, row_at}
 use Rattle.pb_trail.specs.Trail.{value_on, reachable}
-use Rattle.pb_trail.specs.Looks.{KnowsNothing}
+use Rattle.pb_trail.specs.SlackCache.{KnowsNothing}
 use Rattle.pb_trail.specs.Tracked.{TrailState, IsUpToDate}
 use Rattle.pb_trail.specs.Completion.{HasNoCompletion}
 use Rattle.pb_trail.specs.Propagation.{AddsForced, nothing, one_more, IsBroken}
@@ -22,7 +22,7 @@ use Rattle.pb_trail.proofs.SoundLemmas.{justified-push, justified-AddsForced, ju
 pub record IsCutTo (c : Constraints) (before now : TrailState) (n : ℕ) : Type 0 where
   pub up_to_date : IsUpToDate c now
   pub front : take n now.lits ≡ take n before.lits
-  pub nothing_known : KnowsNothing now.looks
+  pub nothing_known : KnowsNothing now.slack_cache
 
 pub length-starts_of : (levels : List Level) → length (starts_of levels) ≡ length levels
 unfolding starts_of

@@ -1,5 +1,5 @@
 pub mod TrailLemmas
-pub mod LookLemmas
+pub mod SlackCacheLemmas
 pub mod TrackedLemmas
 pub mod CompletionLemmas
 pub mod SoundLemmas

@@ -8,7 +8,7 @@ use Rattle.pb_inst.specs.Literal.{Literal}
 use Rattle.pb_rows.specs.Constraints.{AreRowsOver, Constraints, row_at}
 use Rattle.pb_normal.specs.Literals.{negation, weight_of}
 use Rattle.pb_trail.specs.Trail.{value_on, reachable}
-use Rattle.pb_trail.specs.Looks.{LooksState, IsKnown, KnowsNothing}
+use Rattle.pb_trail.specs.SlackCache.{SlackCacheState, IsKnown, KnowsNothing}
 use Rattle.pb_trail.specs.Tracked.{TrailState, IsConsistent, AreValues, IsUpToDate}
 use Rattle.pb_trail.proofs.TrailLemmas.{value_on-same, value_on-other, value_on-before, reachable-push, is_true-nil}
 
@@ -140,21 +140,21 @@ AreValues-nil marks trail capacity n unset empty room small =
     count_none (suc n) = count_none n
 
 -- the sums when a literal without a value joins
-pub IsUpToDate-push : (c : Constraints) (old new : TrailState) (l : Literal) → IsUpToDate c old → value_on old.lits l.var ≡ None → new.vars ≡ old.vars → new.lits ≡ old.lits ++ l ∷ [] → length new.sums ≡ length old.sums → ((r : ℕ) → r < length old.sums → get_or new.sums r 0 + weight_of (negation l) (row_at c.rows r).terms ≡ get_or old.sums r 0) → new.looks ≡ old.looks → IsUpToDate c new
-IsUpToDate-push c old new l is free vars joined count lowered same_looks = record {
+pub IsUpToDate-push : (c : Constraints) (old new : TrailState) (l : Literal) → IsUpToDate c old → value_on old.lits l.var ≡ None → new.vars ≡ old.vars → new.lits ≡ old.lits ++ l ∷ [] → length new.sums ≡ length old.sums → ((r : ℕ) → r < length old.sums → get_or new.sums r 0 + weight_of (negation l) (row_at c.rows r).terms ≡ get_or old.sums r 0) → new.slack_cache ≡ old.slack_cache → IsUpToDate c new
+IsUpToDate-push c old new l is free vars joined count lowered same_cache = record {
   rows_over = is.rows_over;
   vars = vars ∙ is.vars;
   sum_count = count ∙ is.sum_count;
   sums = λ r h.
       (let now = ap (λ (t : List Literal). reachable t (row_at c.rows r).terms) joined in
       omega (arith, lowered r (omega (arith, is.sum_count)), reachable-push old.lits l (row_at c.rows r).terms free, is.sums r h));
-  looks = λ row slack known.
-      (let before = is.looks row slack (subst (λ (looks : LooksState). IsKnown looks row slack) same_looks known) in
+  slack_cache = λ row slack known.
+      (let before = is.slack_cache row slack (subst (λ (slack_cache : SlackCacheState). IsKnown slack_cache row slack) same_cache known) in
       λ k d h unset. before k d h (value_on-before old.lits l (get_or (row_at c.rows row).terms k d).lit.var free (subst (λ (t : List Literal). value_on t (get_or (row_at c.rows row).terms k d).lit.var ≡ None) joined unset)));
 }
 
 -- the sums when the last literal leaves
-pub IsUpToDate-pop : (c : Constraints) (old new : TrailState) (l : Literal) → IsUpToDate c old → value_on new.lits l.var ≡ None → new.vars ≡ old.vars → old.lits ≡ new.lits ++ l ∷ [] → length new.sums ≡ length old.sums → ((r : ℕ) → r < length old.sums → get_or new.sums r 0 ≡ get_or old.sums r 0 + weight_of (negation l) (row_at c.rows r).terms) → KnowsNothing new.looks → IsUpToDate c new
+pub IsUpToDate-pop : (c : Constraints) (old new : TrailState) (l : Literal) → IsUpToDate c old → value_on new.lits l.var ≡ None → new.vars ≡ old.vars → old.lits ≡ new.lits ++ l ∷ [] → length new.sums ≡ length old.sums → ((r : ℕ) → r < length old.sums → get_or new.sums r 0 ≡ get_or old.sums r 0 + weight_of (negation l) (row_at c.rows r).terms) → KnowsNothing new.slack_cache → IsUpToDate c new
 IsUpToDate-pop c old new l is free vars whole count raised nothing = record {
   rows_over = is.rows_over;
   vars = vars ∙ is.vars;
@@ -162,15 +162,15 @@ IsUpToDate-pop c old new l is free vars whole count raised nothing = record {
   sums = λ r h.
       (let before = ap (λ (t : List Literal). reachable t (row_at c.rows r).terms) whole in
       omega (arith, raised r (omega (arith, is.sum_count)), reachable-push new.lits l (row_at c.rows r).terms free, is.sums r h));
-  looks = λ row slack known. absurd (nothing row slack known);
+  slack_cache = λ row slack known. absurd (nothing row slack known);
 }
 
 -- the sums of the empty trail
-pub IsUpToDate-nil : (c : Constraints) (t : TrailState) → length t.sums ≡ length c.rows → ((r : ℕ) → r < length c.rows → get_or t.sums r 0 ≡ reachable [] (row_at c.rows r).terms) → t.lits ≡ [] → t.vars ≡ c.vars → AreRowsOver c.vars c.rows → KnowsNothing t.looks → IsUpToDate c t
+pub IsUpToDate-nil : (c : Constraints) (t : TrailState) → length t.sums ≡ length c.rows → ((r : ℕ) → r < length c.rows → get_or t.sums r 0 ≡ reachable [] (row_at c.rows r).terms) → t.lits ≡ [] → t.vars ≡ c.vars → AreRowsOver c.vars c.rows → KnowsNothing t.slack_cache → IsUpToDate c t
 IsUpToDate-nil c t count totals empty vars over nothing = record {
   rows_over = over;
   vars = vars;
   sum_count = count;
   sums = λ r h. totals r h ∙ ap (λ (ls : List Literal). reachable ls (row_at c.rows r).terms) (sym empty);
-  looks = λ row slack known. absurd (nothing row slack known);
+  slack_cache = λ row slack known. absurd (nothing row slack known);
 }

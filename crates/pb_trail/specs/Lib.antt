@@ -1,5 +1,5 @@
 pub mod Trail
-pub mod Looks
+pub mod SlackCache
 pub mod Tracked
 pub mod Completion
 pub mod Propagation

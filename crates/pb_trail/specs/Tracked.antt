@@ -4,7 +4,7 @@ use Rattle.pb_inst.specs.Literal.{Literal}
 use Rattle.pb_rows.specs.Occurrences.{Occurrence}
 use Rattle.pb_normal.specs.NormalForm.{PositiveRow, NormalForm}
 use Rattle.pb_trail.specs.Trail.{value_on, reachable}
-use Rattle.pb_trail.specs.Looks.{LooksState, IsKnown}
+use Rattle.pb_trail.specs.SlackCache.{SlackCacheState, IsKnown}
 use Rattle.pb_rows.specs.Constraints.{AreRowsOver, Constraints, row_at}
 
 -- rows with the occurrences of their literals, and a trail over their variables
@@ -31,7 +31,7 @@ pub record TrailState : Type 0 where
   pub vars : ℕ
   pub lits : List Literal
   pub sums : List ℕ
-  pub looks : LooksState
+  pub slack_cache : SlackCacheState
 
 -- each variable's value is its value on the trail, whose literals are of these variables, and there is room for all of them
 pub record AreValues (marks : List (Option Bool)) (trail : List Literal) (capacity : ℕ) : Type 0 where
@@ -52,4 +52,4 @@ pub record IsUpToDate (c : Constraints) (t : TrailState) : Type 0 where
   pub vars : t.vars ≡ c.vars
   pub sum_count : length t.sums ≡ length c.rows
   pub sums : (r : ℕ) → r < length c.rows → slice_index t.sums r ≡ reachable t.lits (row_at c.rows r).terms
-  pub looks : (row slack : ℕ) → IsKnown t.looks row slack → HasNothingOver slack t.lits (row_at c.rows row)
+  pub slack_cache : (row slack : ℕ) → IsKnown t.slack_cache row slack → HasNothingOver slack t.lits (row_at c.rows row)

@@ -1,10 +1,10 @@
 //! A trail with assumptions, the slack that it leaves each row, and what follows from it by single rows.
 #![tactic(auto)]
 
-mod looks;
 mod propagation;
 mod propagator;
 mod reasons;
+mod slack_cache;
 mod trail;
 mod trail_view;
 

@@ -9,7 +9,7 @@ ghost use Rattle.pb_trail.specs.Propagation.{AddsForced, IsBroken, IsSettledFrom
 ghost use Rattle.std.specs.Option.{ForSome};
 ghost use Rattle.pb_trail.specs.Levels.{AllSettled, AllSettledFrom};
 
-use crate::looks::is_long;
+use crate::slack_cache::is_long;
 use crate::trail::Trail;
 use pb_count::{Coefficient, Counter};
 use pb_rows::{Occurs, Tables};

@@ -69,7 +69,7 @@ impl<C: Coefficient> Propagator<C> {
     }
 
     /// The trail with the slacks of the rows.
-    pub fn slacks(&self) -> TrailView<'_, C>
+    pub fn trail(&self) -> TrailView<'_, C>
         ensures form { result.form ≡ self.now.form }
         ensures vars { result.vars ≡ self.now.vars }
         ensures rows { result.rows ≡ self.now.rows }
@@ -147,7 +147,7 @@ impl<C: Coefficient> Propagator<C> {
         ensures broken { IfSome result (λ row. IsBrokenAt self.now.rows self.now.trail row) }
     {
         if self.conflict {
-            self.slacks().broken_row()
+            self.trail().broken_row()
         } else {
             None
         }

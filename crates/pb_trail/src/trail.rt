@@ -4,13 +4,13 @@ ghost use Rattle.std.specs.Prelude.{◌≡◌, ℕ, ◌+◌, ◌-◌, ◌*◌, �
 ghost use Rattle.pb_rows.specs.Constraints.{row_at};
 ghost use Rattle.pb_rows.specs.Index.{total_by};
 ghost use Rattle.pb_normal.specs.Literals.{weight_of};
-ghost use Rattle.pb_trail.specs.Looks.{IsKnown, KnowsNothing, NotesOnly};
+ghost use Rattle.pb_trail.specs.SlackCache.{IsKnown, KnowsNothing, NotesOnly};
 ghost use Rattle.pb_trail.specs.Soundness.{IsProperTrail};
 ghost use Rattle.pb_trail.specs.Tracked.{IsUpToDate};
 ghost use Rattle.pb_trail.specs.Trail.{value_on, reachable};
 
-use crate::looks::Looks;
 use crate::reasons::Reasons;
+use crate::slack_cache::SlackCache;
 use pb_count::{Coefficient, Counter};
 use pb_inst::{Lit, Memory};
 use pb_rows::{Occurs, Tables};
@@ -24,7 +24,7 @@ pub struct Trail<C: Coefficient> {
     sums: Vec<Counter<C>>,
     values: Vec<Option<bool>>,
     lits: Vec<Lit>,
-    looks: Looks<C>,
+    slack_cache: SlackCache<C>,
     /// The row at which a conflict was found last. No more than a hint: the view leaves it out.
     blamed: usize,
     /// Which rows forced the literals. No more than a hint, as before.
@@ -38,7 +38,7 @@ impl<C: Coefficient> Model for Trail<C> {
 
     ghost Value = { TrailState };
 
-    ghost view = { λ t. record { vars = length t.values.items; lits = t.lits.items; sums = t.sums.items; looks = t.looks } };
+    ghost view = { λ t. record { vars = length t.values.items; lits = t.lits.items; sums = t.sums.items; slack_cache = t.slack_cache } };
 
     ghost invariant = { λ t. AreValues t.values.items t.lits.items (vec_capacity t.lits) };
 }
@@ -53,13 +53,13 @@ impl<C: Coefficient> Trail<C> {
         let sums = totals(alloc, tables)?;
         let values = vec![in alloc; None; vars]?;
         let lits = Vec::with_capacity(alloc, vars)?;
-        let looks = Looks::new(alloc, tables.form())?;
+        let slack_cache = SlackCache::new(alloc, tables.form())?;
         let reasons = Reasons::new(alloc, vars)?;
         Ok(Trail {
             sums,
             values,
             lits,
-            looks,
+            slack_cache,
             blamed: 0,
             reasons,
         })
@@ -126,17 +126,17 @@ impl<C: Coefficient> Trail<C> {
     /// Whether the row was looked through at this slack or a lesser one, with nothing taken off since. Of short rows that is
     /// not known.
     pub fn knows(&self, row: usize, slack: Counter<C>) -> bool
-        ensures { result ≡ true → IsKnown self.now.looks row slack }
+        ensures { result ≡ true → IsKnown self.now.slack_cache row slack }
     {
-        self.looks.knows(row, slack)
+        self.slack_cache.knows(row, slack)
     }
 
     /// Notes that the row was looked through at the slack.
     pub fn note(&mut self, row: usize, slack: Counter<C>)
-        ensures noted { NotesOnly self.old.looks self.new.looks row slack }
-        ensures rest { self.new ≡ record self.old { looks = self.new.looks } }
+        ensures noted { NotesOnly self.old.slack_cache self.new.slack_cache row slack }
+        ensures rest { self.new ≡ record self.old { slack_cache = self.new.slack_cache } }
     {
-        self.looks.note(row, slack);
+        self.slack_cache.note(row, slack);
     }
 
     /// Puts a literal without a value on the trail, for the reason that the row forces it; or for none, `NO_ROW`.
@@ -161,7 +161,7 @@ impl<C: Coefficient> Trail<C> {
         ensures up_to_date { IsUpToDate tables.now self.new }
         ensures left { self.new.lits ≡ take length self.old.lits }
     {
-        self.looks.forget();
+        self.slack_cache.forget();
         while self.len() > length {
             self.pop(tables);
         }
@@ -170,9 +170,9 @@ impl<C: Coefficient> Trail<C> {
     /// Takes the last literal off.
     fn pop(&mut self, tables: &Tables<'_, C>)
         requires up_to_date { IsUpToDate tables.now self.old }
-        requires nothing_known { KnowsNothing self.old.looks }
+        requires nothing_known { KnowsNothing self.old.slack_cache }
         ensures up_to_date { IsUpToDate tables.now self.new }
-        ensures nothing_known { KnowsNothing self.new.looks }
+        ensures nothing_known { KnowsNothing self.new.slack_cache }
         ensures popped { self.new.lits ≡ take (length self.old.lits - 1) self.old.lits }
     {
         tables.facts();

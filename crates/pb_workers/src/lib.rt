@@ -3,13 +3,13 @@
 #![tactic(auto)]
 
 mod alone;
-mod beyond;
 mod facts;
 mod fork;
 mod gate;
 mod gathering;
 mod named;
 mod names;
+mod note_share;
 mod part;
 mod sharing;
 mod solving;
@@ -20,9 +20,9 @@ mod worker_set;
 mod working;
 
 pub use alone::solve_alone;
-pub use beyond::{Beside, Beyond, Correspondence, NoNotes};
 pub use gate::{Gate, OpenGate};
 pub use gathering::gather;
+pub use note_share::{Correspondence, NoNotes, NoteShare, OuterShare};
 pub use part::Part;
 pub use sharing::BoardShare;
 pub use solving::{Answer, SolveFault, solve};

@@ -6,10 +6,9 @@ ghost use Rattle.pb_board.specs.Seats.{BoardView, SeatView};
 ghost use Rattle.pb_workers.specs.Keys.{IsKeyOf};
 ghost use Rattle.pb_workers.specs.Sharing.{BoardShareView, KeepsClaims};
 
-use crate::beyond::Beside;
+use crate::note_share::OuterShare;
 use pb_board::{Board, Seat};
-use pb_inst::{Assignment, Number};
-use pb_notes::next_other;
+use pb_inst::{Assignment, Number, next_other};
 use pb_search::Share;
 use std::marker::Model;
 
@@ -24,7 +23,7 @@ const HIGHEST: Number = 9_223_372_036_854_775_807;
 /// A worker's ways to the others: its seat on the board, its own row, and the rows of the others, which it reads in turn. Beside
 /// the board it has a share with others who are not on it, `Alone` where there are none.
 #[derive(Drop)]
-pub struct BoardShare<'b, S: Beside + Drop> {
+pub struct BoardShare<'b, S: OuterShare + Drop> {
     board: &'b Board,
     seat: Seat,
     worker: u32,
@@ -33,7 +32,7 @@ pub struct BoardShare<'b, S: Beside + Drop> {
     beside: S,
 }
 
-impl<'b, S: Beside + Drop> Model for BoardShare<'b, S> {
+impl<'b, S: OuterShare + Drop> Model for BoardShare<'b, S> {
     ghost Value = { BoardShareView };
 
     ghost view = { λ s. record { board = s.board.now; worker = s.worker; seat = s.seat; lends_beside = S.lends s.beside } };
@@ -41,7 +40,7 @@ impl<'b, S: Beside + Drop> Model for BoardShare<'b, S> {
     ghost invariant = { λ s. (s.worker < s.board.now.workers) × (s.last_read < s.board.now.workers) × (s.seat.board ≡ s.board.now.id) };
 }
 
-impl<'b, S: Beside + Drop> BoardShare<'b, S> {
+impl<'b, S: OuterShare + Drop> BoardShare<'b, S> {
     /// The share of a worker below the board's number of workers, with a seat of the board. The share beside the board is told of each
     /// assignment that is offered, and is asked where the board has nothing to lend.
     pub fn beside(board: &'b Board, seat: Seat, worker: u32, beside: S) -> BoardShare<'b, S>
@@ -89,7 +88,7 @@ impl<'b, S: Beside + Drop> BoardShare<'b, S> {
     }
 }
 
-impl<'b, S: Beside + Drop> Share for BoardShare<'b, S> {
+impl<'b, S: OuterShare + Drop> Share for BoardShare<'b, S> {
     ghost keeps = { KeepsClaims };
 
     // A board of one worker has no other row to read.
@@ -117,7 +116,7 @@ impl<'b, S: Beside + Drop> Share for BoardShare<'b, S> {
     }
 }
 
-impl<'b, S: Beside + Drop> BoardShare<'b, S> {
+impl<'b, S: OuterShare + Drop> BoardShare<'b, S> {
     /// Where some worker offered a lesser key than that of `below`, reads the row of the next other worker in turn.
     fn borrow_from_row(&mut self, below: Number, into: &mut Assignment) -> bool
         ensures kept { KeepsClaims self.old self.new }

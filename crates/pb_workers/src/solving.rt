@@ -3,8 +3,8 @@ ghost use Rattle.std.specs.Prelude.{◌≡◌, List, false, All, IfOk, IfNone, I
 ghost use Rattle.pb_workers.specs.Parts.{IsAnswerOf, KeepsBudget, PartView};
 ghost use Rattle.pb_cubes.specs.Solving.{HoldsLeast};
 
-use crate::beyond::{Correspondence, NoNotes};
 use crate::gate::Gate;
+use crate::note_share::{Correspondence, NoNotes};
 use crate::together::{Dealt, work_together};
 use pb_cubes::Pieces;
 use pb_inst::{Best, Instance, Memory, Workers};

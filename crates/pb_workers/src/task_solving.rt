@@ -2,10 +2,10 @@
 ghost use Rattle.std.specs.Prelude.{◌≡◌, [], IfOk, IfNone};
 ghost use Rattle.pb_workers.specs.Dealing.{IsAnswerOfTask};
 
-use crate::beyond::Correspondence;
 use crate::facts::facts_of;
 use crate::gate::Gate;
 use crate::names::Names;
+use crate::note_share::Correspondence;
 use crate::solving::SolveFault;
 use crate::task::Task;
 use crate::together::{Dealt, work_together};

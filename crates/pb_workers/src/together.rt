@@ -5,11 +5,11 @@ ghost use Rattle.pb_workers.specs.Dealing.{AreDealtWork, AreNamesOf};
 ghost use Rattle.pb_workers.specs.Parts.{PartView};
 ghost use Rattle.pb_cubes.specs.Solving.{HoldsLeast};
 
-use crate::beyond::Correspondence;
 use crate::fork::fork;
 use crate::gate::Gate;
 use crate::gathering::gather;
 use crate::names::Names;
+use crate::note_share::Correspondence;
 use crate::task::Task;
 use crate::working::SearchWorkers;
 use pb_board::Board;

@@ -8,10 +8,10 @@ ghost use Rattle.std.specs.Option.{option_map};
 ghost use Rattle.pb_workers.specs.Parts.{AreCounted};
 ghost use Rattle.pb_workers.specs.Sharing.{SameSeat};
 
-use crate::beyond::{Beside, Beyond, Correspondence, NoNotes};
 use crate::facts::facts_of;
 use crate::gate::Gate;
 use crate::named::Named;
+use crate::note_share::{Correspondence, NoNotes, NoteShare, OuterShare};
 use crate::part::Part;
 use crate::sharing::BoardShare;
 use crate::task::{Task, has_piece};
@@ -113,7 +113,7 @@ impl<'a, 'i, N: Notes, G: Gate> SearchWorkers<'a, 'i, N, G> {
     {
         let mut best = Best::none(alloc, self.inst)?;
         let mut search = Search::over(alloc, self.tables)?;
-        let beyond = Beyond::new(alloc, self.notes, self.inst.vars(), worker)?;
+        let beyond = NoteShare::new(alloc, self.notes, self.inst.vars(), worker)?;
         let mut share = BoardShare::beside(self.board, seat, worker, beyond);
         let count = self.pieces.len();
         let named = self.search_claimed(alloc, &mut search, count, &mut best, &mut share)?;
@@ -121,7 +121,7 @@ impl<'a, 'i, N: Notes, G: Gate> SearchWorkers<'a, 'i, N, G> {
     }
 
     /// Searches the pieces that the share claims and the task is dealt, each within the budget, and answers their numbers.
-    fn search_claimed<S: Beside + Drop>(
+    fn search_claimed<S: OuterShare + Drop>(
         &self,
         alloc: Global,
         search: &mut Search<'_>,
@@ -192,7 +192,7 @@ fn decisions_of(search: &Search<'_>, nodes: Option<u64>) -> Option<u64>
 }
 
 /// Claims the next number, and answers it where it is a piece's.
-fn claim_piece<S: Beside + Drop>(share: &mut BoardShare<'_, S>, count: u32) -> Option<u32>
+fn claim_piece<S: OuterShare + Drop>(share: &mut BoardShare<'_, S>, count: u32) -> Option<u32>
     requires { length share.old.seat.claimed < 2 ^ 32 }
     ensures piece { IfSome result (λ piece. (piece < count) × (share.new.seat.claimed ≡ share.old.seat.claimed ++ piece ∷ [])) }
     ensures none { IfNone result (EndsPast count share.new.seat.claimed × ((task : Option TaskView) → pieces_among task count share.new.seat.claimed ≡ pieces_among task count share.old.seat.claimed)) }

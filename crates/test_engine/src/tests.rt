@@ -7,7 +7,7 @@ mod effort;
 mod engines;
 mod fixing;
 mod forms;
+mod pdhg;
 mod player;
-mod saddle;
 mod widths;
 mod worked_rows;

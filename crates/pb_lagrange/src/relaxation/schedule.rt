@@ -1,5 +1,5 @@
 //! Which rows are stepped next: those that the trail or other steps touched, until enough was looked at for one bound. So a
-//! bound costs what a node changes, and not what the instance has; that takes a few more decisions than passes over all rows.
+//! bound costs what a node changes, and not what the instance has; that takes a few more decisions than sweeps over all rows.
 
 ghost use Rattle.std.specs.Prelude.{◌≡◌, ◌+◌, ◌^◌, ◌<◌, ◌≤◌, IfOk, IfSome, length};
 

@@ -129,23 +129,23 @@ impl<C: Coefficient> Player<C> {
 
     /// Whether the row has just these literals, in this order.
     pub fn row_has_lits(&self, rt: &impl Abort, row: usize, expected: &[i32]) -> bool {
-        assert!(rt; row < self.propagator.slacks().rows());
+        assert!(rt; row < self.propagator.trail().rows());
         has_lits(self.propagator.row_terms(row), expected)
     }
 
     /// The number of rows.
     pub fn rows(&self) -> usize {
-        self.propagator.slacks().rows()
+        self.propagator.trail().rows()
     }
 
     /// The slack of a row by its counter, or none where it is negative.
     pub fn slack(&self, rt: &impl Abort, row: usize) -> Option<Magnitude> {
-        let slacks = self.propagator.slacks();
-        assert!(rt; row < slacks.rows());
-        slacks
+        let trail = self.propagator.trail();
+        assert!(rt; row < trail.rows());
+        trail
             .reachable(row)
             .number()
-            .checked_sub(slacks.degree(row).number())
+            .checked_sub(trail.degree(row).number())
     }
 
     /// The bound of the engine.

@@ -16,7 +16,7 @@ use Rattle.pb_row_bound.proofs.bound.bound_with.Goals as goal
 
 pub overflow_cast-result : goal.overflow_cast-result
 overflow_cast-result g c =
-    let state = c.args.slacks.now in
+    let state = c.args.trail.now in
     let tables = c.tables.result.now in
     let paid = c.args.payment in
     let Q : Tracked → Type 0 = λ k. ArePickable k.form k.rows in
@@ -32,7 +32,7 @@ overflow_cast-result g c =
 
 pub overflow_add-result : goal.overflow_add-result
 overflow_add-result g c =
-    let state = c.args.slacks.now in
+    let state = c.args.trail.now in
     let tables = c.tables.result.now in
     let paid = c.args.payment in
     let Q : Tracked → Type 0 = λ k. ArePickable k.form k.rows in
@@ -48,7 +48,7 @@ overflow_add-result g c =
 
 pub returns-clause-value : goal.returns-clause-value
 returns-clause-value g c =
-    let state = c.args.slacks.now in
+    let state = c.args.trail.now in
     let tables = c.tables.result.now in
     let paid = c.args.payment in
     let Q : Tracked → Type 0 = λ k. ArePickable k.form k.rows in
@@ -66,7 +66,7 @@ returns-clause-value g c =
 
 pub returns-clause-bound : goal.returns-clause-bound
 returns-clause-bound g c =
-    let state = c.args.slacks.now in
+    let state = c.args.trail.now in
     let tables = c.tables.result.now in
     let paid = c.args.payment in
     let Q : Tracked → Type 0 = λ k. ArePickable k.form k.rows in
@@ -84,7 +84,7 @@ returns-clause-bound g c =
 
 pub returns-clause-range : goal.returns-clause-range
 returns-clause-range g c =
-    let state = c.args.slacks.now in
+    let state = c.args.trail.now in
     let tables = c.tables.result.now in
     let paid = c.args.payment in
     let Q : Tracked → Type 0 = λ k. ArePickable k.form k.rows in

@@ -17,7 +17,7 @@ no_terms (t ∷ terms) none = absurd (omega arith)
 
 pub returns-then-is_empty-clause-payment : goal.returns-then-is_empty-clause-payment
 returns-then-is_empty-clause-payment g c =
-    let s = c.args.slacks.now in
+    let s = c.args.trail.now in
     let P : Tracked → Type 0 = λ k. ArePickable k.form k.rows in
     let tables = c.tables.result.now in
     let are : ArePickable s.form s.rows = subst P c.tables.ensures (pickable tables.form tables.vars tables.rows c.facts.ensures.normal c.facts.ensures.form c.facts.ensures.rising c.facts.ensures.rows) in
@@ -28,7 +28,7 @@ returns-then-is_empty-clause-payment g c =
 
 pub add-requires : goal.add-requires
 add-requires g c =
-    let s = c.args.slacks.now in
+    let s = c.args.trail.now in
     let P : Tracked → Type 0 = λ k. ArePickable k.form k.rows in
     let tables = c.tables.result.now in
     let are : ArePickable s.form s.rows = subst P c.tables.ensures (pickable tables.form tables.vars tables.rows c.facts.ensures.normal c.facts.ensures.form c.facts.ensures.rising c.facts.ensures.rows) in
@@ -41,7 +41,7 @@ add-requires g c =
 
 pub returns-clause-payment : goal.returns-clause-payment
 returns-clause-payment g c =
-    let s = c.args.slacks.now in
+    let s = c.args.trail.now in
     let P : Tracked → Type 0 = λ k. ArePickable k.form k.rows in
     let tables = c.tables.result.now in
     let are : ArePickable s.form s.rows = subst P c.tables.ensures (pickable tables.form tables.vars tables.rows c.facts.ensures.normal c.facts.ensures.form c.facts.ensures.rising c.facts.ensures.rows) in
@@ -54,7 +54,7 @@ returns-clause-payment g c =
 
 pub returns-clause-small : goal.returns-clause-small
 returns-clause-small g c =
-    let s = c.args.slacks.now in
+    let s = c.args.trail.now in
     let P : Tracked → Type 0 = λ k. ArePickable k.form k.rows in
     let tables = c.tables.result.now in
     let are : ArePickable s.form s.rows = subst P c.tables.ensures (pickable tables.form tables.vars tables.rows c.facts.ensures.normal c.facts.ensures.form c.facts.ensures.rising c.facts.ensures.rows) in

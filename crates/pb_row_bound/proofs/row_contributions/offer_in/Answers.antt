@@ -12,15 +12,15 @@ pub offer_of_items-requires : goal.offer_of_items-requires
 offer_of_items-requires g c =
     let back = sym (map-id c.in-Weighted.terms.now) in
     record {
-      variables = subst (λ (ts : List PositiveTerm). All (λ (t : PositiveTerm). (1 ≤ t.lit.var) × (t.lit.var ≤ c.args.slacks.now.vars)) ts) back (subst (λ (r : RowTerms _). All (λ (t : PositiveTerm). (1 ≤ t.lit.var) × (t.lit.var ≤ c.args.slacks.now.vars)) (terms_in r)) c.in-Weighted.is c.requires.variables);
+      variables = subst (λ (ts : List PositiveTerm). All (λ (t : PositiveTerm). (1 ≤ t.lit.var) × (t.lit.var ≤ c.args.trail.now.vars)) ts) back (subst (λ (r : RowTerms _). All (λ (t : PositiveTerm). (1 ≤ t.lit.var) × (t.lit.var ≤ c.args.trail.now.vars)) (terms_in r)) c.in-Weighted.is c.requires.variables);
       marks = c.requires.marks;
       fits = subst (λ (ts : List PositiveTerm). sum_by (λ (t : PositiveTerm). t.coef) ts < g.C.Coefficient.limit) back (subst (λ (r : RowTerms _). sum_by (λ (t : PositiveTerm). t.coef) (terms_in r) < g.C.Coefficient.limit) c.in-Weighted.is c.requires.fits);
     }
 
 pub returns-in-Weighted : goal.returns-in-Weighted
 returns-in-Weighted g c =
-    let objective = c.args.slacks.now.form.objective in
-    let trail = c.args.slacks.now.trail in
+    let objective = c.args.trail.now.form.objective in
+    let trail = c.args.trail.now.trail in
     let marks = c.args.marks.now in
     let found = c.offer_of_items.result in
     let plain = map-id c.in-Weighted.terms.now ∙ ap terms_in (sym c.in-Weighted.is) in

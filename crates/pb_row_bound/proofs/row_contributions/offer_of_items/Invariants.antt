@@ -5,6 +5,6 @@ use Rattle.pb_row_bound.proofs.row_contributions.offer_of_items.Given as goal
 
 abbrev pub invariant-loop-item : goal.invariant-loop-item
 invariant-loop-item g l = record {
-  offer_is : l.offer ≡ offer_of g.C.Coefficient.limit l.slacks.form.objective l.slacks.trail (take l.item-index (map g.T.Weighs.term l.items));
-  unmet : meets_marks l.slacks.trail l.marks (take l.item-index (map g.T.Weighs.term l.items)) ≡ false;
+  offer_is : l.offer ≡ offer_of g.C.Coefficient.limit l.trail.form.objective l.trail.trail (take l.item-index (map g.T.Weighs.term l.items));
+  unmet : meets_marks l.trail.trail l.marks (take l.item-index (map g.T.Weighs.term l.items)) ≡ false;
 }

@@ -17,7 +17,7 @@ use Rattle.pb_row_bound.proofs.row_contributions.pick.Goals as goal
 
 pub contribution-contribution-requires-clause-positive : goal.contribution-contribution-requires-clause-positive
 contribution-contribution-requires-clause-positive g c = λ some reach.
-    let s = c.args.slacks.now in
+    let s = c.args.trail.now in
     let objective = s.form.objective in
     let row = row_at s.rows c.args.row in
     let counters = c.requires.deficits.counters in
@@ -36,7 +36,7 @@ contribution-contribution-requires-clause-positive g c = λ some reach.
 
 pub contribution-contribution-requires-clause-fits : goal.contribution-contribution-requires-clause-fits
 contribution-contribution-requires-clause-fits g c =
-    let s = c.args.slacks.now in
+    let s = c.args.trail.now in
     let objective = s.form.objective in
     let row = row_at s.rows c.args.row in
     let counters = c.requires.deficits.counters in
@@ -56,7 +56,7 @@ contribution-contribution-requires-clause-fits g c =
 
 pub returns-then-is_zero-clause-contribution : goal.returns-then-is_zero-clause-contribution
 returns-then-is_zero-clause-contribution g c =
-    let s = c.args.slacks.now in
+    let s = c.args.trail.now in
     let objective = s.form.objective in
     let row = row_at s.rows c.args.row in
     let counters = c.requires.deficits.counters in
@@ -74,7 +74,7 @@ returns-then-is_zero-clause-contribution g c =
 
 pub returns-then-is_zero-clause-marks : goal.returns-then-is_zero-clause-marks
 returns-then-is_zero-clause-marks g c =
-    let s = c.args.slacks.now in
+    let s = c.args.trail.now in
     let objective = s.form.objective in
     let row = row_at s.rows c.args.row in
     let counters = c.requires.deficits.counters in
@@ -92,7 +92,7 @@ returns-then-is_zero-clause-marks g c =
 
 pub returns-else-is_zero-clause-contribution : goal.returns-else-is_zero-clause-contribution
 returns-else-is_zero-clause-contribution g c =
-    let s = c.args.slacks.now in
+    let s = c.args.trail.now in
     let objective = s.form.objective in
     let row = row_at s.rows c.args.row in
     let counters = c.requires.deficits.counters in
@@ -110,7 +110,7 @@ returns-else-is_zero-clause-contribution g c =
 
 pub returns-else-is_zero-clause-marks : goal.returns-else-is_zero-clause-marks
 returns-else-is_zero-clause-marks g c =
-    let s = c.args.slacks.now in
+    let s = c.args.trail.now in
     let objective = s.form.objective in
     let row = row_at s.rows c.args.row in
     let counters = c.requires.deficits.counters in

@@ -14,7 +14,7 @@ use Rattle.pb_row_bound.proofs.row_contributions.row_contributions.Goals as goal
 
 pub loop-row-init : goal.loop-row-init
 loop-row-init g c =
-    let s = c.args.slacks.now in
+    let s = c.args.trail.now in
     let same : c.clear.new.self ≡ replicate s.vars false = c.clear.ensures ∙ ap (λ (n : ℕ). replicate n false) c.requires.marks in
     record {
       left = (let start = ap (λ (ms : List Bool). row_contributions s.form.objective s.trail ms s.rows) same in omega arith);
@@ -24,7 +24,7 @@ loop-row-init g c =
 
 pub pick-requires-clause-row : goal.pick-requires-clause-row
 pick-requires-clause-row g c =
-    let s = c.args.slacks.now in
+    let s = c.args.trail.now in
     let objective = s.form.objective in
     let deficits = c.args.deficits.now in
     let full : take deficits.counted s.trail ≡ s.trail = take_all deficits.counted s.trail (omega (arith, c.requires.counted)) in
@@ -37,7 +37,7 @@ pick-requires-clause-row g c =
 
 pub add_assign-requires : goal.add_assign-requires
 add_assign-requires g c =
-    let s = c.args.slacks.now in
+    let s = c.args.trail.now in
     let objective = s.form.objective in
     let deficits = c.args.deficits.now in
     let full : take deficits.counted s.trail ≡ s.trail = take_all deficits.counted s.trail (omega (arith, c.requires.counted)) in
@@ -56,7 +56,7 @@ add_assign-requires g c =
 
 pub overflow_add-from : goal.overflow_add-from
 overflow_add-from g c =
-    let s = c.args.slacks.now in
+    let s = c.args.trail.now in
     let objective = s.form.objective in
     let deficits = c.args.deficits.now in
     let full : take deficits.counted s.trail ≡ s.trail = take_all deficits.counted s.trail (omega (arith, c.requires.counted)) in
@@ -69,7 +69,7 @@ overflow_add-from g c =
 
 pub loop-row-smaller : goal.loop-row-smaller
 loop-row-smaller g c =
-    let s = c.args.slacks.now in
+    let s = c.args.trail.now in
     let objective = s.form.objective in
     let deficits = c.args.deficits.now in
     let full : take deficits.counted s.trail ≡ s.trail = take_all deficits.counted s.trail (omega (arith, c.requires.counted)) in
@@ -82,7 +82,7 @@ loop-row-smaller g c =
 
 pub loop-row-preserved : goal.loop-row-preserved
 loop-row-preserved g c =
-    let s = c.args.slacks.now in
+    let s = c.args.trail.now in
     let objective = s.form.objective in
     let deficits = c.args.deficits.now in
     let full : take deficits.counted s.trail ≡ s.trail = take_all deficits.counted s.trail (omega (arith, c.requires.counted)) in
@@ -106,7 +106,7 @@ loop-row-preserved g c =
 
 pub returns-clause-contributions : goal.returns-clause-contributions
 returns-clause-contributions g c =
-    let s = c.args.slacks.now in
+    let s = c.args.trail.now in
     let objective = s.form.objective in
     let deficits = c.args.deficits.now in
     let full : take deficits.counted s.trail ≡ s.trail = take_all deficits.counted s.trail (omega (arith, c.requires.counted)) in

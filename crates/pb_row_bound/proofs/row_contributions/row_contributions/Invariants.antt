@@ -4,10 +4,10 @@ use Rattle.pb_row_bound.proofs.row_contributions.row_contributions.Given as goal
 
 abbrev pub invariant-loop-row : goal.invariant-loop-row
 invariant-loop-row g l = record {
-  left : l.sum + row_contributions l.slacks.form.objective l.slacks.trail l.marks (drop l.from l.slacks.rows) ≡ row_contributions l.slacks.form.objective l.slacks.trail (replicate l.slacks.vars false) l.slacks.rows;
-  count : length l.marks ≡ l.slacks.vars;
-  within : l.from ≤ length l.slacks.rows;
+  left : l.sum + row_contributions l.trail.form.objective l.trail.trail l.marks (drop l.from l.trail.rows) ≡ row_contributions l.trail.form.objective l.trail.trail (replicate l.trail.vars false) l.trail.rows;
+  count : length l.marks ≡ l.trail.vars;
+  within : l.from ≤ length l.trail.rows;
 }
 
 abbrev pub decreases-loop-row : goal.decreases-loop-row
-decreases-loop-row g l = length l.slacks.rows - l.from
+decreases-loop-row g l = length l.trail.rows - l.from

@@ -6,7 +6,7 @@ use Rattle.pb_engine.specs.Soundness.{IsSoundTrail}
 use Rattle.pb_prune.specs.AgreedPrefix.{KnowsHeldPrefix}
 use Rattle.pb_prune.specs.Held.{MovesOn}
 use Rattle.pb_subtree.specs.Descent.{IsDescentPaid}
-use Rattle.pb_subtree.specs.SearchState.{IsSameBeside}
+use Rattle.pb_subtree.specs.SearchState.{SameBranchesAndRoom}
 use Rattle.pb_subtree.proofs.diving.go_down.Given as goal
 
 abbrev pub invariant-loop : goal.invariant-loop
@@ -14,7 +14,7 @@ invariant-loop g l = record {
   back : LeadsBack l.fn.state.engine l.state.engine;
   sound : IsSoundTrail l.state.engine;
   free : IsFree l.state.engine l.branch.lit;
-  beside : IsSameBeside l.fn.state l.state;
+  beside : SameBranchesAndRoom l.fn.state l.state;
   moves_on : MovesOn l.fn.best l.best;
   own : g.S.Share.lends l.fn.share ≡ false → l.best ≡ l.fn.best;
   kept : g.S.Share.keeps l.fn.share l.share;

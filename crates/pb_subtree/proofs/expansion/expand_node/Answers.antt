@@ -11,7 +11,7 @@ use Rattle.pb_prune.specs.Subtree.{IsClosed, IsOpenOnOneSide}
 use Rattle.pb_prune.proofs.AgreedPrefixLemmas.{knows_added}
 use Rattle.pb_prune.proofs.ClosedLemmas.{none_closed}
 use Rattle.pb_subtree.specs.declared.search_state.SearchState.{SearchState}
-use Rattle.pb_subtree.specs.SearchState.{IsSameBeside, SameBranches}
+use Rattle.pb_subtree.specs.SearchState.{SameBranchesAndRoom, SameBranches}
 use Rattle.pb_subtree.proofs.DivingLemmas.{same_branches_itself}
 use Rattle.pb_subtree.proofs.ExpandLemmas.{beside_left, leaf_left, nothing_left, one_side_left, some_left}
 use Rattle.pb_subtree.proofs.SearchLemmas.{expanded_state, same_engine}
@@ -82,7 +82,7 @@ record IsWorked {C : Type 0} (s t w : SearchState C) : Type 0 where
   same : SameBranches s w
   sound : IsSoundTrail w.engine
 
-worked : {C : Type 0} (s t u w : SearchState C) → SameBranches s t → IsSoundTrail t.engine → u.engine ≡ t.engine → IsSameBeside t u → w.engine ≡ u.engine → IsSameBeside u w → IsWorked s t w
+worked : {C : Type 0} (s t u w : SearchState C) → SameBranches s t → IsSoundTrail t.engine → u.engine ≡ t.engine → SameBranchesAndRoom t u → w.engine ≡ u.engine → SameBranchesAndRoom u w → IsWorked s t w
 worked s t u w same sound first beside second later = record {
   engine = second ∙ first;
   same = beside_left s u w (beside_left s t u same first beside) second later;

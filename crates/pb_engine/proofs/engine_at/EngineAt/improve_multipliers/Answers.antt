@@ -8,10 +8,10 @@ use Rattle.pb_engine.proofs.engine_at.EngineAt.improve_multipliers.Goals as goal
 pub returns-clause-no_completion : goal.returns-clause-no_completion
 returns-clause-no_completion g c told =
     let e = c.args.self.now in
-    let s = c.slacks-slacks.result in
+    let s = c.trail-trail.result in
     let first : take (length s.form.rows) s.rows ≡ s.form.rows = subst (λ (k : Tracked). take (length k.form.rows) k.rows ≡ k.form.rows) c.tables.ensures c.facts.ensures.first in
-    let form : s.form ≡ e.form = c.slacks-slacks.ensures.form ∙ ap (λ (k : EngineState). k.form) c.self.view_is in
-    let rows : s.rows ≡ e.rows = c.slacks-slacks.ensures.rows ∙ ap (λ (k : EngineState). k.rows) c.self.view_is in
-    let trail : s.trail ≡ e.trail = c.slacks-slacks.ensures.trail ∙ ap (λ (k : EngineState). k.trail) c.self.view_is in
+    let form : s.form ≡ e.form = c.trail-trail.ensures.form ∙ ap (λ (k : EngineState). k.form) c.self.view_is in
+    let rows : s.rows ≡ e.rows = c.trail-trail.ensures.rows ∙ ap (λ (k : EngineState). k.rows) c.self.view_is in
+    let trail : s.trail ≡ e.trail = c.trail-trail.ensures.trail ∙ ap (λ (k : EngineState). k.trail) c.self.view_is in
     let here : take (length e.form.rows) e.rows ≡ e.form.rows = subst (λ (rs : List PositiveRow). take (length e.form.rows) rs ≡ e.form.rows) rows (subst (λ (f : NormalForm). take (length f.rows) s.rows ≡ f.rows) form first) in
     none-in e s.form s.trail here form trail (c.improve_multipliers.ensures.no_completion told)

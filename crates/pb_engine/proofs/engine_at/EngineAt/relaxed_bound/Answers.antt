@@ -13,24 +13,24 @@ use Rattle.pb_engine.proofs.engine_at.EngineAt.relaxed_bound.Goals as goal
 pub returns-clause-bound : goal.returns-clause-bound
 returns-clause-bound g c =
     let e = c.args.self.now in
-    let s = c.slacks-slacks.result in
+    let s = c.trail-trail.result in
     let z = c.raise-raised.result in
     let back : to_z number_width (of_z number_width z) ≡ z = to_z-of_z number_width z (record { sfits = c.raise-raised.type_inv }) in
     let given : to_z number_width (of_z number_width c.args.bound) ≡ c.args.bound = to_z-of_z number_width c.args.bound (record { sfits = c.ranges.bound.sfits }) in
     let first : take (length s.form.rows) s.rows ≡ s.form.rows = subst (λ (k : Tracked). take (length k.form.rows) k.rows ≡ k.form.rows) c.tables.ensures c.facts.ensures.first in
     let answer : (z ≡ c.args.bound) ⊎ ((c.args.bound ≤ℤ z) × IsBelowCosts s.form s.trail z) = subst (λ (b : ℤ). (z ≡ b) ⊎ ((b ≤ℤ z) × IsBelowCosts s.form s.trail z)) given c.raise-raised.ensures.bound in
     subst (λ (n : ℤ). IsLowerBound e.form e.rows e.trail n) (sym back)
-    (raised-in e s c.args.bound z first (c.slacks-slacks.ensures.form ∙ ap (λ (k : EngineState). k.form) c.self.view_is) (c.slacks-slacks.ensures.rows ∙ ap (λ (k : EngineState). k.rows) c.self.view_is) (c.slacks-slacks.ensures.trail ∙ ap (λ (k : EngineState). k.trail) c.self.view_is) c.requires answer)
+    (raised-in e s c.args.bound z first (c.trail-trail.ensures.form ∙ ap (λ (k : EngineState). k.form) c.self.view_is) (c.trail-trail.ensures.rows ∙ ap (λ (k : EngineState). k.rows) c.self.view_is) (c.trail-trail.ensures.trail ∙ ap (λ (k : EngineState). k.trail) c.self.view_is) c.requires answer)
 
 pub invariant_of-self-2 : goal.invariant_of-self-2
 invariant_of-self-2 g c =
     let e = c.self.inside.propagator in
-    let s = c.slacks-slacks.result in
+    let s = c.trail-trail.result in
     let z = c.raise-raised.result in
     let back : to_z number_width (of_z number_width z) ≡ z = to_z-of_z number_width z (record { sfits = c.raise-raised.type_inv }) in
     let given : to_z number_width (of_z number_width c.args.bound) ≡ c.args.bound = to_z-of_z number_width c.args.bound (record { sfits = c.ranges.bound.sfits }) in
     let lower : IsLowerBound e.form e.rows e.trail c.args.bound = subst (λ (k : EngineState). IsLowerBound k.form k.rows k.trail c.args.bound) (sym c.self.view_is) c.requires in
     let first : take (length s.form.rows) s.rows ≡ s.form.rows = subst (λ (k : Tracked). take (length k.form.rows) k.rows ≡ k.form.rows) c.tables.ensures c.facts.ensures.first in
     let answer : (z ≡ c.args.bound) ⊎ ((c.args.bound ≤ℤ z) × IsBelowCosts s.form s.trail z) = subst (λ (b : ℤ). (z ≡ b) ⊎ ((b ≤ℤ z) × IsBelowCosts s.form s.trail z)) given c.raise-raised.ensures.bound in
-    let raised = subst (λ (n : ℤ). IsLowerBound e.form e.rows e.trail n) (sym back) (raised-in e s c.args.bound z first c.slacks-slacks.ensures.form c.slacks-slacks.ensures.rows c.slacks-slacks.ensures.trail lower answer) in
+    let raised = subst (λ (n : ℤ). IsLowerBound e.form e.rows e.trail n) (sym back) (raised-in e s c.args.bound z first c.trail-trail.ensures.form c.trail-trail.ensures.rows c.trail-trail.ensures.trail lower answer) in
     (c.self.invariant.0, search rules, raised.below_costs)

@@ -15,6 +15,6 @@ returns-clause-bound g c =
     let back : to_z number_width (of_z number_width bound) ≡ bound = to_z-of_z number_width bound (record { sfits = c.bound.type_inv }) in
     let own : IsBelowCosts m.form m.trail bound = subst (λ (n : MultipliersState). IsBelowCosts n.form n.trail bound) c.self-2.view_is c.bound.ensures.bound in
     let count : c.len.result ≡ length m.trail = c.len.ensures ∙ ap (λ (n : MultipliersState). length n.trail) c.self-in-loop-self.view_is in
-    let trail : m.trail ≡ c.args.slacks.now.trail = beside.trail_is ∙ take_all (length m.trail) c.args.slacks.now.trail (omega (arith, count, c.len-in-loop-self.ensures.length, c.loop-self-test.false)) in
-    let here : IsBelowCosts c.args.slacks.now.form c.args.slacks.now.trail bound = subst (λ (f : NormalForm). IsBelowCosts f c.args.slacks.now.trail bound) beside.form_is (subst (λ (t : List Literal). IsBelowCosts m.form t bound) trail own) in
-    subst (λ (z : ℤ). IsBelowCosts c.args.slacks.now.form c.args.slacks.now.trail z) (sym back) here
+    let trail : m.trail ≡ c.args.trail.now.trail = beside.trail_is ∙ take_all (length m.trail) c.args.trail.now.trail (omega (arith, count, c.len-in-loop-self.ensures.length, c.loop-self-test.false)) in
+    let here : IsBelowCosts c.args.trail.now.form c.args.trail.now.trail bound = subst (λ (f : NormalForm). IsBelowCosts f c.args.trail.now.trail bound) beside.form_is (subst (λ (t : List Literal). IsBelowCosts m.form t bound) trail own) in
+    subst (λ (z : ℤ). IsBelowCosts c.args.trail.now.form c.args.trail.now.trail z) (sym back) here

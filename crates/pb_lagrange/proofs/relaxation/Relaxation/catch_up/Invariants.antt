@@ -4,9 +4,9 @@ use Rattle.pb_lagrange.proofs.relaxation.Relaxation.catch_up.Given as goal
 
 abbrev pub invariant-loop-self : goal.invariant-loop-self
 invariant-loop-self g l = record {
-  beside : IsBeside l.slacks.form l.slacks.trail l.self;
+  beside : IsBeside l.trail.form l.trail.trail l.self;
   form : l.self.form ≡ l.initial.self.form;
 }
 
 abbrev pub decreases-loop-self : goal.decreases-loop-self
-decreases-loop-self g l = length l.slacks.trail - length l.self.trail
+decreases-loop-self g l = length l.trail.trail - length l.self.trail

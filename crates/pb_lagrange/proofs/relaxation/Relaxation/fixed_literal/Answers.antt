@@ -13,6 +13,6 @@ returns-clause-bound g c =
     let m = c.catch_up.new.self in let bound = c.bound-bound.result in
     let back : to_z number_width (of_z number_width bound) ≡ bound = to_z-of_z number_width bound (record { sfits = c.bound-bound.type_inv }) in
     let own : IsBelowCosts m.form m.trail bound = subst (λ (n : MultipliersState). IsBelowCosts n.form n.trail bound) c.self-2.view_is c.bound-bound.ensures.bound in
-    let form : m.form ≡ c.args.slacks.now.form = c.catch_up.ensures.form ∙ (ap (λ (n : MultipliersState). n.form) c.self.view_is ∙ c.requires.form_is) in
-    let here : IsBelowCosts c.args.slacks.now.form c.args.slacks.now.trail bound = subst (λ (f : NormalForm). IsBelowCosts f c.args.slacks.now.trail bound) form (subst (λ (t : List Literal). IsBelowCosts m.form t bound) c.catch_up.ensures.trail own) in
-    subst (λ (z : ℤ). IsBelowCosts c.args.slacks.now.form c.args.slacks.now.trail z) (sym back) here
+    let form : m.form ≡ c.args.trail.now.form = c.catch_up.ensures.form ∙ (ap (λ (n : MultipliersState). n.form) c.self.view_is ∙ c.requires.form_is) in
+    let here : IsBelowCosts c.args.trail.now.form c.args.trail.now.trail bound = subst (λ (f : NormalForm). IsBelowCosts f c.args.trail.now.trail bound) form (subst (λ (t : List Literal). IsBelowCosts m.form t bound) c.catch_up.ensures.trail own) in
+    subst (λ (z : ℤ). IsBelowCosts c.args.trail.now.form c.args.trail.now.trail z) (sym back) here

@@ -3,7 +3,7 @@ use Rattle.pb_row_bound.specs.Deficits.{AreDeficits}
 use Rattle.pb_row_bound.proofs.deficits.Deficits.count.Given as goal
 
 abbrev pub invariant-loop-self : goal.invariant-loop-self
-invariant-loop-self g l = AreDeficits g.C.Coefficient.limit l.slacks.form l.slacks.rows l.slacks.trail l.self
+invariant-loop-self g l = AreDeficits g.C.Coefficient.limit l.trail.form l.trail.rows l.trail.trail l.self
 
 abbrev pub decreases-loop-self : goal.decreases-loop-self
-decreases-loop-self g l = length l.slacks.trail - l.self.counted
+decreases-loop-self g l = length l.trail.trail - l.self.counted

@@ -13,7 +13,7 @@ use Rattle.pb_row_bound.proofs.deficits.Deficits.count_next.Goals as goal
 pub join-requires-clause-enough : goal.join-requires-clause-enough
 join-requires-clause-enough g c = λ r h.
     let old = c.args.self.now in
-    let s = c.args.slacks.now in
+    let s = c.args.trail.now in
     let l = c.literal-lit.result in
     let tables = c.tables-tables.result.now in
     let here = at_place s.vars s.trail (old.counted) l c.len-length.ensures.proper (omega arith) c.literal-lit.ensures.value in
@@ -24,7 +24,7 @@ join-requires-clause-enough g c = λ r h.
 pub join-requires-clause-fits : goal.join-requires-clause-fits
 join-requires-clause-fits g c = λ r h.
     let old = c.args.self.now in
-    let s = c.args.slacks.now in
+    let s = c.args.trail.now in
     let l = c.literal-lit.result in
     let tables = c.tables-tables.result.now in
     let here = at_place s.vars s.trail (old.counted) l c.len-length.ensures.proper (omega arith) c.literal-lit.ensures.value in
@@ -35,7 +35,7 @@ join-requires-clause-fits g c = λ r h.
 pub add_assign-requires : goal.add_assign-requires
 add_assign-requires g c =
     let old = c.args.self.now in
-    let s = c.args.slacks.now in
+    let s = c.args.trail.now in
     let l = c.literal-lit.result in
     let tables = c.tables-tables.result.now in
     let here = at_place s.vars s.trail (old.counted) l c.len-length.ensures.proper (omega arith) c.literal-lit.ensures.value in
@@ -46,7 +46,7 @@ add_assign-requires g c =
 pub returns-clause-deficits : goal.returns-clause-deficits
 returns-clause-deficits g c =
     let old = c.args.self.now in
-    let s = c.args.slacks.now in
+    let s = c.args.trail.now in
     let l = c.literal-lit.result in
     let tables = c.tables-tables.result.now in
     let here = at_place s.vars s.trail (old.counted) l c.len-length.ensures.proper (omega arith) c.literal-lit.ensures.value in

@@ -14,7 +14,7 @@ use Rattle.pb_row_bound.proofs.deficits.Deficits.take_back_last.Goals as goal
 pub leave-requires-clause-enough : goal.leave-requires-clause-enough
 leave-requires-clause-enough g c = λ r h.
     let old = c.args.self.now in
-    let s = c.args.slacks.now in
+    let s = c.args.trail.now in
     let l = c.literal-lit.result in
     let tables = c.tables-tables.result.now in
     let here = at_place s.vars s.trail (old.counted - 1) l c.facts-2.ensures.proper (omega (arith, c.requires.some, c.requires.deficits.within)) c.literal-lit.ensures.value in
@@ -27,7 +27,7 @@ leave-requires-clause-enough g c = λ r h.
 pub leave-requires-clause-fits : goal.leave-requires-clause-fits
 leave-requires-clause-fits g c = λ r h.
     let old = c.args.self.now in
-    let s = c.args.slacks.now in
+    let s = c.args.trail.now in
     let l = c.literal-lit.result in
     let tables = c.tables-tables.result.now in
     let here = at_place s.vars s.trail (old.counted - 1) l c.facts-2.ensures.proper (omega (arith, c.requires.some, c.requires.deficits.within)) c.literal-lit.ensures.value in
@@ -40,7 +40,7 @@ leave-requires-clause-fits g c = λ r h.
 pub sub_assign-requires : goal.sub_assign-requires
 sub_assign-requires g c =
     let old = c.args.self.now in
-    let s = c.args.slacks.now in
+    let s = c.args.trail.now in
     let l = c.literal-lit.result in
     let tables = c.tables-tables.result.now in
     let here = at_place s.vars s.trail (old.counted - 1) l c.facts-2.ensures.proper (omega (arith, c.requires.some, c.requires.deficits.within)) c.literal-lit.ensures.value in
@@ -53,7 +53,7 @@ sub_assign-requires g c =
 pub returns-clause-deficits : goal.returns-clause-deficits
 returns-clause-deficits g c =
     let old = c.args.self.now in
-    let s = c.args.slacks.now in
+    let s = c.args.trail.now in
     let l = c.literal-lit.result in
     let tables = c.tables-tables.result.now in
     let here = at_place s.vars s.trail (old.counted - 1) l c.facts-2.ensures.proper (omega (arith, c.requires.some, c.requires.deficits.within)) c.literal-lit.ensures.value in

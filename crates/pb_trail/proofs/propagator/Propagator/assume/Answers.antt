@@ -48,10 +48,10 @@ returns g c =
     let Q : List Level → Type 0 = λ ls. IsSoundTrail (record { form = inside.source.form; vars = inside.source.vars; rows = inside.source.rows; trail = inside.trail.lits ++ c.args.lit ∷ []; levels = starts_of ls; conflict = inside.conflict }) in
     record {
       assumed =
-        ap (λ (t : List Literal). let e : EngineState = record { form = inside.source.form; vars = inside.source.vars; rows = inside.source.rows; trail = t; levels = starts_of c.push_reserved.new.self.items; conflict = inside.conflict } in e) c.push.ensures.pushed
-        ∙ (ap (λ (ls : List ℕ). let e : EngineState = record { form = inside.source.form; vars = inside.source.vars; rows = inside.source.rows; trail = inside.trail.lits ++ c.args.lit ∷ []; levels = ls; conflict = inside.conflict } in e) starts
-        ∙ (ap (λ (b : Bool). let e : EngineState = record { form = inside.source.form; vars = inside.source.vars; rows = inside.source.rows; trail = inside.trail.lits ++ c.args.lit ∷ []; levels = starts_of inside.levels.items ++ start ∷ []; conflict = b } in e) calm
-        ∙ ap (λ (e : EngineState). let e' : EngineState = record e { trail = e.trail ++ c.args.lit ∷ []; levels = e.levels ++ length e.trail ∷ []; conflict = false } in e') c.self.view_is));
+          ap (λ (t : List Literal). let e : EngineState = record { form = inside.source.form; vars = inside.source.vars; rows = inside.source.rows; trail = t; levels = starts_of c.push_reserved.new.self.items; conflict = inside.conflict } in e) c.push.ensures.pushed
+          ∙ (ap (λ (ls : List ℕ). let e : EngineState = record { form = inside.source.form; vars = inside.source.vars; rows = inside.source.rows; trail = inside.trail.lits ++ c.args.lit ∷ []; levels = ls; conflict = inside.conflict } in e) starts
+          ∙ (ap (λ (b : Bool). let e : EngineState = record { form = inside.source.form; vars = inside.source.vars; rows = inside.source.rows; trail = inside.trail.lits ++ c.args.lit ∷ []; levels = starts_of inside.levels.items ++ start ∷ []; conflict = b } in e) calm
+          ∙ ap (λ (e : EngineState). let e' : EngineState = record e { trail = e.trail ++ c.args.lit ∷ []; levels = e.levels ++ length e.trail ∷ []; conflict = false } in e') c.self.view_is));
       conflict = λ found. absurd (let none : ⊥ = cc in none);
       fixed = refl;
       sound = subst P (sym c.push.ensures.pushed) (subst Q (sym levels) sound);

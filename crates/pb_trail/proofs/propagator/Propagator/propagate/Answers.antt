@@ -47,8 +47,8 @@ returns-in-Fixed g c =
     let stays = IsEngine-propagated inside.source.vars inside.source.rows inside.trail.lits new.lits inside.levels.items inside.propagated inside.conflict (vec_capacity inside.levels) c.len-length.result c.self.invariant.engine calm forced proper all c.len-length.ensures.length in
     record {
       added =
-        ap (λ (b : Bool). let e : EngineState = record { form = inside.source.form; vars = inside.source.vars; rows = inside.source.rows; trail = new.lits; levels = starts_of inside.levels.items; conflict = b } in e) (calm ∙ sym (ap is_conflict c.in-Fixed.is))
-        ∙ ap (λ (e : EngineState). let e' : EngineState = record e { trail = new.lits; conflict = is_conflict c.propagate_all-step.result } in e') c.self.view_is;
+          ap (λ (b : Bool). let e : EngineState = record { form = inside.source.form; vars = inside.source.vars; rows = inside.source.rows; trail = new.lits; levels = starts_of inside.levels.items; conflict = b } in e) (calm ∙ sym (ap is_conflict c.in-Fixed.is))
+          ∙ ap (λ (e : EngineState). let e' : EngineState = record e { trail = new.lits; conflict = is_conflict c.propagate_all-step.result } in e') c.self.view_is;
       forced = subst (λ (e : EngineState). AddsForced e.rows e.trail new.lits) c.self.view_is forced;
       fixed = λ _. subst (λ (e : EngineState). All (λ (row : PositiveRow). IsSettled new.lits row) e.rows) c.self.view_is settled;
       solved = λ _ full. full_is_solved (record { form = inside.source.form; vars = inside.source.vars; rows = inside.source.rows; trail = new.lits; levels = starts_of inside.levels.items; conflict = inside.conflict }) c.self.invariant.up_to_date.rows_over settled full;
@@ -69,8 +69,8 @@ returns-in-Conflict g c =
     let stays = IsEngine-conflict inside.source.vars inside.source.rows inside.trail.lits new.lits inside.levels.items inside.propagated inside.conflict (vec_capacity inside.levels) c.self.invariant.engine forced proper none in
     record {
       added =
-        ap (λ (b : Bool). let e : EngineState = record { form = inside.source.form; vars = inside.source.vars; rows = inside.source.rows; trail = new.lits; levels = starts_of inside.levels.items; conflict = b } in e) (sym (ap is_conflict c.in-Conflict.is))
-        ∙ ap (λ (e : EngineState). let e' : EngineState = record e { trail = new.lits; conflict = is_conflict c.propagate_all-step.result } in e') c.self.view_is;
+          ap (λ (b : Bool). let e : EngineState = record { form = inside.source.form; vars = inside.source.vars; rows = inside.source.rows; trail = new.lits; levels = starts_of inside.levels.items; conflict = b } in e) (sym (ap is_conflict c.in-Conflict.is))
+          ∙ ap (λ (e : EngineState). let e' : EngineState = record e { trail = new.lits; conflict = is_conflict c.propagate_all-step.result } in e') c.self.view_is;
       forced = subst (λ (e : EngineState). AddsForced e.rows e.trail new.lits) c.self.view_is forced;
       fixed = λ fixed. absurd (let none : ⊥ = cc in none);
       solved = λ fixed. absurd (let none : ⊥ = cc in none);

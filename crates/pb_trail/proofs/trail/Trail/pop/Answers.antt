@@ -2,7 +2,7 @@ use Rattle.std.proofs.Common.{◌≡◌, ℕ, ◌+◌, ◌-◌, ◌<◌, ◌++�
 use Rattle.std.specs.Vec.{vec_capacity}
 use Rattle.pb_inst.specs.Literal.{Literal}
 use Rattle.pb_rows.specs.Constraints.{row_at}
-use Rattle.pb_trail.specs.Looks.{LooksState, KnowsNothing}
+use Rattle.pb_trail.specs.SlackCache.{SlackCacheState, KnowsNothing}
 use Rattle.pb_trail.specs.Tracked.{TrailState, IsUpToDate, IsConsistent}
 use Rattle.pb_normal.specs.Literals.{weight_of, negation}
 use Rattle.pb_normal.proofs.LiteralLemmas.{negation-is}
@@ -64,11 +64,11 @@ returns-in-Some-clause-up_to_date g c =
     omega (arith, c.raise_rows.ensures r (omega arith))) in
     let left : old.lits ≡ front ++ lit ∷ [] = sym (ap (λ (t : TrailState). t.lits) c.self.view_is) ∙ whole in
     let vars : length marks ≡ old.vars = omega (arith, length-set {A = Option Bool}) in
-    let stays = IsUpToDate-pop c.args.tables.now old (record { vars = length marks; lits = front; sums = new; looks = inside.looks }) lit c.requires.up_to_date free vars left (omega arith) raised (subst (λ (looks : LooksState). KnowsNothing looks) (sym (ap (λ (t : TrailState). t.looks) c.self.view_is)) c.requires.nothing_known) in
-    subst (λ (xs : List ℕ). IsUpToDate c.args.tables.now (record { vars = length marks; lits = front; sums = xs; looks = inside.looks })) (sym end) stays
+    let stays = IsUpToDate-pop c.args.tables.now old (record { vars = length marks; lits = front; sums = new; slack_cache = inside.slack_cache }) lit c.requires.up_to_date free vars left (omega arith) raised (subst (λ (slack_cache : SlackCacheState). KnowsNothing slack_cache) (sym (ap (λ (t : TrailState). t.slack_cache) c.self.view_is)) c.requires.nothing_known) in
+    subst (λ (xs : List ℕ). IsUpToDate c.args.tables.now (record { vars = length marks; lits = front; sums = xs; slack_cache = inside.slack_cache })) (sym end) stays
 
 pub returns-in-Some-clause-nothing_known : goal.returns-in-Some-clause-nothing_known
-returns-in-Some-clause-nothing_known g c = subst (λ (looks : LooksState). KnowsNothing looks) (sym (ap (λ (t : TrailState). t.looks) c.self.view_is)) c.requires.nothing_known
+returns-in-Some-clause-nothing_known g c = subst (λ (slack_cache : SlackCacheState). KnowsNothing slack_cache) (sym (ap (λ (t : TrailState). t.slack_cache) c.self.view_is)) c.requires.nothing_known
 
 pub returns-in_default-clause-nothing_known : goal.returns-in_default-clause-nothing_known
-returns-in_default-clause-nothing_known g c = subst (λ (looks : LooksState). KnowsNothing looks) (sym (ap (λ (t : TrailState). t.looks) c.self.view_is)) c.requires.nothing_known
+returns-in_default-clause-nothing_known g c = subst (λ (slack_cache : SlackCacheState). KnowsNothing slack_cache) (sym (ap (λ (t : TrailState). t.slack_cache) c.self.view_is)) c.requires.nothing_known

@@ -58,8 +58,8 @@ returns-clause-up_to_date g c =
     omega (arith, c.lower_rows.ensures r (omega arith))) in
     let joined : c.push_reserved.new.self.items ≡ old.lits ++ c.args.lit ∷ [] = c.push_reserved.ensures.items ∙ ap (λ (t : TrailState). t.lits ++ c.args.lit ∷ []) c.self.view_is in
     let vars : length marks ≡ old.vars = omega (arith, length-set {A = Option Bool}) in
-    let stays = IsUpToDate-push c.args.tables.now old (record { vars = length marks; lits = c.push_reserved.new.self.items; sums = new; looks = inside.looks }) c.args.lit c.requires.up_to_date c.requires.no_value vars joined (omega arith) lowered (ap (λ (t : TrailState). t.looks) c.self.view_is) in
-    subst (λ (xs : List ℕ). IsUpToDate c.args.tables.now (record { vars = length marks; lits = c.push_reserved.new.self.items; sums = xs; looks = inside.looks })) (sym end) stays
+    let stays = IsUpToDate-push c.args.tables.now old (record { vars = length marks; lits = c.push_reserved.new.self.items; sums = new; slack_cache = inside.slack_cache }) c.args.lit c.requires.up_to_date c.requires.no_value vars joined (omega arith) lowered (ap (λ (t : TrailState). t.slack_cache) c.self.view_is) in
+    subst (λ (xs : List ℕ). IsUpToDate c.args.tables.now (record { vars = length marks; lits = c.push_reserved.new.self.items; sums = xs; slack_cache = inside.slack_cache })) (sym end) stays
 
 pub returns-clause-within : goal.returns-clause-within
 returns-clause-within g c =

@@ -9,17 +9,17 @@ use pb_count::Coefficient;
 use pb_dual::Multipliers;
 use pb_inst::{Lit, Memory, Number};
 use pb_normal::Form;
-use pb_saddle::Saddle;
+use pb_saddle::Pdhg;
 use std::alloc::Global;
 
-/// How often all rows are gone through at the first node, forwards and backwards in turn.
-const FIRST_PASSES: u32 = 2;
+/// How many sweeps there are over all rows at the first node, forwards and backwards in turn.
+const FIRST_SWEEPS: u32 = 2;
 
 /// After how many nodes better first multipliers are looked for: a search that is over before does well without.
 const PATIENCE: u32 = 10;
 
-/// How often all rows are gone through by then.
-const PASSES: u32 = 4;
+/// How many sweeps there are by then.
+const SWEEPS: u32 = 4;
 
 /// After how many nodes all rows are shifted at once, to make the first multipliers better still: no step of one row leaves a
 /// point where only several rows together gain, and there steps end on schedules and assignments.
@@ -31,28 +31,28 @@ const STEPS: u32 = 500;
 /// How many there are where that is done again: from better multipliers on fewer serve.
 const STEPS_AGAIN: u32 = 150;
 
-/// What was done to all rows, and what the next passes wait for.
+/// What was done to all rows, and what the next sweeps wait for.
 #[derive(Drop)]
-pub struct Passes {
-    saddle: Saddle,
+pub struct Sweeps {
+    pdhg: Pdhg,
     /// The number of terms of all rows.
     terms: u64,
     /// How many nodes of the search were counted.
     nodes: u32,
-    /// How often all rows were gone through.
-    passes: u32,
+    /// How many sweeps were made.
+    sweeps: u32,
     /// Whether all rows are to be shifted at once again.
     is_renewed: bool,
 }
 
-impl Passes {
+impl Sweeps {
     /// None yet over the rows of the form.
-    pub fn new<C: Coefficient>(alloc: Global, form: &Form<C>) -> Result<Passes, Memory> {
-        Ok(Passes {
-            saddle: Saddle::new(alloc, form)?,
+    pub fn new<C: Coefficient>(alloc: Global, form: &Form<C>) -> Result<Sweeps, Memory> {
+        Ok(Sweeps {
+            pdhg: Pdhg::new(alloc, form)?,
             terms: form.terms_len() as u64,
             nodes: 0,
-            passes: 0,
+            sweeps: 0,
             is_renewed: false,
         })
     }
@@ -76,20 +76,20 @@ impl Passes {
     /// Whether all rows are to be stepped, so that first multipliers are found, or better ones once the search has gone on for
     /// some nodes; and that is not too dear.
     pub fn is_due(&self, effort: &Effort) -> bool {
-        let left = self.end().saturating_sub(self.passes);
+        let left = self.end().saturating_sub(self.sweeps);
         left > 0 && effort.affords((left as u64).saturating_mul(self.terms))
     }
 
-    /// How often all rows are to have been gone through by now.
+    /// How many sweeps are to have been made by now.
     fn end(&self) -> u32 {
         if self.nodes < PATIENCE {
-            FIRST_PASSES
+            FIRST_SWEEPS
         } else {
-            PASSES
+            SWEEPS
         }
     }
 
-    /// Goes through all rows until that was done as often as it is to be by now. The multipliers are kept for good.
+    /// Makes the sweeps that are to have been made by now. The multipliers are kept for good.
     pub fn step_all<C: Coefficient>(
         &mut self,
         multipliers: &mut Multipliers<C>,
@@ -98,12 +98,12 @@ impl Passes {
     )
         ensures { IsSameButShifted multipliers.old multipliers.new }
     {
-        let (start, end) = (self.passes, self.end());
+        let (start, end) = (self.sweeps, self.end());
         for number in start..end {
-            pass(multipliers, steps, number % 2 == 1);
+            sweep(multipliers, steps, number % 2 == 1);
             effort.count_multipliers(self.terms);
         }
-        self.passes = end;
+        self.sweeps = end;
     }
 
     /// All rows are to be shifted at once again: the root's trail has grown, or the best cost has fallen.
@@ -129,31 +129,31 @@ impl Passes {
     {
         let count = if self.is_renewed { STEPS_AGAIN } else { STEPS };
         self.is_renewed = false;
-        self.saddle.improve(multipliers, count, limit);
-        pass(multipliers, steps, false);
-        pass(multipliers, steps, true);
+        self.pdhg.improve(multipliers, count, limit);
+        sweep(multipliers, steps, false);
+        sweep(multipliers, steps, true);
     }
 
     /// Plans in which order the variables without a value may be decided, by so many steps of the first-order method.
     pub fn plan<C: Coefficient>(&mut self, multipliers: &Multipliers<C>, steps: u32) {
-        self.saddle.approach(multipliers, steps);
+        self.pdhg.approach(multipliers, steps);
     }
 
     /// What is at the place, from 0 on, of the order that was planned last.
     pub fn planned(&self, place: usize) -> Option<Lit> {
-        self.saddle.planned(place)
+        self.pdhg.planned(place)
     }
 
     /// Looks for multipliers by which nothing completes the trail, where nothing costs anything, by so many steps at most.
     pub fn refute<C: Coefficient>(&mut self, multipliers: &mut Multipliers<C>, steps: u32)
         ensures { IsSameButShifted multipliers.old multipliers.new }
     {
-        self.saddle.refute(multipliers, steps);
+        self.pdhg.refute(multipliers, steps);
     }
 }
 
-/// Steps once through all rows, and keeps the multipliers for good.
-fn pass<C: Coefficient>(multipliers: &mut Multipliers<C>, steps: &mut Steps<C>, backwards: bool)
+/// A sweep: steps each row once, and keeps the multipliers for good.
+fn sweep<C: Coefficient>(multipliers: &mut Multipliers<C>, steps: &mut Steps<C>, backwards: bool)
     ensures { IsSameButShifted multipliers.old multipliers.new }
 {
     let rows = multipliers.form().len();

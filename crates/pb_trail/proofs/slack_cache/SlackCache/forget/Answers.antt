@@ -1,6 +1,6 @@
 use Rattle.std.proofs.Common.{arith}
-use Rattle.pb_trail.proofs.LookLemmas.{nothing_known}
-use Rattle.pb_trail.proofs.looks.Looks.forget.Goals as goal
+use Rattle.pb_trail.proofs.SlackCacheLemmas.{nothing_known}
+use Rattle.pb_trail.proofs.slack_cache.SlackCache.forget.Goals as goal
 
 pub returns : goal.returns
 returns g c = nothing_known (record { last = c.self.inside.last.items; undone = c.saturating_add-self-inside.result })

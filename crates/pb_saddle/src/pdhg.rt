@@ -1,4 +1,4 @@
-//! The method: from the multipliers as they are to better ones, and to a point.
+//! PDHG, the method: from the multipliers as they are to better ones, and to a point.
 
 ghost use Rattle.pb_saddle.specs.Shifting.{IsSameButShifted};
 
@@ -22,8 +22,8 @@ const MOST_TERMS: usize = 1_000_000;
 /// How many numbers one call looks at, at most: some tenths of a second.
 const MOST_VISITS: u64 = 100_000_000;
 
-/// How many steps there are from one look at the bound to the next.
-const LOOK: u32 = 25;
+/// How many steps there are from one check of the bound to the next.
+const CHECK_INTERVAL: u32 = 25;
 
 /// How far the bound may be below what it can be, about, where more steps are not worth it: a part of a cost.
 const NEAR: f64 = 1.0 / 64.0;
@@ -43,7 +43,7 @@ const REFUTING: f64 = 1.0 / 64.0;
 const GREATEST_PROMISE: f64 = 1_099_511_627_776.0;
 
 /// The problem that a trail leaves, and where the method stands in it.
-pub struct Saddle {
+pub struct Pdhg {
     /// Whether the form has few enough terms.
     is_open: bool,
     problem: Problem,
@@ -61,9 +61,9 @@ pub struct Saddle {
 }
 
 // By hand, so that whoever lets go of it sees one call, and not each of its parts.
-impl Drop for Saddle {
+impl Drop for Pdhg {
     fn drop(self) {
-        let Saddle {
+        let Pdhg {
             is_open: _,
             problem: _,
             scaling: _,
@@ -78,10 +78,10 @@ impl Drop for Saddle {
     }
 }
 
-impl Saddle {
+impl Pdhg {
     /// Room for the problems that trails leave of the form, where it has no more terms than are worth it. Fails where there
     /// is no memory; nothing after it takes any.
-    pub fn new<C: Coefficient>(alloc: Global, form: &Form<C>) -> Result<Saddle, Memory> {
+    pub fn new<C: Coefficient>(alloc: Global, form: &Form<C>) -> Result<Pdhg, Memory> {
         let terms = form.terms_len();
         let is_open = terms <= MOST_TERMS;
         let (vars, rows, terms) = if is_open {
@@ -89,7 +89,7 @@ impl Saddle {
         } else {
             (0, 0, 0)
         };
-        Ok(Saddle {
+        Ok(Pdhg {
             is_open,
             problem: Problem::new(alloc, vars, rows, terms)?,
             scaling: Scaling::new(alloc, vars, rows)?,
@@ -224,7 +224,7 @@ impl Saddle {
         self.x.begin();
         self.y.begin();
         self.top = -f64::INFINITY;
-        self.look();
+        self.check();
     }
 
     /// Makes so many steps, or fewer where the bound comes over the end or so near to the greatest, or they would look at too
@@ -241,9 +241,9 @@ impl Saddle {
             let length = self
                 .steps
                 .step(&self.problem, &self.scaling, &mut self.x, &mut self.y);
-            if number % LOOK == LOOK - 1 {
+            if number % CHECK_INTERVAL == CHECK_INTERVAL - 1 {
                 visits = visits.saturating_add(size.saturating_mul(2));
-                self.look();
+                self.check();
                 if self.is_near(near) {
                     break;
                 }
@@ -267,7 +267,7 @@ impl Saddle {
     }
 
     /// Keeps the target of y as the best, if its bound is.
-    fn look(&mut self) {
+    fn check(&mut self) {
         let bound = self.problem.bound(&self.y.target);
         if bound > self.top {
             self.top = bound;

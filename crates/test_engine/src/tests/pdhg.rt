@@ -4,7 +4,7 @@ use super::forms::{Terms, form, is_lit, lit, multipliers};
 use pb_count::Coefficient;
 use pb_inst::{Magnitude, Number};
 use pb_normal::Form;
-use pb_saddle::Saddle;
+use pb_saddle::Pdhg;
 use std::alloc::Global;
 use std::process::Abort;
 
@@ -24,8 +24,8 @@ fn triangle<C: Coefficient>(rt: &impl Abort, alloc: Global, unit: Number) -> For
 fn rises<C: Coefficient>(rt: &impl Abort, alloc: Global, unit: Number) {
     let form: Form<C> = triangle(rt, alloc, unit);
     let mut multipliers = multipliers(rt, alloc, &form, 8);
-    let mut saddle = Saddle::new(alloc, &form).expect(rt, "memory");
-    let numbers = saddle.improve(&mut multipliers, 200, Number::MAX);
+    let mut pdhg = Pdhg::new(alloc, &form).expect(rt, "memory");
+    let numbers = pdhg.improve(&mut multipliers, 200, Number::MAX);
     assert!(rt; numbers > 0);
     let least = unit.saturating_mul(3);
     assert!(rt; multipliers.bound() <= least);
@@ -49,12 +49,12 @@ fn met_rows_are_left_out(rt: HostRuntime) {
     if multipliers.is_free(first) {
         multipliers.assign(first);
     }
-    let mut saddle = Saddle::new(alloc, &form).expect(&rt, "memory");
-    saddle.improve(&mut multipliers, 200, Number::MAX);
+    let mut pdhg = Pdhg::new(alloc, &form).expect(&rt, "memory");
+    pdhg.improve(&mut multipliers, 200, Number::MAX);
     assert!(rt; multipliers.bound() == 4);
-    saddle.approach(&multipliers, 200);
-    assert!(rt; saddle.planned(1).is_some());
-    assert!(rt; saddle.planned(2).is_none());
+    pdhg.approach(&multipliers, 200);
+    assert!(rt; pdhg.planned(1).is_some());
+    assert!(rt; pdhg.planned(2).is_none());
 }
 
 /// A point that is whole tells each value, and those that cost most to leave come first.
@@ -65,13 +65,13 @@ fn a_point_is_planned_by_what_it_leaves_open(rt: HostRuntime) {
     let rows: &[(Terms<'_>, Number)] = &[(&[(1, 1), (1, 2)], 1)];
     let form: Form<u64> = form(&rt, alloc, 3, objective, rows);
     let multipliers = multipliers(&rt, alloc, &form, 8);
-    let mut saddle = Saddle::new(alloc, &form).expect(&rt, "memory");
-    saddle.approach(&multipliers, 300);
-    assert!(rt; saddle.value(1) > 0.9);
-    assert!(rt; saddle.value(2) < 0.1);
-    assert!(rt; saddle.value(4) == 0.0);
+    let mut pdhg = Pdhg::new(alloc, &form).expect(&rt, "memory");
+    pdhg.approach(&multipliers, 300);
+    assert!(rt; pdhg.value(1) > 0.9);
+    assert!(rt; pdhg.value(2) < 0.1);
+    assert!(rt; pdhg.value(4) == 0.0);
     for (place, number) in [1, -2, -3].iter().enumerate() {
-        let planned = saddle.planned(place).expect(&rt, "a literal");
+        let planned = pdhg.planned(place).expect(&rt, "a literal");
         assert!(rt; is_lit(planned, *number));
     }
 }
@@ -84,8 +84,8 @@ fn is_refuted(rt: &impl Abort, alloc: Global, some: Number, others: Number) -> b
     ];
     let form: Form<u64> = form(rt, alloc, 3, &[], rows);
     let mut multipliers = multipliers(rt, alloc, &form, 8);
-    let mut saddle = Saddle::new(alloc, &form).expect(rt, "memory");
-    saddle.refute(&mut multipliers, 25);
+    let mut pdhg = Pdhg::new(alloc, &form).expect(rt, "memory");
+    pdhg.refute(&mut multipliers, 25);
     multipliers.refutes()
 }
 

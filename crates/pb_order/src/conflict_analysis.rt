@@ -1,5 +1,6 @@
-//! What led to a conflict: the variables of the row that could not be met, and those of the rows that forced their values,
-//! each found before the trail is walked past it. No answer depends on it, so nothing is promised.
+//! Conflict analysis, which finds what led to a conflict: the variables of the row that could not be met, and those of the
+//! rows that forced their values, each found before the trail is walked past it. No answer depends on it, so nothing is
+//! promised.
 
 use pb_count::Coefficient;
 use pb_inst::{Lit, Memory};
@@ -13,7 +14,7 @@ const STAMPS_OF_A_CONFLICT: u32 = 2;
 /// The variables that are known to have led to a conflict, while the trail is walked back from its end. What is known of a
 /// variable stands in a stamp, so that each conflict begins with none known, whatever the one before left.
 #[derive(Drop)]
-pub struct Causes {
+pub struct ConflictAnalysis {
     /// Of each variable, by its index from 0 on, what it was stamped with last.
     stamps: Vec<u32>,
     /// The stamp of those that led to this conflict and were not met yet, an even number. The next number is the stamp of those
@@ -23,11 +24,11 @@ pub struct Causes {
     waiting: usize,
 }
 
-impl Causes {
+impl ConflictAnalysis {
     /// None is known, of so many variables.
-    pub fn new(alloc: Global, vars: u32) -> Result<Causes, Memory> {
+    pub fn new(alloc: Global, vars: u32) -> Result<ConflictAnalysis, Memory> {
         let stamps = vec![in alloc; 0; vars as usize]?;
-        Ok(Causes {
+        Ok(ConflictAnalysis {
             stamps,
             known: 0,
             waiting: 0,

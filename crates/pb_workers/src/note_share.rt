@@ -7,14 +7,14 @@ use pb_search::{Alone, Share};
 use std::alloc::Global;
 use std::io;
 
-/// A share with others who are not on a worker's board.
-pub trait Beside: Share {
+/// A worker's share with others who are not on its board.
+pub trait OuterShare: Share {
     /// A piece is about to be searched.
     fn begin(&mut self)
         ensures { Self.lends self.new ≡ Self.lends self.old };
 }
 
-impl Beside for Alone {
+impl OuterShare for Alone {
     fn begin(&mut self) {}
 }
 
@@ -33,11 +33,11 @@ pub struct Correspondence<'n, N> {
 /// A worker's share beyond its board: an exchange of notes, where its task has one. What comes of it is any bits, as with every
 /// share.
 #[derive(Drop)]
-pub struct Beyond<'n, N: Notes> {
+pub struct NoteShare<'n, N: Notes> {
     exchange: Option<Exchange<'n, N>>,
 }
 
-impl<'n, N: Notes> Beyond<'n, N> {
+impl<'n, N: Notes> NoteShare<'n, N> {
     /// The share of the worker of this number on an instance of so many variables. Without a correspondence there is nobody to
     /// share with. Fails where memory is refused.
     pub fn new(
@@ -45,9 +45,9 @@ impl<'n, N: Notes> Beyond<'n, N> {
         correspondence: Option<&Correspondence<'n, N>>,
         vars: u32,
         worker: u32,
-    ) -> Result<Beyond<'n, N>, Memory> {
+    ) -> Result<NoteShare<'n, N>, Memory> {
         let Some(with) = correspondence else {
-            return Ok(Beyond { exchange: None });
+            return Ok(NoteShare { exchange: None });
         };
         let exchange = Exchange::new(
             alloc,
@@ -58,13 +58,13 @@ impl<'n, N: Notes> Beyond<'n, N> {
             with.tasks,
             worker,
         )?;
-        Ok(Beyond {
+        Ok(NoteShare {
             exchange: Some(exchange),
         })
     }
 }
 
-impl<'n, N: Notes> Share for Beyond<'n, N> {
+impl<'n, N: Notes> Share for NoteShare<'n, N> {
     ghost keeps = { λ s t. ⊤ };
 
     ghost lends = { λ s. true };
@@ -87,7 +87,7 @@ impl<'n, N: Notes> Share for Beyond<'n, N> {
     }
 }
 
-impl<'n, N: Notes> Beside for Beyond<'n, N> {
+impl<'n, N: Notes> OuterShare for NoteShare<'n, N> {
     /// So that what others found bounds the piece from its root on.
     fn begin(&mut self) {
         if let Some(exchange) = &mut self.exchange {

@@ -1,7 +1,7 @@
-//! What is known of long rows that were looked through.
+//! The slack cache: at which slack each long row was looked through last.
 
 ghost use Rattle.std.specs.Prelude.{◌≡◌, ◌<◌, true, length, IfOk, IfSome};
-ghost use Rattle.pb_trail.specs.Looks.{IsKnown, IsLookOf, KnowsNothing, NotesOnly};
+ghost use Rattle.pb_trail.specs.SlackCache.{IsKnown, IsEntryOf, KnowsNothing, NotesOnly};
 
 use pb_count::{Coefficient, Counter};
 use pb_inst::Memory;
@@ -13,61 +13,61 @@ use std::marker::Model;
 /// known of it.
 const LONG: usize = 64;
 
-/// The last look through a row: the slack at which it was, and the number of undoings from which on it tells nothing.
+/// The slack at which a row was looked through last, and the number of undoings from which on it tells nothing.
 #[derive(Clone, Copy)]
-struct Look<C: Coefficient> {
+struct CachedSlack<C: Coefficient> {
     row: usize,
     slack: Counter<C>,
     until: u64,
 }
 
-impl<C: Coefficient> Model for Look<C> {
-    ghost use Rattle.pb_trail.specs.Looks.{Look as Looked};
+impl<C: Coefficient> Model for CachedSlack<C> {
+    ghost use Rattle.pb_trail.specs.SlackCache.{CachedSlack as Cached};
 
-    ghost Value = { Looked };
+    ghost Value = { Cached };
 
     ghost view = { λ l. record { row = l.row; slack = l.slack; until = l.until } };
 
     ghost inverse = { λ l. record { row = l.row; slack = l.slack; until = l.until } };
 }
 
-/// The last look through each long row, by the numbers of the rows, and how often literals were taken off the trail. A look
-/// tells something as long as none was since. What is known of short rows is nothing, and takes no memory.
+/// The slack at which each long row was looked through last, by the numbers of the rows, and how often literals were taken off
+/// the trail. A slack tells something as long as none was since. What is known of short rows is nothing, and takes no memory.
 #[derive(Drop)]
-pub struct Looks<C: Coefficient> {
-    last: Vec<Look<C>>,
+pub struct SlackCache<C: Coefficient> {
+    last: Vec<CachedSlack<C>>,
     /// Stays at its greatest number, from which on nothing is known.
     undone: u64,
 }
 
-impl<C: Coefficient> Model for Looks<C> {
+impl<C: Coefficient> Model for SlackCache<C> {
     ghost use Rattle.std.specs.Prelude.{◌+◌, ◌^◌, ◌<◌, ◌≤◌, All};
-    ghost use Rattle.pb_trail.specs.Looks.{LooksState};
+    ghost use Rattle.pb_trail.specs.SlackCache.{SlackCacheState};
 
-    ghost Value = { LooksState };
+    ghost Value = { SlackCacheState };
 
     ghost view = { λ l. record { last = l.last.items; undone = l.undone } };
 
-    ghost invariant = { λ l. All (λ look. (look.until ≤ l.undone + 1) × (look.until < 2 ^ 64)) l.last.items };
+    ghost invariant = { λ l. All (λ entry. (entry.until ≤ l.undone + 1) × (entry.until < 2 ^ 64)) l.last.items };
 }
 
-impl<C: Coefficient> Looks<C> {
+impl<C: Coefficient> SlackCache<C> {
     /// Nothing is known yet. It makes room for all long rows of the form.
-    pub fn new(alloc: Global, form: &Form<C>) -> Result<Looks<C>, Memory>
-        ensures { IfOk result (λ looks. KnowsNothing looks) }
+    pub fn new(alloc: Global, form: &Form<C>) -> Result<SlackCache<C>, Memory>
+        ensures { IfOk result (λ slack_cache. KnowsNothing slack_cache) }
     {
         let mut last = Vec::with_capacity(alloc, count_long(form))?;
         for row in 0..form.len() {
             if is_long(form.terms(row)) {
                 let slack = Counter::of(0);
-                last.push(Look {
+                last.push(CachedSlack {
                     row,
                     slack,
                     until: 0,
                 })?;
             }
         }
-        Ok(Looks { last, undone: 0 })
+        Ok(SlackCache { last, undone: 0 })
     }
 
     /// Whether the row was looked through at this slack or a lesser one, with nothing undone since.
@@ -76,8 +76,8 @@ impl<C: Coefficient> Looks<C> {
     {
         match self.place_of(row) {
             Some(place) => {
-                let look = self.last[place];
-                self.undone < look.until && !slack.is_below(look.slack)
+                let entry = self.last[place];
+                self.undone < entry.until && !slack.is_below(entry.slack)
             }
             None => false,
         }
@@ -89,7 +89,7 @@ impl<C: Coefficient> Looks<C> {
     {
         if let Some(place) = self.place_of(row) {
             let until = self.undone.saturating_add(1);
-            self.last[place] = Look { row, slack, until };
+            self.last[place] = CachedSlack { row, slack, until };
         }
     }
 
@@ -100,11 +100,11 @@ impl<C: Coefficient> Looks<C> {
         self.undone = self.undone.saturating_add(1);
     }
 
-    /// The place of the last look through the row, if it is long.
+    /// The place of the row's slack, if the row is long.
     fn place_of(&self, row: usize) -> Option<usize>
-        ensures { IfSome result (λ place. IsLookOf self.now row place) }
+        ensures { IfSome result (λ place. IsEntryOf self.now row place) }
     {
-        match self.last.binary_search_by_key(&row, |look| look.row) {
+        match self.last.binary_search_by_key(&row, |entry| entry.row) {
             Ok(place) => Some(place),
             Err(_) => None,
         }

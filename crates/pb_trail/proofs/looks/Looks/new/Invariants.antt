@@ -1,6 +1,0 @@
-use Rattle.std.proofs.Common.{◌≡◌, ◌<◌, ℕ, length, get_or}
-use Rattle.pb_trail.specs.Looks.{Look}
-use Rattle.pb_trail.proofs.looks.Looks.new.Given as goal
-
-abbrev pub invariant-loop-row : goal.invariant-loop-row
-invariant-loop-row g l = (k : ℕ) (d : Look) → k < length l.last.items → (get_or l.last.items k d).until ≡ 0
