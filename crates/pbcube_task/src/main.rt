@@ -1,8 +1,6 @@
 //! `pbcube_task`: a task's share of the pieces of a pseudo-Boolean instance, searched from the command line.
 #![tactic(auto)]
 
-ghost use Rattle.std.specs.Prelude.{◌≡◌};
-
 mod faults;
 mod places;
 mod reporting;
@@ -11,47 +9,13 @@ mod searching;
 
 use crate::places::Places;
 use crate::run::{out_of_memory, program};
-use pb_files::Folders;
+use pb_files::SystemFiles;
 use pb_line::{LastFault, Noting, texts_of, words_of};
 use pb_notes::Folder;
 use pb_solve::Device;
 use std::alloc::Global;
-use std::fs::{self, File};
-use std::io::{self, Error, ErrorKind, Write};
+use std::io::{self, Error, ErrorKind};
 use std::process::ExitCode;
-
-/// The files and folders of the system.
-#[derive(Drop)]
-struct SystemFolders<'a> {
-    rt: &'a HostRuntime,
-}
-
-impl Folders for SystemFolders<'_> {
-    ghost reads = { λ folders name text after. after ≡ folders };
-
-    ghost makes = { λ folders name after. after ≡ folders };
-
-    ghost looks = { λ folders name there after. after ≡ folders };
-
-    ghost writes = { λ folders name text after. after ≡ folders };
-
-    fn read(&mut self, name: &str) -> io::Result<Vec<u8>> {
-        fs::read(self.rt, name)
-    }
-
-    fn make_folder(&mut self, name: &str) -> io::Result<()> {
-        fs::create_dir_all(self.rt, name)
-    }
-
-    fn exists(&mut self, name: &str) -> io::Result<bool> {
-        fs::exists(self.rt, name)
-    }
-
-    fn write_new(&mut self, name: &str, text: &[u8]) -> io::Result<()> {
-        let mut file = File::create_new(self.rt, name)?;
-        file.write_all(text)
-    }
-}
 
 /// The folders of the system, in which notes can lie.
 #[derive(Drop)]
@@ -93,7 +57,7 @@ fn main(rt: HostRuntime) -> ExitCode {
             };
         }
     };
-    let mut folders = SystemFolders { rt: &rt };
+    let mut folders = SystemFiles { rt: &rt };
     let places = SystemPlaces { rt: &rt };
     let status = match words_of(rt.alloc(), &texts) {
         Ok(words) => program(

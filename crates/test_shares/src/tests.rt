@@ -3,4 +3,5 @@
 mod boards;
 mod joining;
 mod row_sets;
+mod sessions;
 mod shares;
