@@ -1,12 +1,11 @@
 //! A trail over a normal form of either width.
 
-ghost use Rattle.std.specs.Prelude.{◌≡◌, ◌<◌, ◌≤◌, [], ◌∷◌, ◌++◌, false, true, length, take, None, All, IfOk, ◌≤ℤ◌, pos, neg_ℤ, List};
+ghost use Rattle.std.specs.Prelude.{◌≡◌, ◌<◌, ◌≤◌, [], ◌++◌, false, true, length, take, None, All, IfOk, ◌≤ℤ◌, pos, neg_ℤ, List};
 ghost use Rattle.pb_inst.specs.declared.limits.TheConstants.{SUM_BOUND};
 ghost use Rattle.pb_normal.specs.NormalForm.{PositiveRow};
 ghost use Rattle.pb_rows.specs.Clauses.{AreClausesOf};
 ghost use Rattle.pb_trail.specs.Trail.{value_on};
-ghost use Rattle.pb_trail.specs.Completion.{HasNoCompletion, IsLowerBound, IsSettled};
-ghost use Rattle.pb_trail.specs.Propagation.{AddsForced};
+ghost use Rattle.pb_trail.specs.Completion.{HasNoCompletion, IsLowerBound};
 ghost use Rattle.pb_trail.specs.EngineState.{trail_before};
 ghost use Rattle.pb_trail.specs.Soundness.{IsSoundTrail};
 ghost use Rattle.pb_trail.specs.Steps.{Assumes, Propagates};

@@ -1,15 +1,12 @@
 //! A trail with assumptions, what follows from them, and a lower bound of what its completions cost.
 
-ghost use Rattle.std.specs.Prelude.{◌≡◌, ◌+◌, ◌<◌, ◌≤◌, [], ◌∷◌, ◌++◌, false, true, length, take, None, All, IfOk, IfSome, slice_index_or, ◌≤ℤ◌, pos, neg_ℤ, List};
+ghost use Rattle.std.specs.Prelude.{◌≡◌, ◌+◌, ◌<◌, ◌≤◌, [], ◌++◌, false, true, length, take, None, All, IfOk, IfSome, slice_index_or, ◌≤ℤ◌, pos, neg_ℤ, List};
 ghost use Rattle.pb_inst.specs.declared.limits.TheConstants.{SUM_BOUND};
 ghost use Rattle.pb_normal.specs.NormalForm.{PositiveRow};
 ghost use Rattle.pb_rows.specs.declared.TheConstants.{MAX_CLAUSES};
 ghost use Rattle.pb_rows.specs.Clauses.{AreClausesOf};
-ghost use Rattle.pb_rows.specs.Constraints.{row_at};
-ghost use Rattle.pb_rows.specs.Tables.{AreBeside, terms_in};
 ghost use Rattle.pb_trail.specs.Trail.{value_on};
-ghost use Rattle.pb_trail.specs.Completion.{HasNoCompletion, IsLowerBound, IsSettled};
-ghost use Rattle.pb_trail.specs.Propagation.{AddsForced, IsBrokenAt};
+ghost use Rattle.pb_trail.specs.Completion.{HasNoCompletion, IsLowerBound};
 ghost use Rattle.pb_trail.specs.EngineState.{trail_before};
 ghost use Rattle.pb_trail.specs.Soundness.{IsSoundTrail};
 ghost use Rattle.pb_trail.specs.Steps.{Assumes, Propagates};

@@ -1,6 +1,6 @@
 //! How a decision of the search is made.
 
-ghost use Rattle.std.specs.Prelude.{◌≡◌, ◌≢◌, ◌++◌, ◌∷◌, [], ◌≤◌, List, length, vec_capacity, Some, true};
+ghost use Rattle.std.specs.Prelude.{◌≡◌, ◌≢◌, ◌++◌, ◌∷◌, [], ◌≤◌, List, length, vec_capacity, Some};
 ghost use Rattle.pb_inst.specs.Literal.{Literal};
 ghost use Rattle.pb_prune.specs.Solutions.{SameConstraints};
 ghost use Rattle.pb_engine.specs.Free.{IsFree};

@@ -1,6 +1,6 @@
 //! The search of a subtree, node by node.
 
-ghost use Rattle.std.specs.Prelude.{◌≡◌, ◌⊎◌, ◌+◌, ◌<◌, false, [], Some, IfSome};
+ghost use Rattle.std.specs.Prelude.{◌≡◌, ◌⊎◌, ◌<◌, false, [], Some, IfSome};
 ghost use Rattle.pb_inst.specs.Incumbent.{IsSound};
 ghost use Rattle.pb_engine.specs.Soundness.{IsSoundTrail};
 ghost use Rattle.pb_control.specs.Goal.{IsMet};

@@ -1,12 +1,12 @@
 //! A trail with assumptions, and what follows from them.
 
-ghost use Rattle.std.specs.Prelude.{◌≡◌, ◌+◌, ◌<◌, ◌≤◌, [], ◌∷◌, ◌++◌, false, true, length, take, None, Some, All, IfOk, IfSome, slice_index_or};
+ghost use Rattle.std.specs.Prelude.{◌≡◌, ◌<◌, ◌≤◌, [], false, true, length, take, None, Some, IfOk, IfSome, slice_index_or};
 ghost use Rattle.std.specs.Option.{ForSome};
 ghost use Rattle.pb_rows.specs.Constraints.{row_at};
 ghost use Rattle.pb_rows.specs.Tables.{terms_in};
 ghost use Rattle.pb_trail.specs.Trail.{value_on};
-ghost use Rattle.pb_trail.specs.Completion.{HasNoCompletion, IsSettled};
-ghost use Rattle.pb_trail.specs.Propagation.{AddsForced, IsBrokenAt};
+ghost use Rattle.pb_trail.specs.Completion.{HasNoCompletion};
+ghost use Rattle.pb_trail.specs.Propagation.{IsBrokenAt};
 ghost use Rattle.pb_trail.specs.EngineState.{trail_before};
 ghost use Rattle.pb_trail.specs.Soundness.{IsSoundTrail};
 ghost use Rattle.pb_trail.specs.Steps.{Assumes, Propagates};
