@@ -65,12 +65,6 @@ expanded_looked lends s u v x y z next same beside moves nothing own e =
 pub own_dived : {C : Type 0} (t u : SearchState C) (x y z : Incumbent) → u.engine ≡ t.engine → IsSoundTrail t.engine → IsFoundAt t.engine x y → IsFoundAt t.engine y z → IsFoundAt u.engine x z
 own_dived t u x y z same sound h k = subst (λ (r : EngineState). IsFoundAt r x z) (sym same) (own_later t t x y z (same_branches_itself t) sound sound h k)
 
--- a node was expanded, the search dived from there, and the node was expanded again
-pub expanded_again : {C : Type 0} (lends : Bool) (s t d u : SearchState C) (x y z w : Incumbent) (first next : Option Branch) → IsExpanded lends s t x y first → IsBackFromDive lends t d y z → IsExpanded lends d u z w next → IsExpanded lends s u x w next
-expanded_again lends s t d u x y z w first next e dived again =
-    expanded_onward lends s d u x z w next (same_branches_onward s t d e.same_branches dived.same_branches) (subst (λ (r : EngineState). IsSoundTrail r) (sym dived.taken_back) e.sound) (moves_onward x y z e.moves_on dived.moves_on)
-    (λ alone. own_dived t d x y z dived.taken_back e.sound (e.own alone) (dived.own alone)) again
-
 -- a node where nothing was found, and nothing is left
 pub nothing_left : {C : Type 0} (lends : Bool) (s u : SearchState C) (x : Incumbent) → SameBranches s u → IsSoundTrail u.engine → IsClosed x.problem u.engine x.held → IsExpanded lends s u x x None
 nothing_left lends s u x same sound closed = record { free = tt; sides = tt; closed = closed; same_branches = same; sound = sound; moves_on = moves_itself x; own = λ alone. inl refl }
@@ -100,3 +94,26 @@ leaf_left lends s t u x y same sound is beside closed moves own = record {
 -- nothing but what stands beside the engine changed
 pub beside_left : {C : Type 0} (s t u : SearchState C) → SameBranches s t → u.engine ≡ t.engine → SameBranchesAndRoom t u → SameBranches s u
 beside_left s t u same is beside = same_branches_onward s t u same (same_branches_back t u is beside)
+
+-- where the search stands once it dived after an expansion
+pub dived_onward : {C : Type 0} (lends : Bool) (s t d : SearchState C) (x y z : Incumbent) (next : Option Branch) → IsExpanded lends s t x y next → IsBackFromDive lends t d y z → IsLookedOn lends s d x z
+dived_onward lends s t d x y z next e dived = record {
+  same_branches = same_branches_onward s t d e.same_branches dived.same_branches;
+  sound = subst (λ (r : EngineState). IsSoundTrail r) (sym dived.taken_back) e.sound;
+  moves_on = moves_onward x y z e.moves_on dived.moves_on;
+  own = λ alone. own_dived t d x y z dived.taken_back e.sound (e.own alone) (dived.own alone);
+}
+
+-- a decision with both values to try stays so
+pub expanded_dived : {C : Type 0} (lends : Bool) (s t d : SearchState C) (x y z : Incumbent) (b : Branch) → b.flipped ≡ false → IsExpanded lends s t x y (Some b) → IsBackFromDive lends t d y z → IsExpanded lends s d x z (Some b)
+expanded_dived lends s t d x y z b fresh e dived =
+    let there = dived_onward lends s t d x y z (Some b) e dived in
+    record {
+      free = subst (λ (r : EngineState). IsFree r b.lit) (sym dived.taken_back) e.free;
+      sides = inl fresh;
+      closed = tt;
+      same_branches = there.same_branches;
+      sound = there.sound;
+      moves_on = there.moves_on;
+      own = there.own;
+    }

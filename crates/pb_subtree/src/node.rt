@@ -29,8 +29,9 @@ use pb_inst::Best;
 /// How often the share is asked at one node at most: more often than a round of probes comes to.
 const MOST_LOOKS: u32 = u32::MAX;
 
-/// Expands the node where the trail stands, and where that is the root, dives from there before a decision is made that has
-/// both values to try. Gives the decision to make next, or none where no completion of the trail is before what is held.
+/// Expands the node where the trail stands, and where that is the root, dives from there once before a decision is made that has both
+/// values to try. What a dive or a look at the share finds has the node expanded again. Gives the decision to make next, or none where
+/// no completion of the trail is before what is held.
 fn expand<C: Coefficient, S: Share>(
     state: &mut SearchState<C>,
     best: &mut Best<'_>,
@@ -47,45 +48,25 @@ fn expand<C: Coefficient, S: Share>(
     ensures budget { IsLeftOf run.old.left run.new.left }
 {
     renew_at_root(state, best);
-    let branch = expand_with_looks(state, best, share, run)?;
-    if branch.flipped {
-        return Some(branch);
-    }
-    let is_better = dive_from_root(state, best, share, run);
-    if !state.root_work.take_borrowed() && !is_better {
-        return Some(branch);
-    }
-    expand_with_looks(state, best, share, run)
-}
-
-/// Expands the node where the trail stands. Where probes at the root made a look at the share due, the share is asked; the probes go on
-/// after it, at the node as it is then. Gives the decision to make next, or none where no completion of the trail is before what is
-/// held.
-fn expand_with_looks<C: Coefficient, S: Share>(
-    state: &mut SearchState<C>,
-    best: &mut Best<'_>,
-    share: &mut S,
-    run: &mut Run,
-) -> Option<Branch>
-    requires state { IsStateOf best.old.problem state.old }
-    requires sound { IsSoundTrail state.old.engine }
-    requires known { KnowsHeldPrefix state.old.engine.trail best.old.held run.old.agreed }
-    ensures expanded { IsExpanded (S.lends share.old) state.old state.new best.old best.new result }
-    ensures kept { S.keeps share.old share.new }
-    ensures same_lending { S.lends share.new ≡ S.lends share.old }
-    ensures known { KnowsHeldPrefix state.new.engine.trail best.new.held run.new.agreed }
-    ensures budget { IsLeftOf run.old.left run.new.left }
-{
+    let mut may_dive = true;
     for _ in 0..MOST_LOOKS {
         let Some(branch) = expand_node(state, best, share, run) else {
             return None;
         };
-        if !state.root_work.is_look_due() {
+        if state.root_work.is_look_due() {
+            let has_borrowed = borrow_after(state, best, share, &mut run.agreed, 0, Origin::Lent);
+            // A literal that failed stays failed.
+            if branch.flipped && !has_borrowed {
+                return Some(branch);
+            }
+            continue;
+        }
+        if branch.flipped || !may_dive {
             return Some(branch);
         }
-        let has_borrowed = borrow_after(state, best, share, &mut run.agreed, 0, Origin::Lent);
-        // A literal that failed stays failed.
-        if branch.flipped && !has_borrowed {
+        may_dive = false;
+        let is_better = dive_from_root(state, best, share, run);
+        if !state.root_work.take_borrowed() && !is_better {
             return Some(branch);
         }
     }

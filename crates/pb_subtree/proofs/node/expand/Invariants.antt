@@ -5,7 +5,7 @@ use Rattle.pb_prune.specs.Held.{MovesOn}
 use Rattle.pb_control.specs.Budget.{IsLeftOf}
 use Rattle.pb_subtree.specs.Nodes.{IsFoundAt}
 use Rattle.pb_subtree.specs.SearchState.{SameBranches}
-use Rattle.pb_subtree.proofs.node.expand_with_looks.Given as goal
+use Rattle.pb_subtree.proofs.node.expand.Given as goal
 
 abbrev pub invariant-loop : goal.invariant-loop
 invariant-loop g l = record {
