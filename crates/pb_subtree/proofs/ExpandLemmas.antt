@@ -1,12 +1,17 @@
 -- Nodes that are expanded, and expanded again after a dive or a look at the share.
-use Rattle.std.proofs.Common.{◌≡◌, Bool, false, inl, inr, refl, subst, sym, Option, None, Some}
+use Rattle.std.proofs.Common.{◌≡◌, ◌∙◌, ap, Bool, false, inl, inr, refl, subst, sym, List, Option, None, Some}
 use Rattle.std.specs.Prelude.{IfNone, IfSome}
 use Rattle.pb_inst.specs.Incumbent.{Incumbent, Solution}
 use Rattle.pb_inst.specs.Literal.{Literal}
 use Rattle.pb_inst.specs.Problem.{Problem}
-use Rattle.pb_engine.specs.EngineState.{EngineState}
+use Rattle.pb_engine.specs.EngineState.{EngineState, is_conflict}
+use Rattle.pb_engine.specs.Completion.{HasNoCompletion}
+use Rattle.pb_engine.specs.Propagation.{AddsForced}
+use Rattle.pb_normal.specs.NormalForm.{PositiveRow}
+use Rattle.pb_trail.specs.declared.propagation.Step.{Step}
+use Rattle.pb_trail.specs.declared.propagation.Step.TheVariants.{Conflict, Fixed}
 use Rattle.pb_engine.specs.Free.{IsFree}
-use Rattle.pb_engine.specs.Soundness.{IsSoundTrail}
+use Rattle.pb_engine.specs.Soundness.{IsFull, IsSolved, IsSoundTrail}
 use Rattle.pb_control.specs.declared.branch.Branch.{Branch}
 use Rattle.pb_subtree.specs.declared.search_state.SearchState.{SearchState}
 use Rattle.pb_prune.specs.Held.{MovesOn}
@@ -15,6 +20,7 @@ use Rattle.pb_prune.specs.Subtree.{IsClosed, IsOpenOnOneSide}
 use Rattle.pb_subtree.specs.SearchState.{IsFreshOrOneSided, SameBranchesAndRoom, SameBranches}
 use Rattle.pb_subtree.proofs.DivingLemmas.{own_later, same_branches_back, same_branches_itself, same_branches_onward}
 use Rattle.pb_subtree.proofs.HeldLemmas.{moves_itself, moves_onward}
+use Rattle.pb_subtree.proofs.SearchLemmas.{place_propagated}
 
 -- what is held stayed the same, or was found at the place before
 own_stays : (s : EngineState) (x y z : Incumbent) → IsFoundAt s x y → z ≡ y → IsFoundAt s x z
@@ -117,3 +123,23 @@ expanded_dived lends s t d x y z b fresh e dived =
       moves_on = there.moves_on;
       own = there.own;
     }
+
+-- where the search stands once it has propagated at a node
+pub record IsPropagated {C : Type 0} (s u : SearchState C) (step : Step) : Type 0 where
+  pub same_branches : SameBranches s u
+  pub forced : AddsForced s.engine.rows s.engine.trail u.engine.trail
+  pub no_completion : step ≡ Conflict → HasNoCompletion u.engine.rows u.engine.trail
+  pub fixed : step ≡ Fixed → u.engine.conflict ≡ false
+  pub solved : step ≡ Fixed → IsFull u.engine → IsSolved u.engine
+  pub sound : IsSoundTrail u.engine
+
+-- the engine propagated, and nothing else changed that a search goes by
+pub node_propagated : {C : Type 0} (s u : SearchState C) (e : EngineState) (step : Step) → IsSoundTrail s.engine → e ≡ record s.engine { trail = e.trail; conflict = is_conflict step } → AddsForced s.engine.rows s.engine.trail e.trail → (step ≡ Conflict → HasNoCompletion s.engine.rows e.trail) → (step ≡ Fixed → IsFull e → IsSolved e) → IsSoundTrail e → u.engine ≡ e → SameBranchesAndRoom (record s { engine = e }) u → IsPropagated s u step
+node_propagated s u e step sound_before added forced none solved sound same beside = record {
+  same_branches = place_propagated s u e.trail (is_conflict step) sound_before (same ∙ added) forced beside.branches beside.room beside.returns;
+  forced = subst (λ (r : EngineState). AddsForced s.engine.rows s.engine.trail r.trail) (sym same) forced;
+  no_completion = λ is. subst (λ (r : EngineState). HasNoCompletion r.rows r.trail) (sym same) (subst (λ (rows : List PositiveRow). HasNoCompletion rows e.trail) (sym (ap (λ (r : EngineState). r.rows) added)) (none is));
+  fixed = λ is. ap (λ (r : EngineState). r.conflict) (same ∙ added) ∙ ap (λ (st : Step). is_conflict st) is;
+  solved = λ is. subst (λ (r : EngineState). IsFull r → IsSolved r) (sym same) (solved is);
+  sound = subst (λ (r : EngineState). IsSoundTrail r) (sym same) sound;
+}

@@ -2,13 +2,11 @@
 
 ghost use Rattle.std.specs.Prelude.{◌≡◌, ◌≤◌, false, length, None, IfNone, IfSome};
 ghost use Rattle.pb_inst.specs.declared.limits.TheConstants.{MAX_VARS};
-ghost use Rattle.pb_engine.specs.Completion.{HasNoCompletion};
-ghost use Rattle.pb_engine.specs.Propagation.{AddsForced};
-ghost use Rattle.pb_engine.specs.Soundness.{IsFull, IsSolved, IsSoundTrail};
+ghost use Rattle.pb_engine.specs.Soundness.{IsFull, IsSoundTrail};
 ghost use Rattle.pb_engine.specs.Trail.{value_on};
 ghost use Rattle.pb_prune.specs.AgreedPrefix.{KnowsHeldPrefix};
 ghost use Rattle.pb_control.specs.Budget.{IsLeftOf};
-ghost use Rattle.pb_subtree.specs.SearchState.{SameBranchesAndRoom, IsStateOf, SameBranches};
+ghost use Rattle.pb_subtree.specs.SearchState.{SameBranchesAndRoom, IsStateOf};
 ghost use Rattle.pb_subtree.specs.Nodes.{IsExpanded};
 
 use crate::Share;
@@ -45,7 +43,10 @@ pub fn expand_node<C: Coefficient, S: Share>(
         return None;
     }
     let decided = last_decided(state, best);
-    if propagate(state) == Step::Conflict {
+    let length = state.engine.trail_len();
+    let step = state.engine.propagate();
+    note_propagated(state, length, step);
+    if step == Step::Conflict {
         learn(&mut state.order, decided, Some(0));
         return None;
     }
@@ -75,23 +76,14 @@ pub fn expand_node<C: Coefficient, S: Share>(
     None
 }
 
-/// Adds what follows from the last decision. The order learns from a conflict.
-fn propagate<C: Coefficient>(state: &mut SearchState<C>) -> Step
-    requires no_conflict { state.old.engine.conflict ≡ false }
-    requires sound { IsSoundTrail state.old.engine }
-    ensures same_branches { SameBranches state.old state.new }
-    ensures forced { AddsForced state.old.engine.rows state.old.engine.trail state.new.engine.trail }
-    ensures no_completion { result ≡ Step.Conflict → HasNoCompletion state.new.engine.rows state.new.engine.trail }
-    ensures fixed { result ≡ Step.Fixed → state.new.engine.conflict ≡ false }
-    ensures solved { result ≡ Step.Fixed → IsFull state.new.engine → IsSolved state.new.engine }
-    ensures sound { IsSoundTrail state.new.engine }
+/// What follows from the last decision was added to a trail of `length` literals. The order learns from a conflict.
+fn note_propagated<C: Coefficient>(state: &mut SearchState<C>, length: usize, step: Step)
+    ensures engine { state.new.engine ≡ state.old.engine }
+    ensures beside { SameBranchesAndRoom state.old state.new }
 {
-    let length = state.engine.trail_len();
-    let step = state.engine.propagate();
     let added = state.engine.trail_len().saturating_sub(length);
     state.root_work.note_propagated(added);
     learn_conflict(&mut state.order, &state.engine, step);
-    step
 }
 
 /// The decision to make next, both of whose values are to be tried; none where the trail is full.
