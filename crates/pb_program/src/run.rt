@@ -7,7 +7,7 @@ ghost use Rattle.pb_line.specs.Ends.{EndsBy};
 ghost use Rattle.pb_report.specs.Statuses.{IsExitStatus, exit_status};
 ghost use Rattle.pb_report.specs.Written.{memory_report};
 ghost use Rattle.pb_solve.specs.Run.{Reports, ReportsFound};
-ghost use Rattle.pb_program.specs.Ending.{Ends, EndsWithoutMemory, IsRunOn};
+ghost use Rattle.pb_program.specs.Ending.{Ends, EndsWithoutMemory};
 
 use crate::args::Line;
 use crate::diagnose::diagnose;
@@ -43,9 +43,13 @@ pub fn program<'a, R: Threads + Sync, F: Files, W: Write, E: Write>(
         Ok(line) => line,
         Err(fault) => return end_without_run(&fault, out, err),
     };
-    match run_on_files(rt, alloc, &line, files, out) {
-        Ok((ran, mut input)) => end_of_run(alloc, &line, ran, &mut input, err),
-        Err(fault) => end_at_fault(fault, err),
+    let (mut input, cubes) = match fetch_files(&line, files) {
+        Ok(fetched) => fetched,
+        Err(fault) => return end_at_fault(fault, err),
+    };
+    match run_on_readers(rt, alloc, line.options, &mut input, cubes, out) {
+        Ok(ran) => end_of_run(alloc, &line, ran, &mut input, err),
+        Err(fault) => end_at_fault(fault_on(&line, fault), err),
     }
 }
 
@@ -57,25 +61,6 @@ pub fn out_of_memory<W: Write, E: Write>(out: &mut Device<W>, err: &mut E) -> u8
     match report_memory(out) {
         Ok(status) => status.exit_status(),
         Err(_) => end_at_fault(ProgramFault::CannotWrite, err),
-    }
-}
-
-/// Fetches the files and runs on them. The input comes back with how the run ended.
-fn run_on_files<'a, R: Threads + Sync, F: Files, W: Write>(
-    rt: &R,
-    alloc: Global,
-    line: &Line<'a>,
-    files: &mut F,
-    out: &mut Device<W>,
-) -> Result<(Ran, F::Input), ProgramFault<'a>>
-    requires { out.old.failed ≡ false }
-    ensures fetched { FetchesFor F.fetches line.now files.old files.new }
-    ensures reported { IfOk result (λ r. IsRunOn F.fetches F.has line.now files.old (W.contents out.old.held) (W.contents out.new.held) r.0) }
-{
-    let (mut input, cubes) = fetch_files(line, files)?;
-    match run_on_readers(rt, alloc, line.options, &mut input, cubes, out) {
-        Ok(ran) => Ok((ran, input)),
-        Err(fault) => Err(fault_on(line, fault)),
     }
 }
 

@@ -4,7 +4,6 @@ ghost use Rattle.std.specs.Prelude.{◌≡◌, ◌⊎◌, ◌≤◌, false, leng
 ghost use Rattle.pb_normal.specs.NormalForm.{KeepsCost, KeepsFeasible};
 ghost use Rattle.pb_cubes.specs.Pieces.{LiesIn};
 ghost use Rattle.pb_subtree.specs.Held.{IsNotAfter};
-ghost use Rattle.pb_search.specs.Searched.{IsPieceSearched};
 
 use crate::piece_search::PieceSearch;
 use crate::tables::SearchTables;
@@ -94,8 +93,8 @@ impl<'a> Search<'a> {
     /// at most, for first and second values of variables alike; the literals of a cube are no decisions. It answers `Cut`
     /// where it would need one more, and without a budget always `Whole`. After `Whole` no feasible assignment of the piece is
     /// before the best one. In any case the best one is not after what it was, is none only where it was none, and the
-    /// search may run again. It asks the share for an assignment at the beginning and after every 256th decision, probes
-    /// and dives aside, and tells it of each improvement of its own. Takes no memory.
+    /// search may run again. It asks the share for an assignment at the beginning and after every 256th decision, those
+    /// of probes and dives among them, and tells it of each improvement of its own. Takes no memory.
     pub fn run<S: Share>(
         &mut self,
         piece: u32,
@@ -117,31 +116,13 @@ impl<'a> Search<'a> {
         ensures unchanged { self.new.division ≡ self.old.division }
     {
         let mut left = nodes;
-        let outcome = self.search_piece(piece, best, share, &mut left);
+        let outcome = match &mut self.at_width {
+            Width::Narrow(search) => search.search(piece, best, share, &mut left),
+            Width::Wide(search) => search.search(piece, best, share, &mut left),
+        };
         if let (Some(budget), Some(left)) = (nodes, left) {
             self.decisions = budget - left;
         }
         outcome
-    }
-
-    /// The same with what is left of a budget. It counts nothing.
-    fn search_piece<S: Share>(
-        &mut self,
-        piece: u32,
-        best: &mut Best<'_>,
-        share: &mut S,
-        left: &mut Option<u64>,
-    ) -> Outcome
-        requires piece { piece ≤ length self.old.division.cubes }
-        requires same_instance { best.old.problem ≡ self.old.division.problem }
-        ensures searched { IsPieceSearched self.old.division piece (S.lends share.old) best.old best.new left.old left.new result }
-        ensures kept { S.keeps share.old share.new }
-        ensures same_lending { S.lends share.new ≡ S.lends share.old }
-        ensures unchanged { self.new ≡ self.old }
-    {
-        match &mut self.at_width {
-            Width::Narrow(search) => search.search(piece, best, share, left),
-            Width::Wide(search) => search.search(piece, best, share, left),
-        }
     }
 }
