@@ -1,6 +1,9 @@
 -- What the work at a node leaves, and what comes next.
 use Rattle.std.specs.Prelude.{◌≡◌, ◌⊎◌, Bool, false, IsSomeAnd, IfSome, IfNone, Option}
-use Rattle.pb_inst.specs.Incumbent.{Incumbent}
+use Rattle.pb_inst.specs.Incumbent.{Incumbent, Solution}
+use Rattle.pb_inst.specs.Problem.{Problem}
+use Rattle.pb_prune.specs.AgreedPrefix.{KnowsHeldPrefix}
+use Rattle.pb_prune.specs.declared.agreed_prefix.AgreedPrefix.{AgreedPrefix}
 use Rattle.pb_engine.specs.EngineState.{EngineState}
 use Rattle.pb_engine.specs.Free.{IsFree}
 use Rattle.pb_engine.specs.Soundness.{IsSoundTrail}
@@ -10,6 +13,12 @@ use Rattle.pb_prune.specs.Held.{MovesOn}
 use Rattle.pb_prune.specs.Solutions.{SameConstraints, Completes}
 use Rattle.pb_subtree.specs.SearchState.{IsStateOf, IsFreshOrOneSided, SameBranches, IsUnderWay, IsNext, IsSearched, IsOwn}
 use Rattle.pb_prune.specs.Subtree.{IsClosed}
+
+-- the search stands at a node, and may go on there: the state was made for the instance, its trail is sound, and what it is known to agree with of what is held is so
+pub record IsAtNode {C : Type 0} (p : Problem) (t : SearchState C) (held : Option Solution) (agreed : AgreedPrefix) : Type 0 where
+  pub state : IsStateOf p t
+  pub sound : IsSoundTrail t.engine
+  pub known : KnowsHeldPrefix t.engine.trail held agreed
 
 -- what is held is as before, or completes the trail
 abbrev pub IsFoundAt : EngineState → Incumbent → Incumbent → Type 0

@@ -9,7 +9,7 @@ ghost use Rattle.pb_prune.specs.AgreedPrefix.{KnowsHeldPrefix};
 ghost use Rattle.pb_dive.specs.Dives.{LeadsBack};
 ghost use Rattle.pb_control.specs.Budget.{IsLeftOf, IsPaidFrom};
 ghost use Rattle.pb_subtree.specs.Descent.{IsDescentPaid};
-ghost use Rattle.pb_subtree.specs.Nodes.{IsFoundAt, IsBackFromDive};
+ghost use Rattle.pb_subtree.specs.Nodes.{IsAtNode, IsFoundAt, IsBackFromDive};
 ghost use Rattle.pb_subtree.specs.SearchState.{IsStateOf, SameBranchesAndRoom, SameBranches};
 ghost use Rattle.pb_prune.specs.Subtree.{IsEngineOf};
 
@@ -31,10 +31,8 @@ pub fn dive_from_root<C: Coefficient, S: Share>(
     share: &mut S,
     run: &mut Run,
 ) -> bool
-    requires state { IsStateOf best.old.problem state.old }
-    requires sound { IsSoundTrail state.old.engine }
+    requires node { IsAtNode best.old.problem state.old best.old.held run.old.agreed }
     requires no_conflict { state.old.engine.conflict ≡ false }
-    requires known { KnowsHeldPrefix state.old.engine.trail best.old.held run.old.agreed }
     ensures back { IsBackFromDive (S.lends share.old) state.old state.new best.old best.new }
     ensures kept { S.keeps share.old share.new }
     ensures same_lending { S.lends share.new ≡ S.lends share.old }
@@ -47,7 +45,11 @@ pub fn dive_from_root<C: Coefficient, S: Share>(
     let Some(most) = work.take_dive(&state.branches, length, best.cost(), run.left) else {
         return false;
     };
-    dive(state, best, share, run, most)
+    let level = state.engine.level();
+    let is_full = go_down(state, best, share, run, most);
+    let is_better = take_where_full(state, best, share, &mut run.agreed, is_full);
+    state.engine.undo_to(level);
+    is_better
 }
 
 /// Has the multipliers improved anew where the root's trail has grown.
@@ -63,32 +65,6 @@ pub fn renew_at_root<C: Coefficient>(state: &mut SearchState<C>, best: &Best<'_>
     {
         state.engine.renew();
     }
-}
-
-/// Dives once, by so many decisions at most, each of which is taken off what is left.
-fn dive<C: Coefficient, S: Share>(
-    state: &mut SearchState<C>,
-    best: &mut Best<'_>,
-    share: &mut S,
-    run: &mut Run,
-    most: u64,
-) -> bool
-    requires state { IsStateOf best.old.problem state.old }
-    requires sound { IsSoundTrail state.old.engine }
-    requires no_conflict { state.old.engine.conflict ≡ false }
-    requires known { KnowsHeldPrefix state.old.engine.trail best.old.held run.old.agreed }
-    ensures back { IsBackFromDive (S.lends share.old) state.old state.new best.old best.new }
-    ensures kept { S.keeps share.old share.new }
-    ensures same_lending { S.lends share.new ≡ S.lends share.old }
-    ensures known { KnowsHeldPrefix state.new.engine.trail best.new.held run.new.agreed }
-    ensures budget { IsLeftOf run.old.left run.new.left }
-    ensures paid { result ≡ true → IsFull state.old.engine ⊎ IsPaidFrom run.old.left run.new.left }
-{
-    let level = state.engine.level();
-    let is_full = go_down(state, best, share, run, most);
-    let is_better = take_where_full(state, best, share, &mut run.agreed, is_full);
-    state.engine.undo_to(level);
-    is_better
 }
 
 /// Goes down from where the search stands, by at most `most` decisions, each of which is taken off what is left. Between two of them

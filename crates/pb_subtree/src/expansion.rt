@@ -2,12 +2,12 @@
 
 ghost use Rattle.std.specs.Prelude.{◌≡◌, ◌≤◌, false, length, None, IfNone, IfSome};
 ghost use Rattle.pb_inst.specs.declared.limits.TheConstants.{MAX_VARS};
-ghost use Rattle.pb_engine.specs.Soundness.{IsFull, IsSoundTrail};
+ghost use Rattle.pb_engine.specs.Soundness.{IsFull};
 ghost use Rattle.pb_engine.specs.Trail.{value_on};
 ghost use Rattle.pb_prune.specs.AgreedPrefix.{KnowsHeldPrefix};
 ghost use Rattle.pb_control.specs.Budget.{IsLeftOf};
-ghost use Rattle.pb_subtree.specs.SearchState.{SameBranchesAndRoom, IsStateOf};
-ghost use Rattle.pb_subtree.specs.Nodes.{IsExpanded};
+ghost use Rattle.pb_subtree.specs.SearchState.{SameBranchesAndRoom};
+ghost use Rattle.pb_subtree.specs.Nodes.{IsAtNode, IsExpanded};
 
 use crate::Share;
 use crate::at_root::work_at_root;
@@ -30,9 +30,7 @@ pub fn expand_node<C: Coefficient, S: Share>(
     share: &mut S,
     run: &mut Run,
 ) -> Option<Branch>
-    requires state { IsStateOf best.old.problem state.old }
-    requires sound { IsSoundTrail state.old.engine }
-    requires known { KnowsHeldPrefix state.old.engine.trail best.old.held run.old.agreed }
+    requires { IsAtNode best.old.problem state.old best.old.held run.old.agreed }
     ensures expanded { IsExpanded (S.lends share.old) state.old state.new best.old best.new result }
     ensures kept { S.keeps share.old share.new }
     ensures same_lending { S.lends share.new ≡ S.lends share.old }

@@ -9,7 +9,7 @@ ghost use Rattle.pb_prune.specs.Solutions.{SameConstraints};
 ghost use Rattle.pb_prune.specs.AgreedPrefix.{KnowsHeldPrefix};
 ghost use Rattle.pb_control.specs.Budget.{IsLeftOf};
 ghost use Rattle.pb_subtree.specs.SearchState.{IsStateOf, IsAtSomePath, LeavesFewer, IsSearched, IsOwn};
-ghost use Rattle.pb_subtree.specs.Nodes.{IsExpanded, IsFurther};
+ghost use Rattle.pb_subtree.specs.Nodes.{IsAtNode, IsExpanded, IsFurther};
 
 use crate::Share;
 use crate::backtrack::backtrack;
@@ -38,9 +38,7 @@ fn expand<C: Coefficient, S: Share>(
     share: &mut S,
     run: &mut Run,
 ) -> Option<Branch>
-    requires state { IsStateOf best.old.problem state.old }
-    requires sound { IsSoundTrail state.old.engine }
-    requires known { KnowsHeldPrefix state.old.engine.trail best.old.held run.old.agreed }
+    requires { IsAtNode best.old.problem state.old best.old.held run.old.agreed }
     ensures expanded { IsExpanded (S.lends share.old) state.old state.new best.old best.new result }
     ensures kept { S.keeps share.old share.new }
     ensures same_lending { S.lends share.new ≡ S.lends share.old }

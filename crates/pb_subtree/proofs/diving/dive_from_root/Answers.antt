@@ -12,15 +12,15 @@ use Rattle.pb_control.proofs.BudgetLemmas.{left_of_more}
 use Rattle.pb_subtree.proofs.HeldLemmas.{moves_onward}
 use Rattle.pb_subtree.proofs.SearchLemmas.{same_engine}
 use Rattle.pb_subtree.proofs.DivingLemmas.{dive_constraints, own_at_start, dive_is_paid, same_branches_back}
-use Rattle.pb_subtree.proofs.diving.dive.Goals as goal
+use Rattle.pb_subtree.proofs.diving.dive_from_root.Goals as goal
 
 pub take_where_full-is_better-requires-clause-engine : goal.take_where_full-is_better-requires-clause-engine
 take_where_full-is_better-requires-clause-engine g c =
     subst (λ (p : Problem). IsEngineOf p c.go_down-is_full.new.state.engine) (sym c.go_down-is_full.ensures.moves_on.same_instance)
-    (same_engine c.args.best.now.problem c.args.state.now.engine c.go_down-is_full.new.state.engine (dive_constraints c.args.state.now.engine c.go_down-is_full.new.state.engine c.go_down-is_full.ensures.back) c.requires.state.engine)
+    (same_engine c.args.best.now.problem c.args.state.now.engine c.go_down-is_full.new.state.engine (dive_constraints c.args.state.now.engine c.go_down-is_full.new.state.engine c.go_down-is_full.ensures.back) c.requires.node.state.engine)
 
 pub take_where_full-is_better-requires-clause-room : goal.take_where_full-is_better-requires-clause-room
-take_where_full-is_better-requires-clause-room g c = c.go_down-is_full.ensures.beside.room ∙ (c.requires.state.candidate ∙ ap (λ (p : Problem). p.vars) (sym c.go_down-is_full.ensures.moves_on.same_instance))
+take_where_full-is_better-requires-clause-room g c = c.go_down-is_full.ensures.beside.room ∙ (c.requires.node.state.candidate ∙ ap (λ (p : Problem). p.vars) (sym c.go_down-is_full.ensures.moves_on.same_instance))
 
 back_to_end : {C : Type 0} (start : EngineState) (mid end : SearchState C) → end.engine ≡ mid.engine → LeadsBack start mid.engine → LeadsBack start end.engine
 back_to_end start mid end same back = subst (λ (e : EngineState). LeadsBack start e) (sym same) back
@@ -41,7 +41,7 @@ returns-clause-back g c =
     let second = c.take_where_full-is_better.ensures.beside in
     record {
       taken_back = same;
-      same_branches = same_branches_back c.args.state.now back same (record { branches = second.branches ∙ first.branches; room = second.room ∙ first.room; returns = second.returns ∙ first.returns });
+      same_branches = same_branches_back c.args.state.now back same (record { branches = second.branches ∙ first.branches; room = second.room ∙ first.room; returns = second.returns ∙ (first.returns ∙ c.take_dive.ensures) });
       moves_on = moves_onward c.args.best.now c.go_down-is_full.new.best c.take_where_full-is_better.new.best c.go_down-is_full.ensures.moves_on c.take_where_full-is_better.ensures.moves_on;
       own = λ alone. subst (λ (i : Incumbent). IsFoundAt start i c.take_where_full-is_better.new.best) (c.go_down-is_full.ensures.own alone)
           (own_at_start start mid.engine c.go_down-is_full.new.best c.take_where_full-is_better.new.best c.go_down-is_full.ensures.back c.take_where_full-is_better.ensures.own);
@@ -53,7 +53,7 @@ returns-clause-known g c =
     let end : SearchState _ = c.take_where_full-is_better.new.state in
     let same : c.undo_to.new.self ≡ start = back_at_start start end.engine c.undo_to.new.self (back_to_end start c.go_down-is_full.new.state end c.take_where_full-is_better.ensures.engine c.go_down-is_full.ensures.back) (rw c.level-level.ensures.count at c.undo_to.ensures.undone) in
     subst (λ (e : EngineState). KnowsHeldPrefix e.trail c.take_where_full-is_better.new.best.held c.take_where_full-is_better.new.agreed) (sym same)
-    (c.take_where_full-is_better.ensures.known start.trail (c.go_down-is_full.ensures.known start.trail c.requires.known))
+    (c.take_where_full-is_better.ensures.known start.trail (c.go_down-is_full.ensures.known start.trail c.requires.node.known))
 
 pub returns-clause-budget : goal.returns-clause-budget
 returns-clause-budget g c = left_of_more c.go_down-is_full.ensures.paid.decisions c.args.run.now.left c.go_down-is_full.new.run.left c.go_down-is_full.ensures.paid.counted
