@@ -1,4 +1,4 @@
-pub mod Budget
+pub mod Searcher
 pub mod Layout
 pub mod Form
 pub mod Searched

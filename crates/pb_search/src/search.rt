@@ -22,7 +22,7 @@ pub struct Search<'a> {
 }
 
 impl<'a> Model for Search<'a> {
-    ghost use Rattle.pb_search.specs.Budget.{Searcher};
+    ghost use Rattle.pb_search.specs.Searcher.{Searcher};
     ghost use Rattle.pb_normal.specs.Widths.{either};
 
     ghost Value = { Searcher };

@@ -1,6 +1,6 @@
 use Rattle.std.proofs.Common.{◌≡◌, ◌∙◌, ap}
 use Rattle.pb_inst.specs.Incumbent.{Incumbent}
-use Rattle.pb_search.specs.Budget.{Searcher}
+use Rattle.pb_search.specs.Searcher.{Searcher}
 use Rattle.pb_workers.proofs.AloneLaws.{answer_alone}
 use Rattle.pb_workers.proofs.alone.solve_alone.Goals as goal
 

@@ -1,6 +1,6 @@
 use Rattle.std.proofs.Common.{◌≡◌, ◌⊎◌, ◌∙◌, IsSomeAnd, ap, subst, sym}
 use Rattle.pb_normal.specs.Widths.{either}
-use Rattle.pb_search.specs.Budget.{Searcher}
+use Rattle.pb_search.specs.Searcher.{Searcher}
 use Rattle.pb_inst.specs.Incumbent.{Incumbent}
 use Rattle.pb_cubes.specs.Done.{Division}
 use Rattle.pb_cubes.specs.Pieces.{LiesIn}

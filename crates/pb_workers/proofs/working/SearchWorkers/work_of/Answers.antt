@@ -4,7 +4,7 @@ use Rattle.pb_inst.specs.Problem.{Problem}
 use Rattle.pb_inst.specs.Incumbent.{Incumbent}
 use Rattle.pb_board.specs.Seats.{SeatView}
 use Rattle.pb_search.specs.Done.{Division}
-use Rattle.pb_search.specs.Budget.{Searcher}
+use Rattle.pb_search.specs.Searcher.{Searcher}
 use Rattle.pb_workers.proofs.WorkLaws.{part_done, whole_work}
 use Rattle.pb_workers.proofs.working.SearchWorkers.work_of.Goals as goal
 

@@ -1,4 +1,4 @@
--- A budget of decisions.
+-- What is seen of a search.
 use Rattle.std.specs.Prelude.{ℕ}
 use Rattle.pb_cubes.specs.Done.{Division}
 
