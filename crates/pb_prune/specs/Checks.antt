@@ -4,8 +4,8 @@ use Rattle.pb_inst.specs.Problem.{Problem}
 use Rattle.pb_inst.specs.Incumbent.{Solution}
 use Rattle.pb_engine.specs.EngineState.{EngineState}
 use Rattle.pb_prune.specs.declared.agreed_prefix.AgreedPrefix.{AgreedPrefix}
-use Rattle.pb_prune.specs.declared.pruning.Pruning.{Pruning}
-use Rattle.pb_prune.specs.declared.pruning.Pruning.TheVariants.{Tied, Closed}
+use Rattle.pb_control.specs.declared.pruning.Pruning.{Pruning}
+use Rattle.pb_control.specs.declared.pruning.Pruning.TheVariants.{Tied, Closed}
 use Rattle.pb_prune.specs.AgreedPrefix.{KnowsHeldPrefix}
 use Rattle.pb_prune.specs.Subtree.{IsClosed, IsTied}
 
