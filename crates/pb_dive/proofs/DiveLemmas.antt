@@ -9,7 +9,7 @@ use Rattle.pb_engine.specs.Propagation.{AddsForced}
 use Rattle.pb_engine.specs.EngineState.{EngineState, trail_before}
 use Rattle.pb_engine.specs.Soundness.{ArePlaces, IsSoundTrail}
 use Rattle.pb_trail.proofs.EngineLemmas.{kept_front}
-use Rattle.pb_dive.specs.Dives.{LeadsBack}
+use Rattle.pb_dive.specs.Dives.{IsTakenBackTo, LeadsBack}
 
 -- a place that is added at the end is read there, and where nothing stands yet
 place_pushed : (places : List ℕ) (k n d : ℕ) → k ≤ length places → get_or (places ++ n ∷ []) k d ≡ get_or places k n
@@ -122,6 +122,17 @@ leads_undone s e f level sound low within shorter h = record {
   levels = ap (λ (x : EngineState). take (length s.levels) x.levels) shorter ∙ take-take (length s.levels) level e.levels low ∙ h.levels;
   start_has_no_conflict = h.start_has_no_conflict;
 }
+
+pub taken_back_onward : (floor : ℕ) (r s t : EngineState) → IsTakenBackTo floor r s → IsTakenBackTo floor s t → IsTakenBackTo floor r t
+taken_back_onward floor r s t h k = record {
+  back = λ start at first. k.back start at (h.back start at first);
+  sound = k.sound;
+  same_variables = k.same_variables ∙ h.same_variables;
+  no_deeper = omega (arith, h.no_deeper, k.no_deeper);
+}
+
+pub taken_back_itself : (floor : ℕ) (s : EngineState) → IsSoundTrail s → IsTakenBackTo floor s s
+taken_back_itself floor s sound = record { back = λ start at h. h; sound = sound; same_variables = refl; no_deeper = omega arith }
 
 -- all is taken back
 pub back_at_start : (s e f : EngineState) → LeadsBack s e → f ≡ record e { trail = trail_before e (length s.levels); levels = take (length s.levels) e.levels; conflict = false } → f ≡ s

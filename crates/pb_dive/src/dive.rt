@@ -6,7 +6,7 @@ ghost use Rattle.pb_engine.specs.EngineState.{EngineState};
 ghost use Rattle.pb_engine.specs.Free.{IsFree};
 ghost use Rattle.pb_engine.specs.Soundness.{IsSoundTrail};
 ghost use Rattle.pb_control.specs.Budget.{one_more, with_more};
-ghost use Rattle.pb_dive.specs.Dives.{LeadsBack, IsGoingOn};
+ghost use Rattle.pb_dive.specs.Dives.{LeadsBack, IsGoingOn, IsTakenBackTo};
 
 use crate::path::{DiveBranch, DivePath};
 use crate::steps::{free_variables, next_planned, next_within, plan_again, plunge, turn};
@@ -147,11 +147,8 @@ fn turned_back<C: Coefficient>(
     floor: u32,
 ) -> Progress
     requires sound { IsSoundTrail engine.old }
-    ensures back { (start : EngineState) → length start.levels ≡ floor → LeadsBack start engine.old → LeadsBack start engine.new }
-    ensures sound { IsSoundTrail engine.new }
+    ensures taken_back { IsTakenBackTo floor engine.old engine.new }
     ensures next { IsGoingOn engine.new result }
-    ensures no_deeper { length engine.new.levels ≤ length engine.old.levels }
-    ensures same_variables { engine.new.vars ≡ engine.old.vars }
 {
     match turn(engine, path, floor) {
         Some(next) => Progress::Next(next),

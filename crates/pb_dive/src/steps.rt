@@ -6,7 +6,7 @@ ghost use Rattle.pb_engine.specs.EngineState.{EngineState};
 ghost use Rattle.pb_engine.specs.Free.{IsFree};
 ghost use Rattle.pb_engine.specs.Soundness.{IsFull, IsSolved, IsSoundTrail};
 ghost use Rattle.pb_control.specs.Budget.{one_more};
-ghost use Rattle.pb_dive.specs.Dives.{LeadsBack};
+ghost use Rattle.pb_dive.specs.Dives.{IsTakenBackTo, LeadsBack};
 
 use crate::path::{DiveBranch, DivePath};
 use pb_control::count_down;
@@ -42,11 +42,8 @@ pub fn turn<C: Coefficient>(
     floor: u32,
 ) -> Option<DiveBranch>
     requires sound { IsSoundTrail engine.old }
-    ensures back { (start : EngineState) → length start.levels ≡ floor → LeadsBack start engine.old → LeadsBack start engine.new }
-    ensures sound { IsSoundTrail engine.new }
+    ensures taken_back { IsTakenBackTo floor engine.old engine.new }
     ensures free { IfSome result (λ b. IsFree engine.new b.lit) }
-    ensures no_deeper { length engine.new.levels ≤ length engine.old.levels }
-    ensures same_variables { engine.new.vars ≡ engine.old.vars }
     ensures fewer { IfSome result (λ _. vec_len path.new.decisions < vec_len path.old.decisions) }
 {
     if !path.outlasts_conflict() {
@@ -75,11 +72,8 @@ pub fn next_within<C: Coefficient>(
 ) -> Option<DiveBranch>
     requires sound { IsSoundTrail engine.old }
     requires free { IsFree engine.old branch.lit }
-    ensures back { (start : EngineState) → length start.levels ≡ floor → LeadsBack start engine.old → LeadsBack start engine.new }
-    ensures sound { IsSoundTrail engine.new }
+    ensures taken_back { IsTakenBackTo floor engine.old engine.new }
     ensures free { IfSome result (λ b. IsFree engine.new b.lit) }
-    ensures no_deeper { length engine.new.levels ≤ length engine.old.levels }
-    ensures same_variables { engine.new.vars ≡ engine.old.vars }
 {
     let mut branch = branch;
     while is_beyond(engine, limit) {
@@ -112,11 +106,8 @@ fn turned(branch: DiveBranch) -> DiveBranch
 /// Takes back the last assumption, where it is above the level. Answers whether it was.
 fn take_back_last<C: Coefficient>(engine: &mut EngineAt<C>, floor: u32) -> bool
     requires sound { IsSoundTrail engine.old }
-    ensures back { (start : EngineState) → length start.levels ≡ floor → LeadsBack start engine.old → LeadsBack start engine.new }
-    ensures sound { IsSoundTrail engine.new }
-    ensures same_variables { engine.new.vars ≡ engine.old.vars }
+    ensures taken_back { IsTakenBackTo floor engine.old engine.new }
     ensures no_conflict { result ≡ true → engine.new.conflict ≡ false }
-    ensures no_deeper { length engine.new.levels ≤ length engine.old.levels }
 {
     let level = engine.level();
     if level <= floor {

@@ -48,23 +48,6 @@ pub fn classify_node<C: Coefficient>(
     {
         return verdict;
     }
-    classify_anew(engine, best, agreed, hints)
-}
-
-/// The same, by bounds that are taken here.
-fn classify_anew<C: Coefficient>(
-    engine: &mut EngineAt<C>,
-    best: &Best<'_>,
-    agreed: &mut AgreedPrefix,
-    hints: &mut Hints,
-) -> Verdict
-    requires engine { IsEngineOf best.now.problem engine.old }
-    requires known { KnowsHeldPrefix engine.old.trail best.now.held agreed.old }
-    ensures closed { result.pruning ≡ Pruning.Closed → IsClosed best.now.problem engine.old best.now.held }
-    ensures fixed { IfSome result.fixed (IsOpenOnOneSide best.now.problem engine.old best.now.held) }
-    ensures unchanged { engine.new ≡ engine.old }
-    ensures known { KnowsHeldPrefix engine.old.trail best.now.held agreed.new }
-{
     let (pruning, bound) = check_rows(engine, best, agreed);
     if pruning != Pruning::Closed
         && let Some(verdict) = fixed_again(engine, best, agreed, bound)

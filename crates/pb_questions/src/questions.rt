@@ -168,14 +168,23 @@ impl<'a> Questions<'a> {
         ensures no_budget { IfNone left.old ((left.new ≡ None) × IfOk result (λ answer. answer.cut ≡ true → IsMet goal answer.best.held)) }
         ensures unchanged { self.new ≡ self.old }
     {
-        if let Some(best) = self.recall(cube)? {
-            return Ok(Answer { best, cut: false });
+        if let Some(told) = self.recall(cube)? {
+            return Ok(Answer {
+                best: told,
+                cut: false,
+            });
         }
-        let answer = self.search_anew(cube, goal, left)?;
-        if !answer.cut {
-            self.known.note(cube, &answer.best);
+        let mut best = self.first_best(cube)?;
+        // A call tells that the variables are no more than an instance may have.
+        let _ = self.instance.vars();
+        let outcome = self.search.run(cube, &mut best, &mut Alone, goal, left);
+        // A call tells that what is held is a solution.
+        let _ = best.cost();
+        let cut = outcome == Outcome::Cut;
+        if !cut {
+            self.known.note(cube, &best);
         }
-        Ok(answer)
+        Ok(Answer { best, cut })
     }
 
     /// What is held at the end of a search under the cube, where that follows from an earlier answer. Fails where memory is
@@ -197,33 +206,6 @@ impl<'a> Questions<'a> {
         }
         self.room = Some(room);
         Ok(None)
-    }
-
-    /// Searches for the least assignment that makes the cube true, until the goal is met, with what is left of a budget. Fails
-    /// where memory is refused.
-    fn search_anew(
-        &mut self,
-        cube: &[Lit],
-        goal: Goal,
-        left: &mut Option<u64>,
-    ) -> Result<Answer<'a>, Memory>
-        requires { All (λ l. l.var ≤ self.old.vars) cube.now }
-        ensures same_instance { IfOk result (λ answer. answer.best.problem ≡ self.old) }
-        ensures under { IfOk result (λ answer. HoldsUnder self.old cube.now answer.best.held) }
-        ensures least { IfOk result (λ answer. answer.cut ≡ false → HoldsLeastUnder self.old cube.now answer.best.held) }
-        ensures no_budget { IfNone left.old ((left.new ≡ None) × IfOk result (λ answer. answer.cut ≡ true → IsMet goal answer.best.held)) }
-        ensures unchanged { self.new ≡ self.old }
-    {
-        let mut best = self.first_best(cube)?;
-        // A call tells that the variables are no more than an instance may have.
-        let _ = self.instance.vars();
-        let outcome = self.search.run(cube, &mut best, &mut Alone, goal, left);
-        // A call tells that what is held is a solution.
-        let _ = best.cost();
-        Ok(Answer {
-            best,
-            cut: outcome == Outcome::Cut,
-        })
     }
 
     /// What a search of the assignments that make the cube true begins with: the best of the suggestion and of what earlier

@@ -9,3 +9,4 @@ pub mod DescentLemmas
 pub mod DivingLemmas
 pub mod ProbingLemmas
 pub mod ExpandLemmas
+pub mod GoesOnLemmas

@@ -15,12 +15,13 @@ use Rattle.pb_engine.specs.Soundness.{assumptions, literal_at, IsSoundTrail}
 use Rattle.pb_control.specs.declared.branch.Branch.{Branch}
 use Rattle.pb_subtree.specs.declared.search_state.SearchState.{SearchState}
 use Rattle.pb_prune.specs.Held.{IsNotAfter}
+use Rattle.pb_prune.specs.declared.agreed_prefix.AgreedPrefix.{AgreedPrefix}
 use Rattle.pb_subtree.specs.Paths.{decided, search_steps, LiesOpen, LeavesOpen, IsOtherValue}
 use Rattle.pb_prune.specs.Solutions.{SameConstraints, Satisfies, SatisfiesUnder, Completes}
 use Rattle.pb_engine.specs.Free.{IsFree}
 use Rattle.pb_prune.specs.Subtree.{IsEngineOf, IsClosed, IsOpenOnOneSide}
-use Rattle.pb_subtree.specs.SearchState.{IsStateOf, IsAtPath, IsFreshOrOneSided, SameBranches, IsUnderWay, IsLeaving, IsNext, LeavesFewer, IsOwn}
-use Rattle.pb_subtree.specs.Nodes.{IsFoundAt}
+use Rattle.pb_subtree.specs.SearchState.{IsStateOf, IsAtPath, IsAtSomePath, IsFreshOrOneSided, SameBranches, IsUnderWay, IsLeaving, IsNext, LeavesFewer, IsOwn}
+use Rattle.pb_subtree.specs.Nodes.{IsBackOnPath, IsFoundAt, IsOnPath}
 use Rattle.pb_subtree.proofs.HeldLemmas.{improvement_on_earlier}
 use Rattle.pb_subtree.proofs.PathLemmas.{decide_keeps, decide_keeps_one_sided, back_keeps, leaves_open, leaves_last, turn_keeps}
 use Rattle.pb_subtree.proofs.Engines.{same_constraints, same_constraints_onward, same_constraints_itself, propagated}
@@ -73,6 +74,9 @@ expanded_at root t u same sound at = record {
   variables = subst (λ v. All (λ (b : Branch). b.lit.var ≤ u.engine.vars) v.items) (sym same.branches) (subst (λ (n : ℕ). All (λ (b : Branch). b.lit.var ≤ n) t.branches.items) (sym same.constraints.vars) at.variables);
   sound = sound;
 }
+
+pub some_path : {C : Type 0} (t u : SearchState C) → SameBranches t u → IsSoundTrail u.engine → IsAtSomePath t.engine t.branches.items → IsAtSomePath u.engine u.branches.items
+some_path t u same sound h = record { root = h.root; at = expanded_at h.root t u same sound h.at }
 
 pub expanded_state : {C : Type 0} (p : Problem) (t u : SearchState C) → SameBranches t u → IsStateOf p t → IsStateOf p u
 expanded_state p t u same h = record {
@@ -173,6 +177,10 @@ under_way_without p start t u b held step h = record {
   constraints = same_constraints_onward start t.engine u.engine h.constraints step.constraints;
   all_open = λ a below better. back_keeps a u.branches.items b (subst (λ (x : List Branch). LiesOpen a x) step.popped (h.all_open a below better));
 }
+
+-- before any decision is taken back
+pub back_itself : {C : Type 0} (p : Problem) (t : SearchState C) (held : Option Solution) (agreed : AgreedPrefix) → IsOnPath p t held agreed → IsBackOnPath p t t held agreed
+back_itself p t held agreed h = record { made_for = h.state; at_path = h.at_path; known = h.known; constraints = same_constraints_itself t.engine; returns = refl }
 
 -- nothing is left to try at the decision that was taken back
 pub leaving_on : {C : Type 0} (p : Problem) (start : EngineState) (t u : SearchState C) (b : Branch) (held : Option Solution) → IsStep p t u b → (b.flipped ≡ true) ⊎ IsClosed p u.engine held → IsLeaving p start t held → IsLeaving p start u held

@@ -8,7 +8,8 @@ ghost use Rattle.pb_prune.specs.Solutions.{SameConstraints};
 ghost use Rattle.pb_prune.specs.AgreedPrefix.{KnowsHeldPrefix};
 ghost use Rattle.pb_prune.specs.Subtree.{IsClosed, IsEngineOf};
 ghost use Rattle.pb_engine.specs.Free.{IsFree};
-ghost use Rattle.pb_subtree.specs.SearchState.{IsStateOf, IsAtPath, IsAtSomePath, IsLeaving, IsNext, IsSearched, LeavesFewer};
+ghost use Rattle.pb_subtree.specs.Nodes.{IsBackOnPath, IsOnPath};
+ghost use Rattle.pb_subtree.specs.SearchState.{IsAtPath, IsAtSomePath, IsLeaving, IsNext, IsSearched, LeavesFewer};
 
 use crate::search_state::SearchState;
 use pb_control::Branch;
@@ -48,16 +49,11 @@ pub fn backtrack<C: Coefficient>(
     best: &Best<'_>,
     agreed: &mut AgreedPrefix,
 ) -> Option<Branch>
-    requires state { IsStateOf best.now.problem state.old }
-    requires at_path { IsAtSomePath state.old.engine state.old.branches.items }
-    requires known { KnowsHeldPrefix state.old.engine.trail best.now.held agreed.old }
+    requires { IsOnPath best.now.problem state.old best.now.held agreed.old }
     ensures next { IfSome result (λ b. (start : EngineState) → IsLeaving best.now.problem start state.old best.now.held → IsNext best.now.problem start state.new b best.now.held) }
     ensures fewer { IfSome result (λ b. LeavesFewer best.now.problem state.old state.new b) }
     ensures finished { IfNone result ((start : EngineState) → IsLeaving best.now.problem start state.old best.now.held → IsSearched best.now.problem start best.now.held) }
-    ensures made_for { IsStateOf best.now.problem state.new }
-    ensures constraints { SameConstraints state.old.engine state.new.engine }
-    ensures returns { state.new.root_work ≡ state.old.root_work }
-    ensures known { KnowsHeldPrefix state.new.engine.trail best.now.held agreed.new }
+    ensures back { IsBackOnPath best.now.problem state.old state.new best.now.held agreed.new }
 {
     while let Some(branch) = undo_decision(&mut state.engine, &mut state.branches, best, agreed) {
         if !is_spent(&mut state.engine, &branch, best, agreed) {

@@ -7,11 +7,10 @@ ghost use Rattle.pb_engine.specs.Soundness.{IsFull, IsSolved, IsSoundTrail};
 ghost use Rattle.pb_prune.specs.Held.{MovesOn};
 ghost use Rattle.pb_prune.specs.AgreedPrefix.{KnowsHeldPrefix};
 ghost use Rattle.pb_dive.specs.Dives.{LeadsBack};
-ghost use Rattle.pb_control.specs.Budget.{IsLeftOf, IsPaidFrom};
+ghost use Rattle.pb_control.specs.Budget.{IsPaidFrom};
 ghost use Rattle.pb_subtree.specs.Descent.{IsDescentPaid};
-ghost use Rattle.pb_subtree.specs.Nodes.{IsAtNode, IsFoundAt, IsBackFromDive};
+ghost use Rattle.pb_subtree.specs.Nodes.{GoesOn, IsAtLeaf, IsAtNode, IsFoundAt, IsBackFromDive, StaysWhileHeld};
 ghost use Rattle.pb_subtree.specs.SearchState.{IsStateOf, SameBranchesAndRoom, SameBranches};
-ghost use Rattle.pb_prune.specs.Subtree.{IsEngineOf};
 
 use crate::Share;
 use crate::improvement::Origin;
@@ -34,10 +33,7 @@ pub fn dive_from_root<C: Coefficient, S: Share>(
     requires node { IsAtNode best.old.problem state.old best.old.held run.old.agreed }
     requires no_conflict { state.old.engine.conflict ≡ false }
     ensures back { IsBackFromDive (S.lends share.old) state.old state.new best.old best.new }
-    ensures kept { S.keeps share.old share.new }
-    ensures same_lending { S.lends share.new ≡ S.lends share.old }
-    ensures known { KnowsHeldPrefix state.new.engine.trail best.new.held run.new.agreed }
-    ensures budget { IsLeftOf run.old.left run.new.left }
+    ensures goes_on { GoesOn S.keeps S.lends share.old share.new state.new.engine.trail best.new.held run.old run.new }
     ensures paid { result ≡ true → IsFull state.old.engine ⊎ IsPaidFrom run.old.left run.new.left }
 {
     let length = state.engine.trail_len();
@@ -131,18 +127,10 @@ fn take_where_full<C: Coefficient, S: Share>(
     agreed: &mut AgreedPrefix,
     is_full: bool,
 ) -> bool
-    requires engine { IsEngineOf best.old.problem state.old.engine }
-    requires room { length state.old.candidate ≡ best.old.problem.vars }
-    requires full { is_full ≡ true → IsFull state.old.engine }
-    requires solved { is_full ≡ true → IsSolved state.old.engine }
-    requires sound { IsSoundTrail state.old.engine }
+    requires { is_full ≡ true → IsAtLeaf best.old.problem state.old.engine (length state.old.candidate) }
     ensures only_full { result ≡ true → is_full ≡ true }
-    ensures engine { state.new.engine ≡ state.old.engine }
-    ensures beside { SameBranchesAndRoom state.old state.new }
-    ensures moves_on { MovesOn best.old best.new }
+    ensures stays { StaysWhileHeld S.keeps S.lends share.old share.new state.old state.new best.old best.new }
     ensures own { IsFoundAt state.old.engine best.old best.new }
-    ensures kept { S.keeps share.old share.new }
-    ensures same_lending { S.lends share.new ≡ S.lends share.old }
     ensures known { (trail : List Literal) → KnowsHeldPrefix trail best.old.held agreed.old → KnowsHeldPrefix trail best.new.held agreed.new }
 {
     if !is_full {

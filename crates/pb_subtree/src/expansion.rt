@@ -4,10 +4,8 @@ ghost use Rattle.std.specs.Prelude.{◌≡◌, ◌≤◌, false, length, None, I
 ghost use Rattle.pb_inst.specs.declared.limits.TheConstants.{MAX_VARS};
 ghost use Rattle.pb_engine.specs.Soundness.{IsFull};
 ghost use Rattle.pb_engine.specs.Trail.{value_on};
-ghost use Rattle.pb_prune.specs.AgreedPrefix.{KnowsHeldPrefix};
-ghost use Rattle.pb_control.specs.Budget.{IsLeftOf};
 ghost use Rattle.pb_subtree.specs.SearchState.{SameBranchesAndRoom};
-ghost use Rattle.pb_subtree.specs.Nodes.{IsAtNode, IsExpanded};
+ghost use Rattle.pb_subtree.specs.Nodes.{GoesOn, IsAtNode, IsExpanded};
 
 use crate::Share;
 use crate::at_root::work_at_root;
@@ -32,10 +30,7 @@ pub fn expand_node<C: Coefficient, S: Share>(
 ) -> Option<Branch>
     requires { IsAtNode best.old.problem state.old best.old.held run.old.agreed }
     ensures expanded { IsExpanded (S.lends share.old) state.old state.new best.old best.new result }
-    ensures kept { S.keeps share.old share.new }
-    ensures same_lending { S.lends share.new ≡ S.lends share.old }
-    ensures known { KnowsHeldPrefix state.new.engine.trail best.new.held run.new.agreed }
-    ensures budget { IsLeftOf run.old.left run.new.left }
+    ensures goes_on { GoesOn S.keeps S.lends share.old share.new state.new.engine.trail best.new.held run.old run.new }
 {
     if state.engine.conflict() {
         return None;

@@ -3,12 +3,11 @@
 ghost use Rattle.std.specs.Prelude.{◌≡◌, false, List, length};
 ghost use Rattle.pb_inst.specs.Literal.{Literal};
 ghost use Rattle.pb_inst.specs.Incumbent.{IsSound};
-ghost use Rattle.pb_engine.specs.Soundness.{IsFull, IsSolved, IsSoundTrail};
 ghost use Rattle.pb_prune.specs.Held.{MovesOn};
 ghost use Rattle.pb_prune.specs.AgreedPrefix.{KnowsHeldPrefix};
-ghost use Rattle.pb_subtree.specs.SearchState.{IsFilledFrom, SameBranchesAndRoom};
-ghost use Rattle.pb_prune.specs.Subtree.{IsClosed, IsEngineOf};
-ghost use Rattle.pb_subtree.specs.Nodes.{IsFoundAt};
+ghost use Rattle.pb_subtree.specs.SearchState.{IsFilledFrom};
+ghost use Rattle.pb_prune.specs.Subtree.{IsClosed};
+ghost use Rattle.pb_subtree.specs.Nodes.{IsAtLeaf, IsFoundAt, StaysWhileHeld};
 
 use crate::Share;
 use crate::improvement::{Origin, tell};
@@ -38,18 +37,10 @@ pub fn take_leaf<C: Coefficient, S: Share>(
     agreed: &mut AgreedPrefix,
     origin: Origin,
 ) -> bool
-    requires engine { IsEngineOf best.old.problem state.old.engine }
-    requires room { length state.old.candidate ≡ best.old.problem.vars }
-    requires full { IsFull state.old.engine }
-    requires solved { IsSolved state.old.engine }
-    requires sound { IsSoundTrail state.old.engine }
-    ensures engine { state.new.engine ≡ state.old.engine }
-    ensures beside { SameBranchesAndRoom state.old state.new }
+    requires { IsAtLeaf best.old.problem state.old.engine (length state.old.candidate) }
+    ensures stays { StaysWhileHeld S.keeps S.lends share.old share.new state.old state.new best.old best.new }
     ensures closed { IsClosed best.old.problem state.old.engine best.new.held }
-    ensures moves_on { MovesOn best.old best.new }
     ensures own { IsFoundAt state.old.engine best.old best.new }
-    ensures kept { S.keeps share.old share.new }
-    ensures same_lending { S.lends share.new ≡ S.lends share.old }
     ensures known { (trail : List Literal) → KnowsHeldPrefix trail best.new.held agreed.new }
 {
     let is_better = hand_over(&state.engine, &mut state.candidate, best, share);
@@ -64,11 +55,7 @@ fn hand_over<C: Coefficient, S: Share>(
     best: &mut Best<'_>,
     share: &mut S,
 ) -> bool
-    requires engine { IsEngineOf best.old.problem engine.now }
-    requires room { length candidate.old ≡ best.old.problem.vars }
-    requires full { IsFull engine.now }
-    requires solved { IsSolved engine.now }
-    requires sound { IsSoundTrail engine.now }
+    requires { IsAtLeaf best.old.problem engine.now (length candidate.old) }
     ensures same_length { length candidate.new ≡ length candidate.old }
     ensures closed { IsClosed best.old.problem engine.now best.new.held }
     ensures moves_on { MovesOn best.old best.new }
@@ -123,12 +110,8 @@ pub fn borrow_after<C: Coefficient, S: Share>(
     origin: Origin,
 ) -> bool
     requires room { length state.old.candidate ≡ best.old.problem.vars }
-    ensures engine { state.new.engine ≡ state.old.engine }
-    ensures beside { SameBranchesAndRoom state.old state.new }
-    ensures moves_on { MovesOn best.old best.new }
+    ensures stays { StaysWhileHeld S.keeps S.lends share.old share.new state.old state.new best.old best.new }
     ensures own { S.lends share.old ≡ false → best.new ≡ best.old }
-    ensures kept { S.keeps share.old share.new }
-    ensures same_lending { S.lends share.new ≡ S.lends share.old }
     ensures refused { result ≡ false → best.new.held ≡ best.old.held }
     ensures known { (trail : List Literal) → KnowsHeldPrefix trail best.old.held agreed.old → KnowsHeldPrefix trail best.new.held agreed.new }
 {

@@ -1,15 +1,10 @@
 //! The search of a subtree, node by node.
 
-ghost use Rattle.std.specs.Prelude.{◌≡◌, ◌⊎◌, ◌<◌, false, [], Some, IfSome};
+ghost use Rattle.std.specs.Prelude.{◌≡◌, false, [], IfSome};
 ghost use Rattle.pb_inst.specs.Incumbent.{IsSound};
-ghost use Rattle.pb_engine.specs.Soundness.{IsSoundTrail};
-ghost use Rattle.pb_control.specs.Goal.{IsMet};
-ghost use Rattle.pb_prune.specs.Held.{MovesOn};
-ghost use Rattle.pb_prune.specs.Solutions.{SameConstraints};
-ghost use Rattle.pb_prune.specs.AgreedPrefix.{KnowsHeldPrefix};
-ghost use Rattle.pb_control.specs.Budget.{IsLeftOf};
-ghost use Rattle.pb_subtree.specs.SearchState.{IsStateOf, IsAtSomePath, LeavesFewer, IsSearched, IsOwn};
-ghost use Rattle.pb_subtree.specs.Nodes.{IsAtNode, IsExpanded, IsFurther};
+ghost use Rattle.pb_subtree.specs.Ended.{IsEnded};
+ghost use Rattle.pb_subtree.specs.Nodes.{GoesOn, IsAtNode, IsExpanded, IsFurther, IsOnPath};
+ghost use Rattle.pb_subtree.specs.SearchState.{IsOwn, IsSearched, LeavesFewer};
 
 use crate::Share;
 use crate::backtrack::backtrack;
@@ -40,10 +35,7 @@ fn expand<C: Coefficient, S: Share>(
 ) -> Option<Branch>
     requires { IsAtNode best.old.problem state.old best.old.held run.old.agreed }
     ensures expanded { IsExpanded (S.lends share.old) state.old state.new best.old best.new result }
-    ensures kept { S.keeps share.old share.new }
-    ensures same_lending { S.lends share.new ≡ S.lends share.old }
-    ensures known { KnowsHeldPrefix state.new.engine.trail best.new.held run.new.agreed }
-    ensures budget { IsLeftOf run.old.left run.new.left }
+    ensures goes_on { GoesOn S.keeps S.lends share.old share.new state.new.engine.trail best.new.held run.old run.new }
 {
     renew_at_root(state, best);
     let mut may_dive = true;
@@ -79,15 +71,10 @@ fn next_branch<C: Coefficient, S: Share>(
     share: &mut S,
     run: &mut Run,
 ) -> Option<Branch>
-    requires state { IsStateOf best.old.problem state.old }
-    requires at_path { IsAtSomePath state.old.engine state.old.branches.items }
-    requires known { KnowsHeldPrefix state.old.engine.trail best.old.held run.old.agreed }
+    requires { IsOnPath best.old.problem state.old best.old.held run.old.agreed }
     ensures further { IsFurther (S.lends share.old) state.old state.new best.old best.new result }
     ensures fewer { IfSome result (λ b. LeavesFewer best.old.problem state.old state.new b) }
-    ensures kept { S.keeps share.old share.new }
-    ensures same_lending { S.lends share.new ≡ S.lends share.old }
-    ensures known { KnowsHeldPrefix state.new.engine.trail best.new.held run.new.agreed }
-    ensures budget { IsLeftOf run.old.left run.new.left }
+    ensures goes_on { GoesOn S.keeps S.lends share.old share.new state.new.engine.trail best.new.held run.old run.new }
 {
     if let Some(branch) = expand(state, best, share, run) {
         return Some(branch);
@@ -111,15 +98,10 @@ fn expand_above<C: Coefficient, S: Share>(
     share: &mut S,
     run: &mut Run,
 ) -> Option<Branch>
-    requires state { IsStateOf best.old.problem state.old }
-    requires at_path { IsAtSomePath state.old.engine state.old.branches.items }
-    requires known { KnowsHeldPrefix state.old.engine.trail best.old.held run.old.agreed }
+    requires { IsOnPath best.old.problem state.old best.old.held run.old.agreed }
     ensures further { IsFurther (S.lends share.old) state.old state.new best.old best.new result }
     ensures returns { state.new.root_work ≡ state.old.root_work }
-    ensures kept { S.keeps share.old share.new }
-    ensures same_lending { S.lends share.new ≡ S.lends share.old }
-    ensures known { KnowsHeldPrefix state.new.engine.trail best.new.held run.new.agreed }
-    ensures budget { IsLeftOf run.old.left run.new.left }
+    ensures goes_on { GoesOn S.keeps S.lends share.old share.new state.new.engine.trail best.new.held run.old run.new }
 {
     step_back(state, count, best, &mut run.agreed);
     if let Some(branch) = expand(state, best, share, run) {
@@ -137,21 +119,12 @@ pub fn search_subtree<C: Coefficient, S: Share>(
     goal: Goal,
     run: &mut Run,
 ) -> Outcome
-    requires state { IsStateOf best.old.problem state.old }
-    requires sound { IsSoundTrail state.old.engine }
+    requires node { IsAtNode best.old.problem state.old best.old.held run.old.agreed }
     requires no_decisions { state.old.branches.items ≡ [] }
     requires held_sound { IsSound best.old }
-    requires known { KnowsHeldPrefix state.old.engine.trail best.old.held run.old.agreed }
     ensures searched { result ≡ Outcome.Whole → IsSearched best.old.problem state.old.engine best.new.held }
-    ensures cut { result ≡ Outcome.Cut → (run.new.left ≡ Some 0) ⊎ IsMet goal best.new.held }
-    ensures budget { IsLeftOf run.old.left run.new.left }
-    ensures moves_on { MovesOn best.old best.new }
-    ensures held_sound { IsSound best.new }
     ensures own { S.lends share.old ≡ false → IsOwn state.old.engine best.old best.new }
-    ensures kept { S.keeps share.old share.new }
-    ensures same_lending { S.lends share.new ≡ S.lends share.old }
-    ensures made_for { IsStateOf best.old.problem state.new }
-    ensures constraints { SameConstraints state.old.engine state.new.engine }
+    ensures ended { IsEnded S.keeps S.lends share.old share.new goal state.old state.new best.old best.new run.old.left run.new.left result }
 {
     state.root_work.begin(goal, run.left);
     while let Some(branch) = next_branch(state, best, share, run) {

@@ -1,12 +1,10 @@
 //! The search under the literals of a cube.
 
-ghost use Rattle.std.specs.Prelude.{◌≡◌, ◌⊎◌, ◌≤◌, false, List, Bool, All, Some, IsSomeAnd};
-ghost use Rattle.pb_inst.specs.Incumbent.{IsSound};
-ghost use Rattle.pb_control.specs.Goal.{IsMet};
-ghost use Rattle.pb_prune.specs.Held.{IsImprovement, MovesOn};
-ghost use Rattle.pb_prune.specs.Solutions.{SameConstraints, SatisfiesUnder};
+ghost use Rattle.std.specs.Prelude.{◌≡◌, ◌⊎◌, ◌≤◌, false, List, Bool, All, IsSomeAnd};
+ghost use Rattle.pb_prune.specs.Held.{IsImprovement};
+ghost use Rattle.pb_prune.specs.Solutions.{SatisfiesUnder};
+ghost use Rattle.pb_subtree.specs.Ended.{IsEnded};
 ghost use Rattle.pb_subtree.specs.SearchState.{IsStateOf};
-ghost use Rattle.pb_control.specs.Budget.{IsLeftOf};
 
 use crate::Share;
 use crate::incumbent::borrow;
@@ -32,15 +30,8 @@ pub fn search_under<C: Coefficient, S: Share>(
     requires state { IsStateOf best.old.problem state.old }
     requires variables { All (λ l. l.var ≤ state.old.engine.vars) cube.now }
     ensures searched { result ≡ Outcome.Whole → (a : List Bool) → SatisfiesUnder state.old.engine cube.now a → ¬ IsImprovement best.old.problem a best.new.held }
-    ensures cut { result ≡ Outcome.Cut → (left.new ≡ Some 0) ⊎ IsMet goal best.new.held }
-    ensures budget { IsLeftOf left.old left.new }
-    ensures moves_on { MovesOn best.old best.new }
-    ensures held_sound { IsSound best.new }
     ensures own { S.lends share.old ≡ false → (best.new ≡ best.old) ⊎ IsSomeAnd best.new.held (λ s. SatisfiesUnder state.old.engine cube.now s.assignment) }
-    ensures kept { S.keeps share.old share.new }
-    ensures same_lending { S.lends share.new ≡ S.lends share.old }
-    ensures made_for { IsStateOf best.old.problem state.new }
-    ensures constraints { SameConstraints state.old.engine state.new.engine }
+    ensures ended { IsEnded S.keeps S.lends share.old share.new goal state.old state.new best.old best.new left.old left.new result }
 {
     // Before the first bound is compared: what another piece gave may close this one at its root.
     borrow(&mut state.candidate, best, share);

@@ -1,9 +1,7 @@
 use Rattle.std.proofs.Common.{◌≡◌, false}
 use Rattle.pb_engine.specs.Soundness.{IsSoundTrail}
-use Rattle.pb_prune.specs.AgreedPrefix.{KnowsHeldPrefix}
 use Rattle.pb_prune.specs.Held.{MovesOn}
-use Rattle.pb_control.specs.Budget.{IsLeftOf}
-use Rattle.pb_subtree.specs.Nodes.{IsFoundAt}
+use Rattle.pb_subtree.specs.Nodes.{GoesOn, IsFoundAt}
 use Rattle.pb_subtree.specs.SearchState.{SameBranches}
 use Rattle.pb_subtree.proofs.node.expand.Given as goal
 
@@ -13,8 +11,5 @@ invariant-loop g l = record {
   sound : IsSoundTrail l.state.engine;
   moves_on : MovesOn l.fn.best l.best;
   own : g.S.Share.lends l.fn.share ≡ false → IsFoundAt l.state.engine l.fn.best l.best;
-  kept : g.S.Share.keeps l.fn.share l.share;
-  same_lending : g.S.Share.lends l.share ≡ g.S.Share.lends l.fn.share;
-  known : KnowsHeldPrefix l.state.engine.trail l.best.held l.run.agreed;
-  budget : IsLeftOf l.fn.run.left l.run.left;
+  goes_on : GoesOn g.S.Share.keeps g.S.Share.lends l.fn.share l.share l.state.engine.trail l.best.held l.fn.run l.run;
 }

@@ -1,13 +1,14 @@
-use Rattle.std.proofs.Common.{rules, ◌∙◌, ◌++◌, ◌∷◌, [], ◌<◌, subst, arith}
+use Rattle.std.proofs.Common.{rules, ◌∙◌, ◌++◌, ◌∷◌, [], ◌<◌, subst, sym, arith}
 use Rattle.pb_inst.specs.Problem.{Problem}
 use Rattle.pb_engine.specs.EngineState.{EngineState}
 use Rattle.pb_subtree.specs.declared.search_state.SearchState.{SearchState}
 use Rattle.pb_subtree.specs.Paths.{steps_left, search_steps}
 use Rattle.pb_subtree.specs.SearchState.{IsStateOf, IsUnderWay, IsLeaving, IsNext, IsSearched, IsOwn, LeavesFewer}
 use Rattle.pb_subtree.proofs.Engines.{same_constraints_onward}
+use Rattle.pb_subtree.proofs.GoesOnLemmas.{goes_onward}
 use Rattle.pb_subtree.proofs.HeldLemmas.{moves_onward}
 use Rattle.pb_subtree.proofs.PathLemmas.{decide_falls, fewer_steps, fewer_from, step_back_falls}
-use Rattle.pb_subtree.proofs.SearchLemmas.{open_next, expanded_state, closed_leaving, expanded_own, at_problem, if_some_map, if_none_map, own_onward, stays_under_way, with_work, leaving_with_work}
+use Rattle.pb_subtree.proofs.SearchLemmas.{open_next, expanded_state, some_path, closed_leaving, expanded_own, at_problem, if_some_map, if_none_map, own_onward, stays_under_way, with_work, leaving_with_work}
 use Rattle.pb_subtree.proofs.node.next_branch.Goals as goal
 
 pub returns-in-Some-clause-further : goal.returns-in-Some-clause-further
@@ -61,7 +62,7 @@ returns-in-Some-take_return-clause-further g c =
       moves_on = moves_onward c.args.best.now c.expand.new.best c.expand_above.new.best there.moves_on above.moves_on;
       own = λ alone start h.
           own_onward start c.args.best.now c.expand.new.best c.expand_above.new.best (expanded_own p start c.args.state.now t c.args.best.now c.expand.new.best there.same_branches there.sound (there.own alone) h)
-          (at_problem p q (λ (x : Problem). IsUnderWay x start s held) (λ _. IsOwn start c.expand.new.best c.expand_above.new.best) same (above.own (c.expand.ensures.same_lending ∙ alone) start) (under_way start h));
+          (at_problem p q (λ (x : Problem). IsUnderWay x start s held) (λ _. IsOwn start c.expand.new.best c.expand_above.new.best) same (above.own (c.expand.ensures.goes_on.same_lending ∙ alone) start) (under_way start h));
       made_for = subst (λ (x : Problem). IsStateOf x u) same above.made_for;
       constraints = same_constraints_onward c.args.state.now.engine t.engine u.engine there.same_branches.constraints above.constraints;
     }
@@ -99,8 +100,8 @@ returns-in-None-clause-further g c =
           c.backtrack.ensures.finished;
       moves_on = there.moves_on;
       own = λ alone start h. expanded_own p start c.args.state.now t c.args.best.now c.expand.new.best there.same_branches there.sound (there.own alone) h;
-      made_for = subst (λ (x : Problem). IsStateOf x u) same c.backtrack.ensures.made_for;
-      constraints = same_constraints_onward c.args.state.now.engine t.engine u.engine there.same_branches.constraints c.backtrack.ensures.constraints;
+      made_for = subst (λ (x : Problem). IsStateOf x u) same c.backtrack.ensures.back.made_for;
+      constraints = same_constraints_onward c.args.state.now.engine t.engine u.engine there.same_branches.constraints c.backtrack.ensures.back.constraints;
     }
 
 pub returns-in-None-clause-fewer : goal.returns-in-None-clause-fewer
@@ -118,3 +119,44 @@ returns-in-None-clause-fewer g c =
     (omega (arith, there.same_branches.returns, c.in-None.ensures.kept))
     (subst (λ (x : Problem). LeavesFewer x s c.backtrack.new.state b) there.moves_on.same_instance f few)))
     c.backtrack.ensures.fewer
+
+pub expand-requires : goal.expand-requires
+expand-requires g c = record { state = c.requires.state; sound = c.requires.at_path.at.sound; known = c.requires.known }
+
+pub expand_above-requires : goal.expand_above-requires
+expand_above-requires g c =
+    let there = c.in_default.ensures.expanded in
+    let t = c.expand.new.state in
+    let s : SearchState _ = record { engine = t.engine; branches = t.branches; candidate = t.candidate; order = t.order; root_work = c.take_return.new.self; dive = t.dive } in
+    let made = expanded_state c.args.best.now.problem c.args.state.now t there.same_branches c.requires.state in
+    record {
+      state = subst (λ (x : Problem). IsStateOf x s) (sym there.moves_on.same_instance) (record { engine = made.engine; few_variables = made.few_variables; candidate = made.candidate; room = made.room });
+      at_path = some_path c.args.state.now t there.same_branches there.sound c.requires.at_path;
+      known = c.expand.ensures.goes_on.known;
+    }
+
+pub backtrack-requires : goal.backtrack-requires
+backtrack-requires g c =
+    let there = c.in_default.ensures.expanded in
+    let t = c.expand.new.state in
+    let s : SearchState _ = record { engine = t.engine; branches = t.branches; candidate = t.candidate; order = t.order; root_work = c.take_return.new.self; dive = t.dive } in
+    let made = expanded_state c.args.best.now.problem c.args.state.now t there.same_branches c.requires.state in
+    record {
+      state = subst (λ (x : Problem). IsStateOf x s) (sym there.moves_on.same_instance) (record { engine = made.engine; few_variables = made.few_variables; candidate = made.candidate; room = made.room });
+      at_path = some_path c.args.state.now t there.same_branches there.sound c.requires.at_path;
+      known = c.expand.ensures.goes_on.known;
+    }
+
+pub returns-in-Some-clause-goes_on : goal.returns-in-Some-clause-goes_on
+returns-in-Some-clause-goes_on g c = c.expand.ensures.goes_on
+
+pub returns-in-Some-take_return-clause-goes_on : goal.returns-in-Some-take_return-clause-goes_on
+returns-in-Some-take_return-clause-goes_on g c = goes_onward _ _ g.met.S.Share.keeps_onward _ _ _ _ _ _ _ _ _ _ c.expand.ensures.goes_on c.expand_above.ensures.goes_on
+
+pub returns-in-None-clause-goes_on : goal.returns-in-None-clause-goes_on
+returns-in-None-clause-goes_on g c = record {
+  kept = c.expand.ensures.goes_on.kept;
+  same_lending = c.expand.ensures.goes_on.same_lending;
+  known = c.backtrack.ensures.back.known;
+  budget = c.expand.ensures.goes_on.budget;
+}

@@ -19,10 +19,10 @@ search_under-outcome-requires-clause-variables g c =
 
 pub invariant_of-self : goal.invariant_of-self
 invariant_of-self g c =
-    let old = c.self.inside.state in let new = c.search_under-outcome.new.state in let same = c.search_under-outcome.ensures.constraints in
+    let old = c.self.inside.state in let new = c.search_under-outcome.new.state in let same = c.search_under-outcome.ensures.ended.constraints in
     subst (λ (t : SearchState _). IsMade t.engine.form [] t) (sym c.begin_question.ensures)
     (subst (λ (f : NormalForm). IsMade f [] new) (sym same.form)
-    (still_made c.args.best.now.problem old.engine.form old new (ap (λ (f : NormalForm). f.vars) c.self.view_is ∙ c.requires.form_of.vars) c.self.invariant c.search_under-outcome.ensures.made_for same))
+    (still_made c.args.best.now.problem old.engine.form old new (ap (λ (f : NormalForm). f.vars) c.self.view_is ∙ c.requires.form_of.vars) c.self.invariant c.search_under-outcome.ensures.ended.made_for same))
 
 pub returns-clause-searched : goal.returns-clause-searched
 returns-clause-searched g c =
@@ -30,10 +30,10 @@ returns-clause-searched g c =
     let under = c.search_under-outcome in
     let state : IsCubeState p c.self.inside.state = whole_state p c.args.self.now c.self.inside.state c.clause_laws.ensures.met c.self.view_is c.requires.form_of.vars c.requires.form_of.feasible c.requires.form_of.costs c.requires.few c.self.invariant in
     record {
-      done = λ whole. cube_done p d 0 c.self.inside.state.engine c.args.cube.now under.new.best refl under.ensures.moves_on.same_instance state.state.engine.vars state.rows refl under.ensures.held_sound (under.ensures.searched whole);
-      cut = under.ensures.cut;
-      budget = under.ensures.budget;
-      not_after = under.ensures.moves_on.not_after;
+      done = λ whole. cube_done p d 0 c.self.inside.state.engine c.args.cube.now under.new.best refl under.ensures.ended.moves_on.same_instance state.state.engine.vars state.rows refl under.ensures.ended.held_sound (under.ensures.searched whole);
+      cut = under.ensures.ended.cut;
+      budget = under.ensures.ended.budget;
+      not_after = under.ensures.ended.moves_on.not_after;
       own = λ none. own_makes_true c.self.inside.state.engine c.args.cube.now c.args.best.now under.new.best (under.ensures.own none);
-      same_instance = under.ensures.moves_on.same_instance;
+      same_instance = under.ensures.ended.moves_on.same_instance;
     }
