@@ -92,6 +92,9 @@ FAMILIES = {
     "pigeons without a hole are refuted": [Effort(28_400, [pigeons(7)])],
     # One search counts the decisions of each of its pieces anew. Counted on from piece to piece they are four times as many.
     "each piece has a count of its own": [Effort(420, [pigeons(5)], split=2)],
+    # A split leaves nothing beside its cubes, and the search of the remainder finds that in a few turns. If its root were worked on as
+    # that of a cube is, all pieces together would take four and eleven times as many decisions.
+    "what a split leaves is seen to be empty": [Effort(1_820, [ring_cover(160)], split=3), Effort(330, [gated_cover(60, 8)], split=5)],
     # Thirteen things find no room in four bins of three each. Thing by thing two million decisions tell that; the multipliers do once
     # the search has gone on for a while.
     "a packing without room is refuted": [Effort(2_820, [packing(13, 4, 3)])],

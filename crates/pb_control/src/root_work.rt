@@ -65,6 +65,10 @@ pub struct RootWork {
     leaves: u32,
     /// Whether the root is worked on since.
     is_open: bool,
+    /// How many cubes are left out of what is searched.
+    cubes: usize,
+    /// How often the search may still be about to turn to another value before work at the root is thought of.
+    early: usize,
     ties: Ties,
     /// The trail's length and the best cost where no literal failed in the last round.
     done: Option<(usize, Option<Number>)>,
@@ -89,8 +93,8 @@ impl Model for RootWork {
 }
 
 impl RootWork {
-    /// Nothing was done. There are so many variables, and nothing is minimised or something is.
-    pub fn new(vars: u32, is_decision: bool) -> RootWork {
+    /// Nothing was done. There are so many variables, nothing is minimised or something is, and so many cubes are left out.
+    pub fn new(vars: u32, is_decision: bool, cubes: usize) -> RootWork {
         let is_large = vars >= LEAST_VARIABLES;
         RootWork {
             returns: 0,
@@ -99,6 +103,8 @@ impl RootWork {
             is_decision,
             leaves: 0,
             is_open: false,
+            cubes,
+            early: 0,
             ties: Ties::new(),
             done: None,
             probing: Probing::new(is_decision),
@@ -123,6 +129,9 @@ impl RootWork {
             Goal::Least | Goal::AtMost(_) => MOST_LEAVES,
         };
         self.is_open = false;
+        // What the cubes of a split leave is empty, and nothing that is done at its root tells that. Its search does, which turns to
+        // another value as often as there are cubes at most.
+        self.early = self.cubes;
         self.ties = Ties::new();
         self.done = None;
         let probes = match left {
@@ -168,6 +177,10 @@ impl RootWork {
     {
         let prefix = self.prefix_of(path);
         let count = self.ties.leave(path, prefix, cost);
+        if self.early > 0 {
+            self.early -= 1;
+            return count;
+        }
         if self.leaves == 0 {
             return count;
         }

@@ -49,7 +49,7 @@ impl<C: Coefficient> SearchState<C> {
     {
         // The engine comes last: an early return past it would let go of it field by field, and cost a minute to prove.
         let (branches, candidate, order, dive) = make_room(alloc, form, negated)?;
-        let root_work = work_for(form);
+        let root_work = work_for(form, negated);
         let engine = EngineAt::new(alloc, form, negated)?;
         Ok(SearchState {
             engine,
@@ -76,7 +76,7 @@ impl<C: Coefficient> SearchState<C> {
         ensures room { IfOk result (λ t. (arc_value rows.now).form.vars ≤ vec_capacity t.branches) }
     {
         let (branches, candidate, order, dive) = make_room(alloc, rows.form(), negated)?;
-        let root_work = work_for(rows.form());
+        let root_work = work_for(rows.form(), negated);
         let engine = EngineAt::over(alloc, TablesSource::shared(rows, clauses)?)?;
         Ok(SearchState {
             engine,
@@ -129,9 +129,9 @@ fn make_room<C: Coefficient>(
     Ok((branches, candidate, order, dive))
 }
 
-/// The work at the root of the form's search, of which nothing was done.
-fn work_for<C: Coefficient>(form: &Form<C>) -> RootWork {
-    RootWork::new(form.vars(), is_decision(form))
+/// The work at the root of the search of the form without these cubes, of which nothing was done.
+fn work_for<C: Coefficient>(form: &Form<C>, negated: &[Cube]) -> RootWork {
+    RootWork::new(form.vars(), is_decision(form), negated.len())
 }
 
 /// Whether nothing is minimised.
