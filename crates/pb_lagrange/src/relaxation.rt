@@ -556,7 +556,8 @@ impl<C: Coefficient> Relaxation<C> {
         ensures form { self.new.form ≡ self.old.form }
         ensures trail { self.new.trail ≡ take (length self.old.trail + 1) trail.now.trail }
     {
-        let (_vars, _length) = (trail.tables().vars(), trail.len());
+        trail.tables().facts();
+        let _length = trail.len();
         let lit = trail.literal(self.multipliers.len());
         self.multipliers.assign(lit);
     }

@@ -3,6 +3,7 @@
 ghost use Rattle.std.specs.Prelude.{◌≡◌, ℕ, ◌+◌, ◌<◌, ◌≤◌, length, All, None, IfSome};
 ghost use Rattle.pb_rows.specs.Constraints.{row_at};
 ghost use Rattle.pb_rows.specs.Index.{total_by};
+ghost use Rattle.pb_trail.specs.Steps.{PropagatesRow};
 ghost use Rattle.pb_trail.specs.Tracked.{IsUpToDate};
 ghost use Rattle.pb_trail.specs.Trail.{reachable};
 ghost use Rattle.pb_trail.specs.Propagation.{AddsForced, IsBroken, IsSettledFrom};
@@ -31,10 +32,7 @@ fn propagate_constraint<C: Coefficient>(
 ) -> Step
     requires row { row < length tables.now.rows }
     requires up_to_date { IsUpToDate tables.now trail.old }
-    ensures up_to_date { IsUpToDate tables.now trail.new }
-    ensures forced { AddsForced tables.now.rows trail.old.lits trail.new.lits }
-    ensures settled { result ≡ Step.Fixed → (head : ℕ) → head ≤ length trail.old.lits → IsSettledFrom head trail.new.lits (row_at tables.now.rows row) }
-    ensures broken { result ≡ Step.Conflict → reachable trail.new.lits (row_at tables.now.rows row).terms < (row_at tables.now.rows row).degree }
+    ensures { PropagatesRow tables.now row trail.old trail.new result }
 {
     if row < tables.form_len() {
         propagate_row(tables, trail, row)
@@ -48,10 +46,7 @@ fn propagate_constraint<C: Coefficient>(
 fn propagate_row<C: Coefficient>(tables: &Tables<'_, C>, trail: &mut Trail<C>, row: usize) -> Step
     requires row { row < length tables.now.form.rows }
     requires up_to_date { IsUpToDate tables.now trail.old }
-    ensures up_to_date { IsUpToDate tables.now trail.new }
-    ensures forced { AddsForced tables.now.rows trail.old.lits trail.new.lits }
-    ensures settled { result ≡ Step.Fixed → (head : ℕ) → head ≤ length trail.old.lits → IsSettledFrom head trail.new.lits (row_at tables.now.rows row) }
-    ensures broken { result ≡ Step.Conflict → reachable trail.new.lits (row_at tables.now.rows row).terms < (row_at tables.now.rows row).degree }
+    ensures { PropagatesRow tables.now row trail.old trail.new result }
 {
     let limits = tables.limits(row);
     let reachable = trail.sum(row);
@@ -76,10 +71,7 @@ fn propagate_clause<C: Coefficient>(
     requires form { length tables.now.form.rows ≤ row }
     requires exists { row < length tables.now.rows }
     requires up_to_date { IsUpToDate tables.now trail.old }
-    ensures up_to_date { IsUpToDate tables.now trail.new }
-    ensures forced { AddsForced tables.now.rows trail.old.lits trail.new.lits }
-    ensures settled { result ≡ Step.Fixed → (head : ℕ) → head ≤ length trail.old.lits → IsSettledFrom head trail.new.lits (row_at tables.now.rows row) }
-    ensures broken { result ≡ Step.Conflict → reachable trail.new.lits (row_at tables.now.rows row).terms < (row_at tables.now.rows row).degree }
+    ensures { PropagatesRow tables.now row trail.old trail.new result }
 {
     tables.facts();
     let reachable = trail.sum(row);

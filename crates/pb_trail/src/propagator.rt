@@ -57,6 +57,7 @@ impl<C: Coefficient> Propagator<C> {
         ensures { IfOk result (λ p. p ≡ record { form = source.form; vars = source.vars; rows = source.rows; trail = []; levels = []; conflict = false }) }
     {
         let tables = source.tables();
+        tables.facts();
         let levels = Vec::with_capacity(alloc, tables.vars() as usize)?;
         let trail = Trail::new(alloc, &tables)?;
         Ok(Propagator {

@@ -49,6 +49,7 @@ impl<C: Coefficient> Trail<C> {
         ensures empty { IfOk result (λ trail. trail.lits ≡ []) }
         ensures up_to_date { IfOk result (λ trail. IsUpToDate tables.now trail) }
     {
+        tables.facts();
         let vars = tables.vars() as usize;
         let sums = totals(alloc, tables)?;
         let values = vec![in alloc; None; vars]?;

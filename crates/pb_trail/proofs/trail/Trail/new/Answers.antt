@@ -11,4 +11,4 @@ invariant_of-result g c =
 pub returns-clause-up_to_date : goal.returns-clause-up_to_date
 returns-clause-up_to_date g c =
     let unset = c.in_ok-values.ensures.items_if_clones_equal (search rules) in
-    IsUpToDate-nil c.args.tables.now (record { vars = length c.in_ok-values.values.items; lits = c.in_ok-lits.lits.items; sums = c.in_ok-sums.sums.items; slack_cache = c.in_ok-slack_cache.slack_cache }) c.in_ok-sums.ensures.0 c.in_ok-sums.ensures.1 c.in_ok-lits.ensures.items (ap (λ (xs : List (Option Bool)). length xs) unset ∙ (length-replicate c.vars-vars.result _ ∙ c.vars-vars.ensures.value)) c.vars-vars.ensures.rows c.in_ok-slack_cache.ensures
+    IsUpToDate-nil c.args.tables.now (record { vars = length c.in_ok-values.values.items; lits = c.in_ok-lits.lits.items; sums = c.in_ok-sums.sums.items; slack_cache = c.in_ok-slack_cache.slack_cache }) c.in_ok-sums.ensures.0 c.in_ok-sums.ensures.1 c.in_ok-lits.ensures.items (ap (λ (xs : List (Option Bool)). length xs) unset ∙ (length-replicate c.vars-vars.result _ ∙ c.vars-vars.ensures)) c.facts.ensures.rows c.in_ok-slack_cache.ensures
