@@ -31,7 +31,7 @@ from lib import TOP, callers
 from lib.callers import PYTHON
 
 callers.package()
-from pbcube import Answer, Constraint, Error, Explanation, ForeignLiteral, Literal, Model, Refused, Status, Sum, solve, total
+from pbcube import Answer, Constraint, Error, Explanation, Fixed, ForeignLiteral, Literal, Model, Refused, Status, Sum, solve, total
 
 MODELS = 150
 IN_CHILD = 6  # of which each has to start
@@ -101,6 +101,78 @@ def value_facts():
     yield "the same names as before", repr(answer).startswith("Answer(status=Status.OPTIMUM, cost=4, values=(True, ")
     yield "a text", solve(TEXT).cost == solve(TEXT.encode(), "opb", 100, time_limit=60).cost == 2
     yield "sums", total([]).terms == () and isinstance(x + 1, Sum) and isinstance(x >= 1, Constraint) and (2 - x).constant == 2
+
+
+def name_facts():
+    """How literals, sums, constraints, cores and models are written, and found by name."""
+    model = Model()
+    x, y, odd, unnamed = *model.variables(["x", "y", "<b>"]), model.variable()
+    written = (
+        (x, "x"), (~y, "~y"), (~~x, "x"), (Literal(3), "Literal(number=3)"), (Literal(-3, "z"), "~z"), (2 * x + 3 * ~y, "2 x + 3 ~y"),
+        (x - ~y + 1, "x - ~y + 1"), (-x, "-x"), (x / 2 - 3, "1/2 x - 3"), (0 * x, "0 x"), (Sum(), "0"), (Sum((), -2), "-2"),
+        (2 * unnamed - odd, "2 x4 - <b>"), (2 * Literal(7), "2 x7"), (2 * x + 3 * ~y >= 1, "2 x + 3 ~y >= 1"),
+        (x - 1 <= Fraction(1, 2), "x <= 3/2"), (x == y, "x - y == 0"), (Constraint((), ">=", 1), "0 >= 1"),
+    )  # fmt: skip
+    for it, text in written:
+        yield f"{it!r} and not {text}", repr(it) == str(it) == text
+    yield "one literal of each name", model["x"] is model["x"] is x and model.copy()["x"] is not x
+    yield "in dicts and sets", {x: 1, y: 2}[model["y"]] == 2 and x in {x, y} and x not in {y} and len({x, y, x}) == 2
+    copied = model.copy()
+    added = copied.variable("z")
+    yield "a sum of a model and its copy", (repr(x + added), repr(copied["y"] - x)) == ("x + z", "y - x")
+    yield "a later one of the model", repr(model.variable("w") + x) == "w + x" and model["w"].number == added.number == 5
+    model.minimise(x + y)
+    model.add(x + y + odd >= 1)
+    yield repr(model), repr(model) == "<Model: 5 variables, 1 constraints, 5 terms, an objective>"
+    yield "without an objective", repr(Model()) == "<Model: 0 variables, 0 constraints, 0 terms, no objective>"
+    yield "a model as a table", "<tr><th>variables</th><td>5</td></tr>" in model._repr_html_() and "yes" in model._repr_html_()
+    yield "found twice", model.solve().names is model.solve().names and model.solve()["<b>"] is model.solve()[odd]
+
+
+def table_facts():
+    """Answers as tables of HTML, whose names are escaped and whose rows are few."""
+    told = Answer(Status.OPTIMUM, Fraction(7, 2), (True, False), ("<b>&", None))
+    rows = ("status</th><td>OPTIMUM", "cost</th><td>7/2", "&lt;b&gt;&amp;</th><td>True", "x2</th><td>False")
+    yield told._repr_html_(), told._repr_html_() == "<table>" + "".join(f"<tr><th>{row}</td></tr>" for row in rows) + "</table>"
+    many = Answer(Status.FOUND, 1, (True,) * 100)._repr_html_()
+    yield "few rows", many.count("<tr>") == 23 and "80 more" in many
+    yield "nothing was found", Answer(Status.UNKNOWN, None, None)._repr_html_() == "<table><tr><th>status</th><td>UNKNOWN</td></tr></table>"
+    why = Explanation(Status.UNSATISFIABLE, (Literal(-1, "<"), Literal(2, "y")), True)
+    yield "a core", repr(why).endswith("core=(~<, y), is_minimal=True)") and "core</th><td>~&lt;</td>" in why._repr_html_()
+    fixed = Fixed(Status.SATISFIABLE, b"\0\1\2\3", ("<",))._repr_html_()
+    yield "fixed", "&lt;</th><td>False" in fixed and "x2</th><td>True" in fixed and "x3</th><td>both" in fixed and "x4</th><td>not" in fixed
+
+
+def many_name_facts():
+    """Names are found by a table that is made once."""
+    names = tuple(f"v{number}" for number in range(100_000))
+    answer, fixed = Answer(Status.SATISFIABLE, None, (True,) * 100_000, names), Fixed(Status.SATISFIABLE, bytes(100_000), names)
+    begun = time.monotonic()
+    yield "names", all(answer[names[-at]] and fixed[names[-at]] is False for at in range(1, 2001))
+    yield "soon", time.monotonic() - begun < PATIENCE / 10
+    again = pickle.loads(pickle.dumps(answer))
+    yield "pickled", again == answer and again["v7"] and len(pickle.dumps(again)) == len(pickle.dumps(answer))
+    yield "of two of one name the first", Answer(Status.FOUND, 1, (True, False), ("x", "x"))["x"]
+    yield "no name", isinstance(raised(lambda: answer["w"]), LookupError) and isinstance(raised(lambda: fixed["w"]), LookupError)
+
+
+def pickle_facts():
+    """A pickled model is a copy."""
+    model = Model()
+    x, y, z = model.variables("x y z")
+    model.maximise(x / 2 - 2**80 * y)
+    model.clause([x, ~y, z])
+    model.add(x + 2**70 * y <= 3)
+    model.solve()
+    again, literals = pickle.loads(pickle.dumps((model, [x, y, z])))
+    yield "a pickled model", repr(again) == repr(model) and again._statements == model._statements
+    yield "with its objective and names", again._objective == model._objective and again._names == model._names
+    yield "answers as the model does", again.solve() == model.solve()
+    yield "takes the literals", raised(lambda: again.add(total(literals) >= 1)) is None and raised(lambda: again.clause([x, ~z])) is None
+    later = again.variable("w")
+    yield "and has its own", is_foreign(lambda: model.add(later >= 1)) and is_foreign(lambda: again.clause([model.variable("w")]))
+    yield "which are named", (repr(later + again["x"]), repr(literals)) == ("w + x", "[x, y, z]")
+    yield "sums", pickle.loads(pickle.dumps(2 * x + 1 >= y)) == (2 * x + 1 >= y)
 
 
 def page_facts():
@@ -621,7 +693,7 @@ def death_facts():
 
 
 def main():
-    calls = [value_facts, page_facts, wide_facts, copy_facts, question_facts, start_facts, random_facts, child_facts, kept_facts]
+    calls = [name_facts, table_facts, many_name_facts, pickle_facts, value_facts, page_facts, wide_facts, copy_facts, question_facts, start_facts, random_facts, child_facts, kept_facts]
     refusals = [foreign_facts, refusal_facts, room_facts, text_facts]
     interrupts = [lambda: interrupt_facts(os.kill), lambda: interrupt_facts(os.killpg), question_end_facts]
     ends = [*interrupts, exception_facts, limit_facts, death_facts]

@@ -5,9 +5,11 @@ from __future__ import annotations
 import enum
 import json
 from dataclasses import dataclass, field
-from typing import Dict, Optional, Tuple, Union
+from functools import cached_property
+from typing import Any, Dict, List, Optional, Tuple, Union
 
 from .sums import Exact, Expression, Literal, as_literal, as_sum, check_owners, tidy
+from .tables import first_rows, table
 
 
 class Status(enum.Enum):
@@ -28,8 +30,44 @@ class Status(enum.Enum):
         return f"Status.{self.name}"
 
 
+class Names(Tuple[Optional[str], ...]):
+    """The names of variables, from the first on. Many answers may share them. Pickled they are a tuple."""
+
+    @cached_property
+    def numbers(self) -> Dict[Optional[str], int]:
+        """The numbers of the variables by their names, of those of one name the first."""
+        return {name: number for number, name in reversed([*enumerate(self, 1)])}
+
+    def __reduce__(self) -> Tuple[Any, ...]:
+        return tuple, (tuple(self),)
+
+
+class _Named:
+    """What tells of variables that may have names."""
+
+    names: Tuple[Optional[str], ...]
+
+    @cached_property
+    def _numbers(self) -> Dict[Optional[str], int]:
+        names = self.names if isinstance(self.names, Names) else Names(self.names)
+        return names.numbers
+
+    def _number_of(self, name: str) -> int:
+        if name not in self._numbers:
+            raise LookupError(f"no variable is named {name!r}")
+        return self._numbers[name]
+
+    def _name_of(self, number: int) -> str:
+        """The name of a variable, or x and its number where it has none."""
+        name = self.names[number - 1] if number <= len(self.names) else None
+        return f"x{number}" if name is None else name
+
+    def __getstate__(self) -> Dict[str, Any]:
+        return {name: value for name, value in self.__dict__.items() if name != "_numbers"}
+
+
 @dataclass(frozen=True)
-class Answer:
+class Answer(_Named):
     """What a search found: the status, the cost where there is an objective and something was found, and the values of the
     variables from the first on, where something was found. `names` are those of the variables, from the first on."""
 
@@ -45,9 +83,7 @@ class Answer:
         Raises LookupError where nothing was found, or its variable is none of the answer's, and ForeignLiteral where that is one of
         another model."""
         if isinstance(literal, str):
-            if literal not in self.names:
-                raise LookupError(f"no variable is named {literal!r}")
-            return self._is_true(self.names.index(literal) + 1)
+            return self._is_true(self._number_of(literal))
         self._check(as_literal(literal).owners)
         return self._is_true(literal.number)
 
@@ -95,6 +131,12 @@ class Answer:
         told = {"status": self.status.name, "cost": cost, "values": self.values, "named": self.named()}
         return json.dumps(told, indent=indent)
 
+    def _repr_html_(self) -> str:
+        """The status, the cost and the first values as a table, which notebooks show."""
+        cost: List[Tuple[object, object]] = [] if self.cost is None else [("cost", self.cost)]
+        values: List[Tuple[object, object]] = [(self._name_of(number), value) for number, value in enumerate(self.values or (), 1)]
+        return table([("status", self.status.name), *cost, *first_rows(values)])
+
 
 @dataclass(frozen=True, eq=False)
 class Explanation:
@@ -106,9 +148,15 @@ class Explanation:
     core: Optional[Tuple[Literal, ...]] = None
     is_minimal: bool = False
 
+    def _repr_html_(self) -> str:
+        """The status and the first literals of the core as a table, which notebooks show."""
+        core: List[Tuple[object, object]] = [("is_minimal", self.is_minimal)] if self.core is not None else []
+        literals: List[Tuple[object, object]] = [("core", literal) for literal in self.core or ()]
+        return table([("status", self.status.name), *core, *first_rows(literals)])
+
 
 @dataclass(frozen=True)
-class Fixed:
+class Fixed(_Named):
     """Which variables have one value in all assignments that were asked about: `Status.SATISFIABLE` where all is known,
     `Status.UNKNOWN` where the budget or the time limit cut it, and `Status.UNSATISFIABLE` where nothing is feasible."""
 
@@ -137,11 +185,16 @@ class Fixed:
         pairs = zip(self.names, self.statuses or b"")
         return {name: None if status == 2 else status == 1 for name, status in pairs if name is not None and status != 3}
 
+    def _repr_html_(self) -> str:
+        """The status and what is known of the first variables as a table, which notebooks show."""
+        words = ("False", "True", "both", "not known")
+        known = enumerate(self.statuses or b"", 1)
+        values: List[Tuple[object, object]] = [(self._name_of(number), words[status]) for number, status in known]
+        return table([("status", self.status.name), *first_rows(values)])
+
     def _number(self, literal: Union[Literal, str]) -> int:
         if isinstance(literal, str):
-            if literal not in self.names:
-                raise LookupError(f"no variable is named {literal!r}")
-            return self.names.index(literal) + 1
+            return self._number_of(literal)
         given = as_literal(literal)
         check_owners(given.owners, dict(self.owners))
         return given.number

@@ -8,15 +8,16 @@ from array import array
 from dataclasses import dataclass
 from fractions import Fraction
 from operator import index
-from typing import Dict, Iterable, List, Mapping, Optional, Tuple, Union
+from typing import Any, Dict, Iterable, List, Mapping, Optional, Tuple, Union
 
 from . import searches
-from .answers import Answer, Explanation, Fixed, Status
+from .answers import Answer, Explanation, Fixed, Names, Status
 from .errors import Error, refused
 from .jobs import Question, Reply, Statement
 from .library import AMONG, FORMATS, RELATIONS
-from .sums import MOST_VARIABLES, Constraint, Exact, Expression, Literal, Sum, total
+from .sums import MOST_VARIABLES, Constraint, Exact, Expression, Literal, Owner, Sum, total
 from .sums import as_constraint, as_literal, as_sum, check_owners, lower_bounds, tidy, whole
+from .tables import table
 
 _MOST_CONSTRAINTS = 4_194_304
 _MOST_TERMS = 16_777_216
@@ -37,14 +38,15 @@ class _Objective:
 
 
 class Model:
-    """Constraints over variables, and an objective. Coefficients and bounds may be fractions and floats, which are taken exactly."""
+    """Constraints over variables, and an objective. Coefficients and bounds may be fractions and floats, which are taken exactly.
+    Pickled and read again it is a copy, as `copy` makes."""
 
     def __init__(self) -> None:
         self._lock = threading.Lock()
-        self._owner = int.from_bytes(os.urandom(8), "little")  # known again also in another process
         self._inherited: Dict[int, int] = {}  # owners and greatest numbers of variables that were copied with their model
         self._variables = 0
         self._names: Dict[str, int] = {}
+        self._name_literals({})
         self._statements: List[Statement] = []
         self._terms = 0
         self._objective: Optional[_Objective] = None
@@ -54,18 +56,52 @@ class Model:
     def copy(self) -> Model:
         """A model of the same variables and rules, which takes more without this one. The literals that this one has are literals of
         both."""
-        copied = Model()
-        with self._lock:
-            copied._inherited = self._known()
-            copied._variables, copied._names = self._variables, dict(self._names)
-            copied._statements, copied._terms, copied._objective = list(self._statements), self._terms, self._objective
-            copied._has_wide_rules = self._has_wide_rules
+        copied = Model.__new__(Model)
+        copied.__setstate__(self.__getstate__())
         return copied
 
     __copy__ = copy
 
+    def __getstate__(self) -> Dict[str, Any]:
+        """What a copy has of this model."""
+        with self._lock:
+            return {
+                "_inherited": {int(owner): number for owner, number in self._known().items()},
+                "_variables": self._variables,
+                "_names": dict(self._names),
+                "_statements": list(self._statements),
+                "_terms": self._terms,
+                "_objective": self._objective,
+                "_has_wide_rules": self._has_wide_rules,
+            }
+
+    def __setstate__(self, state: Dict[str, Any]) -> None:
+        self.__init__()  # type: ignore[misc]
+        self.__dict__.update(state)
+        self._name_literals({number: name for name, number in self._names.items()})
+
+    def _name_literals(self, names: Dict[int, str]) -> None:
+        """Gives this model a number of its own, and names by the numbers of its variables, by which its literals are written."""
+        self._owner = Owner(int.from_bytes(os.urandom(8), "little"), names)  # known again also in another process
+        self._literals: Dict[str, Literal] = {}
+        self._ordered = Names()
+
     def __deepcopy__(self, _: object) -> Model:
         return self.copy()
+
+    def __repr__(self) -> str:
+        sizes = ", ".join(f"{number} {what}" for what, number in self._sizes())
+        return f"<Model: {sizes}, {'an' if self._objective else 'no'} objective>"
+
+    def _repr_html_(self) -> str:
+        """The same as a table, which notebooks show."""
+        return table([*self._sizes(), ("objective", "yes" if self._objective else "no")])
+
+    def _sizes(self) -> List[Tuple[str, int]]:
+        """How many variables, constraints and terms there are, with those of the objective."""
+        with self._lock:
+            terms = self._terms + (self._objective.terms if self._objective else 0)
+            return [("variables", self._variables), ("constraints", len(self._statements)), ("terms", terms)]
 
     def _known(self) -> Dict[int, int]:
         return {**self._inherited, self._owner: self._variables}
@@ -83,7 +119,10 @@ class Model:
                 raise Error("BadVariable")
             made = [Literal(number, name, self._owner) for number, name in enumerate(names, self._variables + 1)]
             self._variables += len(made)
-            self._names.update((literal.name, literal.number) for literal in made if literal.name is not None)
+            named = {literal.name: literal for literal in made if literal.name is not None}
+            self._names.update((name, literal.number) for name, literal in named.items())
+            self._literals.update(named)
+            self._owner.names.update((literal.number, name) for name, literal in named.items())
         return made
 
     def _check_names(self, names: List[Optional[str]]) -> None:
@@ -96,8 +135,9 @@ class Model:
             raise Error("NameTaken", f"a variable is named {taken!r} already: model[{taken!r}] is its literal")
 
     def __getitem__(self, name: str) -> Literal:
-        """The variable of that name. Raises KeyError where there is none."""
-        return Literal(self._names[name], name, self._owner)
+        """The variable of that name, the same object each time. Raises KeyError where there is none."""
+        literal = self._literals.get(name)
+        return self._literals.setdefault(name, Literal(self._names[name], name, self._owner)) if literal is None else literal
 
     def minimise(self, cost: Expression) -> None:
         """Makes the sum what is to be least, in place of an earlier objective."""
@@ -292,7 +332,7 @@ class Model:
         named = max((variables, *map(abs, numbers)))
         question: Question = (kind, numbers.tobytes(), other, named)
         with self._lock:
-            objective, names = self._objective, dict(self._names)
+            objective, names = self._objective, self._all_names()
             aim, terms = (objective.statement, objective.terms + self._terms) if objective else (None, self._terms)
             statements = searches.Statements(self._statements, len(self._statements), aim, terms)
             every, owners = self._variables, tuple(self._known().items())
@@ -304,9 +344,13 @@ class Model:
             self._kept = kept
         if told[3]:
             raise MemoryError if told[3][0] == "Memory" else Error(told[3][0])
-        by_number = {number: name for name, number in names.items()}
-        all_names = tuple(by_number.get(number) for number in range(1, every + 1)) if names else ()
-        return _Asked(told, every, all_names, owners, objective)
+        return _Asked(told, every, names, owners, objective)
+
+    def _all_names(self) -> Names:
+        """The names of all variables in order, which all answers share until there is another variable."""
+        if self._names and len(self._ordered) < self._variables:
+            self._ordered = Names(map(self._owner.names.get, range(1, self._variables + 1)))
+        return self._ordered
 
 
 @dataclass(frozen=True)
@@ -315,7 +359,7 @@ class _Asked:
 
     told: Reply
     variables: int
-    names: Tuple[Optional[str], ...]
+    names: Names
     owners: Tuple[Tuple[int, int], ...]
     objective: Optional[_Objective]
 

@@ -7,7 +7,7 @@ from dataclasses import dataclass, field
 from decimal import Decimal
 from fractions import Fraction
 from operator import index
-from typing import Iterable, Mapping, Optional, Tuple, Union
+from typing import Any, Dict, Iterable, Mapping, Optional, Tuple, Union
 
 from .errors import Error, ForeignLiteral
 
@@ -19,6 +19,20 @@ Number = Union[int, float, Fraction, Decimal]
 Terms = Tuple[Tuple[Exact, int], ...]
 Owners = Tuple[Tuple[int, int], ...]
 """Of each model whose variables occur: its own number, and the greatest number of a variable."""
+
+
+class Owner(int):
+    """The number of a model, and the names of its variables, by their numbers. Pickled it is the number alone."""
+
+    names: Dict[int, str]
+
+    def __new__(cls, number: int, names: Dict[int, str]) -> Owner:
+        owner = super().__new__(cls, number)
+        owner.names = names
+        return owner
+
+    def __reduce__(self) -> Tuple[Any, ...]:
+        return int, (int(self),)
 
 
 def exact(number: object) -> Exact:
@@ -64,6 +78,23 @@ def _joined(one: Owners, other: Owners) -> Owners:
     return tuple(greatest.items())
 
 
+def _spelled(literal: int, owners: Owners) -> str:
+    """The name of a literal's variable, or x and its number where it has none, behind a ~ where it is negated."""
+    number = abs(literal)
+    known = (owner.names for owner, greatest in owners if isinstance(owner, Owner) and number <= greatest)
+    name = next((names[number] for names in known if number in names), f"x{number}")
+    return f"{'~' if literal < 0 else ''}{name}"
+
+
+def _written(terms: Terms, constant: Exact, owners: Owners) -> str:
+    """The sum as it is read, like `2 x - ~y + 1`."""
+    parts = [(coefficient, f"{'' if abs(coefficient) == 1 else f'{abs(coefficient)} '}{_spelled(it, owners)}") for coefficient, it in terms]
+    if constant or not terms:
+        parts.append((constant, str(abs(constant))))
+    text = "".join(f" {'-' if number < 0 else '+'} {part}" for number, part in parts)
+    return f"-{text[3:]}" if text.startswith(" -") else text[3:]
+
+
 def check_owners(owners: Owners, known: Mapping[int, int]) -> None:
     """Raises ForeignLiteral unless each variable is of a model that is known, and up to the number that is known of it."""
     if any(number > known.get(owner, 0) for owner, number in owners):
@@ -72,13 +103,14 @@ def check_owners(owners: Owners, known: Mapping[int, int]) -> None:
 
 @dataclass(frozen=True, eq=False)
 class Literal:
-    """A variable, or its negation `~x`, which is worth 1 where the variable is False.
+    """A variable, or its negation `~x`, which is worth 1 where the variable is False. It is written as its name, behind a ~ where it
+    is negated. In a dict or a set it is found by itself: `model[name]` is always the same, and each `~x` is another.
 
     `model.variable` makes one. One that is made by its number alone is of every model."""
 
     number: int
-    name: Optional[str] = field(default=None, repr=False)
-    owner: Optional[int] = field(default=None, repr=False)
+    name: Optional[str] = None
+    owner: Optional[int] = None
 
     def __post_init__(self) -> None:
         if not 1 <= abs(index(self.number)) <= MOST_VARIABLES:
@@ -88,6 +120,11 @@ class Literal:
     def owners(self) -> Owners:
         """As those of a sum."""
         return () if self.owner is None else ((self.owner, abs(self.number)),)
+
+    def __repr__(self) -> str:
+        if self.name is None:
+            return f"Literal(number={self.number!r})"
+        return f"{'~' if self.number < 0 else ''}{self.name}"
 
     def __invert__(self) -> Literal:
         return Literal(-self.number, self.name, self.owner)
@@ -137,6 +174,9 @@ class Sum:
     terms: Terms = ()
     constant: Exact = 0
     owners: Owners = field(default=(), repr=False)
+
+    def __repr__(self) -> str:
+        return _written(self.terms, self.constant, self.owners)
 
     def __add__(self, other: Expression) -> Sum:
         added = as_sum(other)
@@ -221,7 +261,10 @@ class Constraint:
     terms: Terms
     relation: str
     bound: Exact
-    owners: Owners = field(default=(), repr=False, compare=False)
+    owners: Owners = field(default=(), compare=False)
+
+    def __repr__(self) -> str:
+        return f"{_written(self.terms, 0, self.owners)} {self.relation} {self.bound}"
 
     def __bool__(self) -> bool:
         raise TypeError("a constraint has no truth value: add it to a model")
