@@ -175,6 +175,119 @@ def pickle_facts():
     yield "sums", pickle.loads(pickle.dumps(2 * x + 1 >= y)) == (2 * x + 1 >= y)
 
 
+class Whole:
+    """A whole number of another package, as numpy has them."""
+
+    def __init__(self, number):
+        self.number = number
+
+    def __index__(self):
+        return self.number
+
+
+class Truth:
+    """A truth value of another package, which is no number."""
+
+    def __bool__(self):
+        return True
+
+
+class Array:
+    """Numbers of another package, which leaves operations with literals and sums to these."""
+
+    def __len__(self):
+        return 2
+
+
+def number_facts():
+    """Numbers of other packages on either side."""
+    model = Model()
+    x, y = model.variables("x y")
+    three = Whole(3)
+    cases = (
+        (three * x, "3 x"), (x * three, "3 x"), (x / three, "1/3 x"), (three + x, "x + 3"), (x + three, "x + 3"), (three - x, "-x + 3"),
+        (x - three, "x - 3"), (three * (x + y), "3 x + 3 y"), ((x + y) * three, "3 x + 3 y"), (x + y + three, "x + y + 3"),
+        (three + (x + y), "x + y + 3"), (x >= three, "x >= 3"), (three >= x, "x <= 3"), (three <= x + y, "x + y >= 3"),
+        (three == x, "x == 3"), (x + y == three, "x + y == 3"), (total([three, x]), "x + 3"), (sum([x, three, three * y]), "x + 3 y + 3"),
+    )  # fmt: skip
+    for it, text in cases:
+        yield f"{it!r} and not {text}", repr(it) == text
+    yield "numpy leaves them to the package", Literal.__array_ufunc__ is Sum.__array_ufunc__ is None
+    model.at_most(Whole(1), [x, y])
+    yield "values and counts", model.solve(Whole(9), start={"x": Whole(1), "y": None}).values == (False, False)
+    yield "variables", len(model.variables(Whole(2))) == 2
+
+
+def mistake_facts():
+    """What is likely to be written by mistake, and a part of what is said of it."""
+    model = Model()
+    x, y = model.variables("x y")
+    cases = (
+        (lambda: x in [y], "x.number in"), (lambda: x == y and x, "add it to a model"), (lambda: 1 <= x + y <= 2, "as two"),
+        (lambda: x > y, "write >="), (lambda: x < y, "write <="), (lambda: 2 * x > 1, "write >="), (lambda: 1 < x + y, "write >="),
+        (lambda: x != y, "x + y == 1"), (lambda: x + y != 1, "x + y == 1"), (lambda: x & y, "x + y >= 2"),
+        (lambda: x | y, "clause([x, y])"), (lambda: True | x, "clause([x, y])"), (lambda: x ^ y, "x + y == 1"), (lambda: not x, "~x"),
+        (lambda: x or y, "clause([x, y])"), (lambda: ~(x + y), "-sum"), (lambda: x * y, "new variable"),
+        (lambda: (x + 1) * y, "new variable"), (lambda: model.add(x), "x >= 1"), (lambda: model.add(x + y), "x + y >= 1"),
+        (lambda: model.implies(x, y + 1), "y + 1 >= 1"), (lambda: model.add(Truth()), "bool(value)"), (lambda: x * Truth(), "int(value)"),
+        (lambda: Truth() + x, "int(value)"), (lambda: x + y >= Truth(), "int(value)"), (lambda: Array() * x, "zip(numbers, variables)"),
+        (lambda: x + Array(), "zip(numbers, variables)"), (lambda: (x + y) * Array(), "zip(numbers, variables)"),
+        (lambda: Array() >= x, "zip(numbers, variables)"), (lambda: model.minimise(x >= 1), "model.add"),
+        (lambda: model.clause([1]), "model[name]"), (lambda: model.variables(1.5), "variables(3)"),
+        (lambda: model.solve("a.opb"), "Model.read(path)"), (lambda: Model.solve("a.opb"), "Model.read(path)"),
+        (lambda: Model("a.opb"), "Model.read(path)"), (lambda: solve(Path("a.opb")), "Model.read('a.opb', 'opb')"),
+        (lambda: model.solve(1.5), "whole number"), (lambda: model.solve(start="x"), "{x: True}"),
+        (lambda: model.solve(start=7), "{x: True}"),
+    )  # fmt: skip
+    for at, (call, said) in enumerate(cases):
+        fault = raised(call)
+        yield f"mistake {at}: {fault!r}", type(fault) is TypeError and said in str(fault)
+    for call in (lambda: model.solve(start=[True]), lambda: model.solve(start={"x": 2}), lambda: model.solve(start=[1, "y"])):
+        yield f"a start: {raised(call)!r}", type(raised(call)) is ValueError
+    yield "a number below 0", "from 0 to" in raised(lambda: model.variables(-1)).hint
+    text = str(TOP / "examples/tie.opb")
+    fault = raised(lambda: solve(text))
+    yield "the name of a file", isinstance(fault, Refused) and fault.hint.endswith(f"Model.read({text!r}, 'opb') reads that")
+    yield "one in a list before others", x in [x, y] and [y, x][1] is x
+    yield "nothing was added", repr(model) == "<Model: 2 variables, 0 constraints, 0 terms, no objective>"
+    yield "values in order", model.solve(start=[True, False]).status is model.solve(start=(1, 0)).status is Status.SATISFIABLE
+
+
+def gathered_facts():
+    """Sums go on with what others gathered, and yet none of them changes."""
+    model = Model()
+    x, y, z = model.variables("x y z")
+    begun = x + 2 * y
+    one, other, twice = begun + z, begun - z, begun + begun
+    texts = ["x + 2 y", "x + 2 y + z", "x + 2 y - z", "x + 2 y + x + 2 y", "x + 2 y + z + x + 1"]
+    yield "each is as it was made", [*map(repr, (begun, one, other, twice, one + 1 + x))] == texts and repr(one) == texts[1]
+    begun += z
+    yield "also by +=", (repr(begun), repr(one), repr(begun + 1)) == ("x + 2 y + z", "x + 2 y + z", "x + 2 y + z + 1")
+    for name in ("terms", "constant", "owners", "other"):
+        yield f"{name} is kept", isinstance(raised(lambda: setattr(begun, name, ())), AttributeError)
+    variables = model.variables(20_000)
+    begun = time.monotonic()
+    added = sum(3 * variable for variable in variables * 5)
+    seconds = time.monotonic() - begun
+    yield f"100,000 parts took {seconds} seconds", seconds < PATIENCE / 2
+    yield "and are all of them", added.terms == total(3 * variable for variable in variables * 5).terms == ((3, 4),) + added.terms[1:]
+    parts, made, ready = [1 * it for it in variables[:1000]], [], threading.Barrier(4)
+
+    def go_on():
+        ready.wait()
+        for part in parts:
+            made.append((x + y + 0 + part, part))
+            made.append((shared[0] + part, part))
+
+    shared = [x + y]
+    threads = [threading.Thread(target=go_on) for _ in range(4)]
+    for thread in threads:
+        thread.start()
+    for thread in threads:
+        thread.join()
+    yield "in threads", len(made) == 8000 and all(it.terms == ((1, 1), (1, 2), *part.terms) for it, part in made)
+
+
 def page_facts():
     """The block of docs/EMBEDDING.md, with what stands below it."""
     page = (TOP / "docs/EMBEDDING.md").read_text().split("\n## Python\n")[1]
@@ -693,11 +806,12 @@ def death_facts():
 
 
 def main():
-    calls = [name_facts, table_facts, many_name_facts, pickle_facts, value_facts, page_facts, wide_facts, copy_facts, question_facts, start_facts, random_facts, child_facts, kept_facts]
-    refusals = [foreign_facts, refusal_facts, room_facts, text_facts]
+    written = [name_facts, table_facts, many_name_facts, pickle_facts, number_facts, gathered_facts]
+    calls = [value_facts, page_facts, wide_facts, copy_facts, question_facts, start_facts, random_facts, child_facts, kept_facts]
+    refusals = [mistake_facts, foreign_facts, refusal_facts, room_facts, text_facts]
     interrupts = [lambda: interrupt_facts(os.kill), lambda: interrupt_facts(os.killpg), question_end_facts]
     ends = [*interrupts, exception_facts, limit_facts, death_facts]
-    facts = [fact for part in (*calls, *refusals, *ends) for fact in part()]
+    facts = [fact for part in (*written, *calls, *refusals, *ends) for fact in part()]
     wrong = [what for what, holds in facts if not holds]
     print(*(f"python: not so: {it}" for it in wrong), sep="\n", end="\n" if wrong else "")
     print(f"python: {len(facts) - len(wrong)} facts of the package hold, {len(wrong)} do not")

@@ -2,6 +2,7 @@
 
 from __future__ import annotations
 
+import os
 from typing import Dict
 
 _HINTS: Dict[str, str] = {
@@ -68,9 +69,16 @@ def _beginning(text: bytes) -> str:
     return ""
 
 
+def _is_path(text: bytes) -> bool:
+    """Whether the text is the name of a file that is there."""
+    return len(text) < 4096 and not set(text) & set(b"\n;") and os.path.isfile(text)
+
+
 def refused(name: str, line: int, text: bytes, format: str) -> Refused:
     """The refusal of a text in this format, with what may help."""
     begins = _beginning(text)
+    if _is_path(text):
+        return Refused(name, line, f"the text is the name of a file: Model.read({os.fsdecode(text)!r}, {format!r}) reads that")
     if text.startswith(b"\x1f\x8b"):
         return Refused(name, line, "the text is compressed by gzip: gzip.decompress reads it")
     if begins and begins != format:

@@ -8,7 +8,7 @@ from array import array
 from dataclasses import dataclass
 from fractions import Fraction
 from operator import index
-from typing import Any, Dict, Iterable, List, Mapping, Optional, Tuple, Union
+from typing import Any, Dict, Iterable, List, Mapping, NoReturn, Optional, Sequence, Tuple, Union
 
 from . import searches
 from .answers import Answer, Explanation, Fixed, Names, Status
@@ -41,7 +41,9 @@ class Model:
     """Constraints over variables, and an objective. Coefficients and bounds may be fractions and floats, which are taken exactly.
     Pickled and read again it is a copy, as `copy` makes."""
 
-    def __init__(self) -> None:
+    def __init__(self, *texts: NoReturn) -> None:
+        if texts:
+            raise TypeError("a model is made without a text: Model.read(path) reads a file or a text, and pbcube.solve(text) solves one")
         self._lock = threading.Lock()
         self._inherited: Dict[int, int] = {}  # owners and greatest numbers of variables that were copied with their model
         self._variables = 0
@@ -227,15 +229,16 @@ class Model:
         nodes: Optional[int] = None,
         *,
         assuming: Iterable[Literal] = (),
-        start: Union[Answer, Mapping[Union[Literal, str], bool], None] = None,
+        start: Union[Answer, Mapping[Union[Literal, str], bool], Sequence[bool], None] = None,
         time_limit: Optional[float] = None,
     ) -> Answer:
         """Searches for the least assignment in which the literals of `assuming` are true, with at most `nodes` decisions and for at
         most `time_limit` seconds where they are given. Where the time is up the answer is what smaller searches before found, as
         `Status.FOUND`, or `Status.UNKNOWN`.
 
-        A start is an answer of this model, or values of literals or names, all others being False. Searches try these values first,
-        until another start is given; only an answer that is cut depends on them.
+        A start is an answer of this model, values of literals or names, all others being False, or one value for each variable in order.
+        Searches try these values first, until another start is given; only an answer that is cut depends on them. Raises ValueError
+        where it has not as many values as there are variables, or one that is neither True nor False.
 
             >>> model = Model()
             >>> x, y = model.variables(2)
@@ -247,6 +250,8 @@ class Model:
             >>> model.solve(start={x: True, y: True}).cost
             5
         """
+        if not isinstance(self, Model):
+            raise TypeError(f"Model.solve is asked of a model, and not of {self!r}: Model.read(path).solve() solves a file")
         given = self._own(assuming)
         first = None if start is None else self._values_of(start)
         reply = self._ask("solve", given, first, nodes, time_limit, 0)
@@ -302,7 +307,7 @@ class Model:
             return Fixed(Status.UNSATISFIABLE, None, reply.names, reply.owners)
         return Fixed(Status(status), statuses or b"\3" * reply.variables, reply.names, reply.owners)
 
-    def _values_of(self, start: Union[Answer, Mapping[Union[Literal, str], bool]]) -> bytes:
+    def _values_of(self, start: Union[Answer, Mapping[Union[Literal, str], bool], Sequence[bool]]) -> bytes:
         """The values to be tried first, as bytes 0 and 1."""
         if isinstance(start, Answer):
             check_owners(start.owners or (), self._known())
@@ -310,11 +315,13 @@ class Model:
                 raise LookupError("nothing was found")
             return bytes(start.values)
         values = bytearray(self._variables)
+        if not isinstance(start, Mapping) and not hasattr(start, "items"):
+            return _values_in_order(start, len(values))
         for key, value in start.items():
             [literal] = self._own([self[key] if isinstance(key, str) else key])
             if abs(literal.number) > len(values):
                 raise LookupError(f"no variable {abs(literal.number)} among {len(values)}")
-            values[abs(literal.number) - 1] = bool(value) == (literal.number > 0)
+            values[abs(literal.number) - 1] = _truth(value) == (literal.number > 0)
         return bytes(values)
 
     def _ask(
@@ -364,15 +371,36 @@ class _Asked:
     objective: Optional[_Objective]
 
 
+def _truth(value: object) -> bool:
+    """The value of a variable in a start. None, as `Fixed` tells, is False."""
+    known = index(value) if hasattr(value, "__index__") else value
+    if known is not None and known not in (0, 1):
+        raise ValueError(f"a value in a start is True or False, or 1 or 0, and not {value!r}")
+    return bool(known)
+
+
+def _values_in_order(start: Sequence[bool], count: int) -> bytes:
+    """The values of so many variables as bytes 0 and 1."""
+    if isinstance(start, (str, bytes)) or not hasattr(start, "__len__") or not hasattr(start, "__getitem__"):
+        raise TypeError(f"no start: {start!r}: write an answer, or a dict of values by variables or names, as {{x: True}}")
+    if len(start) != count:
+        others = f"and not {len(start)}: of some write a dict, as {{x: True}}"
+        raise ValueError(f"a start in order has a value for each of {count} variables, {others}")
+    return bytes(map(_truth, start))
+
+
 def _names_of(count: object) -> List[Optional[str]]:
     """A name or none for each of the variables that are asked for."""
     if isinstance(count, str):
         return [*count.split()]
-    if not hasattr(count, "__index__"):
-        return [*count]  # type: ignore[misc]
-    if not 0 <= index(count) <= MOST_VARIABLES:  # type: ignore[arg-type]
-        raise Error("BadVariable")
-    return [None] * index(count)  # type: ignore[arg-type]
+    if hasattr(count, "__index__"):
+        number = index(count)
+        if not 0 <= number <= MOST_VARIABLES:
+            raise Error("BadVariable", f"{number} variables are asked for: write a number from 0 to {MOST_VARIABLES}")
+        return [None] * number
+    if not isinstance(count, Iterable):
+        raise TypeError(f"neither a number of variables nor names: {count!r}: write variables(3), or variables('x y z')")
+    return [*count]
 
 
 def _compact(numbers: List[int], *others: int) -> Union[array[int], List[int]]:
@@ -425,6 +453,8 @@ def solve(text: Union[str, bytes], format: str = "opb", nodes: Optional[int] = N
     """
     if format not in FORMATS:
         raise ValueError(f"no format: {format!r}")
+    if isinstance(text, os.PathLike):
+        raise TypeError(f"a path is no text: Model.read({os.fspath(text)!r}, {format!r}).solve() solves the file")
     budget, deadline = searches.budget(nodes), searches.deadline_of(time_limit)
     data = text.encode("utf-8", "surrogateescape") if isinstance(text, str) else bytes(memoryview(text))
     reply = searches.search(("text", data, FORMATS[format]), budget, deadline)

@@ -7,7 +7,7 @@ from dataclasses import dataclass, field
 from decimal import Decimal
 from fractions import Fraction
 from operator import index
-from typing import Any, Dict, Iterable, Mapping, Optional, Tuple, Union
+from typing import Any, Dict, Iterable, List, Mapping, NoReturn, Optional, Sequence, Tuple, Union
 
 from .errors import Error, ForeignLiteral
 
@@ -34,9 +34,14 @@ class Owner(int):
     def __reduce__(self) -> Tuple[Any, ...]:
         return int, (int(self),)
 
+    def __deepcopy__(self, _: object) -> Owner:
+        return self
+
 
 def exact(number: object) -> Exact:
     """The number, whole or as a fraction, with the value that it has: a float is what Python holds, and 0.1 is not 1/10."""
+    if type(number) is int:
+        return number
     if isinstance(number, Fraction):
         return tidy(number)
     try:
@@ -44,11 +49,24 @@ def exact(number: object) -> Exact:
     except TypeError:
         pass
     if not hasattr(number, "as_integer_ratio"):
-        raise TypeError(f"no number: {number!r}")
+        raise TypeError(f"no number: {number!r}{_advice(number)}")
     try:
         return tidy(Fraction(*number.as_integer_ratio()))
     except (OverflowError, ValueError):
         raise Error("NotFinite", f"{number} is no finite number: leave out a bound that is infinite") from None
+
+
+def _advice(value: object) -> str:
+    """What to write in place of a value that is no number, behind a colon, where there is something to be told."""
+    if isinstance(value, (Literal, Sum)):
+        return ": put a new variable in place of each product, with constraints that make it the product"
+    if isinstance(value, Constraint):
+        return ": a constraint is no sum: `model.add` adds it, and `model.implies(z, constraint)` where a new variable z is true"
+    if isinstance(value, (str, bytes)) or value is None or isinstance(value, complex):
+        return ""
+    if hasattr(value, "__len__"):
+        return ": take one item after the other, as total(number * x for number, x in zip(numbers, variables))"
+    return ": write int(value) where it is a truth value" if hasattr(value, "__bool__") else ""
 
 
 def tidy(number: Exact) -> Exact:
@@ -72,6 +90,8 @@ def whole(terms: Terms, bound: Exact = 0) -> Tuple[int, list[int], int]:
 def _joined(one: Owners, other: Owners) -> Owners:
     if one == other or not other:
         return one
+    if len(one) == len(other) == 1 and one[0][0] == other[0][0]:
+        return max(one, other)  # of one model, as nearly always
     greatest = dict(one)
     for owner, number in other:
         greatest[owner] = max(number, greatest.get(owner, 0))
@@ -101,8 +121,35 @@ def check_owners(owners: Owners, known: Mapping[int, int]) -> None:
         raise ForeignLiteral()
 
 
+class _Operand:
+    """What literals and sums refuse, with what to write instead."""
+
+    __slots__ = ()
+    __array_ufunc__ = None  # so numpy leaves each operation with its numbers and arrays to these classes
+
+    def __lt__(self, other: NoReturn) -> NoReturn:
+        raise TypeError("a sum is not compared by <: write <= and the greatest number that is allowed, as x + y <= 1 for x + y < 2")
+
+    def __gt__(self, other: NoReturn) -> NoReturn:
+        raise TypeError("a sum is not compared by >: write >= and the least number that is allowed, as x + y >= 2 for x + y > 1")
+
+    def __ne__(self, other: object) -> NoReturn:
+        raise TypeError("a sum is not compared by !=: write x + y == 1 where two literals are to differ, and else <= or >=")
+
+    def __and__(self, other: NoReturn) -> NoReturn:
+        raise TypeError("literals are not joined by &: write model.add(x + y >= 2) where both are to be true")
+
+    def __or__(self, other: NoReturn) -> NoReturn:
+        raise TypeError("literals are not joined by |: write model.clause([x, y]) where one is to be true")
+
+    def __xor__(self, other: NoReturn) -> NoReturn:
+        raise TypeError("literals are not joined by ^: write model.add(x + y == 1) where exactly one is to be true")
+
+    __rand__, __ror__, __rxor__ = __and__, __or__, __xor__
+
+
 @dataclass(frozen=True, eq=False)
-class Literal:
+class Literal(_Operand):
     """A variable, or its negation `~x`, which is worth 1 where the variable is False. It is written as its name, behind a ~ where it
     is negated. In a dict or a set it is found by itself: `model[name]` is always the same, and each `~x` is another.
 
@@ -164,23 +211,64 @@ class Literal:
     __hash__ = object.__hash__
 
     def __bool__(self) -> bool:
-        raise TypeError("a literal has no truth value: an answer tells it")
+        raise TypeError(
+            "a literal has no truth value: an answer tells it, as answer[x]; to a model write ~x for `not x`, "
+            "model.clause([x, y]) for `x or y`, and model.add(x + y >= 2) for `x and y`"
+        )
 
 
-@dataclass(frozen=True, eq=False)
-class Sum:
-    """A sum of literals with coefficients, and a number. Each `+` makes a new one: of very many parts, take their `total`."""
+class Sum(_Operand):
+    """A sum of literals with coefficients, and a number. Each `+` makes a new one, and takes time by what it adds to the left side the
+    first time, and by both sides when the left side is added to again."""
 
-    terms: Terms = ()
-    constant: Exact = 0
-    owners: Owners = field(default=(), repr=False)
+    __slots__ = ("_terms", "_gathered", "_count", "_free", "_constant", "_owners", "__weakref__")
+
+    def __init__(self, terms: Terms = (), constant: Exact = 0, owners: Owners = ()) -> None:
+        self._terms: Optional[Terms] = terms
+        self._gathered: Sequence[Tuple[Exact, int]] = ()  # the first of these are the terms, where these are not there yet
+        self._count = 0
+        self._free: Optional[List[List[Tuple[Exact, int]]]] = None  # what was gathered, until a sum that goes on with it takes it
+        self._constant = constant
+        self._owners = owners
+
+    @property
+    def terms(self) -> Terms:
+        """Coefficients, each with the number of a variable, negative where it is negated."""
+        if self._terms is None:
+            self._terms = tuple(self._gathered[: self._count])
+        return self._terms
+
+    @property
+    def constant(self) -> Exact:
+        """The number that is added to the terms."""
+        return self._constant
+
+    @property
+    def owners(self) -> Owners:
+        """The models of its variables."""
+        return self._owners
 
     def __repr__(self) -> str:
         return _written(self.terms, self.constant, self.owners)
 
+    def __reduce__(self) -> Tuple[Any, ...]:
+        return type(self), (self.terms, self.constant, self.owners)
+
     def __add__(self, other: Expression) -> Sum:
         added = as_sum(other)
-        return Sum(self.terms + added.terms, tidy(self.constant + added.constant), _joined(self.owners, added.owners))
+        made = Sum((), tidy(self._constant + added._constant), _joined(self._owners, added._owners))
+        more = added.terms
+        gathered = self._to_go_on()
+        gathered += more
+        made._terms, made._gathered, made._count, made._free = None, gathered, len(gathered), [gathered]
+        return made
+
+    def _to_go_on(self) -> List[Tuple[Exact, int]]:
+        """The terms in a list to which nobody else appends: the one that was gathered, which only the first who asks is given."""
+        try:
+            return self._free.pop() if self._free else [*self.terms]
+        except IndexError:  # another thread was the first
+            return [*self.terms]
 
     __radd__ = __add__
 
@@ -189,6 +277,9 @@ class Sum:
         return Sum(tuple((tidy(by * coefficient), literal) for coefficient, literal in self.terms), tidy(by * self.constant), self.owners)
 
     __rmul__ = __mul__
+
+    def __invert__(self) -> NoReturn:
+        raise TypeError("a sum is not negated by ~: write -sum for its negative, and ~x for each of its literals")
 
     def __truediv__(self, divisor: Number) -> Sum:
         return self * (1 / Fraction(exact(divisor)))
@@ -218,7 +309,7 @@ class Sum:
     __hash__ = object.__hash__
 
     def __bool__(self) -> bool:
-        raise TypeError("a sum has no truth value: compare it")
+        raise TypeError("a sum has no truth value: compare it, as x + y >= 1; an answer tells its value, as answer.value(x + y)")
 
 
 Expression = Union[Literal, Sum, Number]
@@ -234,18 +325,18 @@ def as_sum(value: object) -> Sum:
     try:
         return Sum(constant=exact(value))
     except TypeError:
-        raise TypeError(f"no sum of literals: {value!r}") from None
+        raise TypeError(f"no sum of literals: {value!r}{_advice(value)}") from None
 
 
 def as_literal(value: object) -> Literal:
     """The literal that this is."""
     if isinstance(value, Literal):
         return value
-    raise TypeError(f"no literal: {value!r}")
+    raise TypeError(f"no literal: {value!r}: write a variable of the model, as model.variable() makes one or model[name] is one, or its ~")
 
 
 def total(parts: Iterable[Expression]) -> Sum:
-    """The sum of all parts, 0 of none, in time by their number, where `sum` takes it by the square of that."""
+    """The sum of all parts. It is what `sum` gives, but of none a `Sum` too."""
     sums = [as_sum(part) for part in parts]
     owners: Owners = ()
     for each in sums:
@@ -267,7 +358,10 @@ class Constraint:
         return f"{_written(self.terms, 0, self.owners)} {self.relation} {self.bound}"
 
     def __bool__(self) -> bool:
-        raise TypeError("a constraint has no truth value: add it to a model")
+        raise TypeError(
+            "a constraint has no truth value: add it to a model, and 1 <= x + y <= 2 as two; whether two literals are one is told by "
+            "x.number == y.number, and `x in literals` by x.number in {it.number for it in literals}"
+        )
 
 
 def as_constraint(value: object) -> Constraint:
@@ -276,7 +370,10 @@ def as_constraint(value: object) -> Constraint:
         return Constraint((), ">=", 0 if value else 1)
     if isinstance(value, Constraint):
         return value
-    raise TypeError(f"no constraint: {value!r}")
+    if isinstance(value, (Literal, Sum)):
+        raise TypeError(f"no constraint: {value!r}: compare it, as {value!r} >= 1")
+    is_truth = hasattr(value, "__bool__") and not (value is None or isinstance(value, (int, float, complex)))
+    raise TypeError(f"no constraint: {value!r}{': write bool(value) where it is a truth value' if is_truth else ''}")
 
 
 def lower_bounds(constraint: Constraint) -> list[Constraint]:
