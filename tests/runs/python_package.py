@@ -19,21 +19,29 @@ import re
 import signal
 import subprocess
 import sys
+import tempfile
 import threading
 import time
+from dataclasses import replace
 from decimal import Decimal
 from fractions import Fraction
 from pathlib import Path
 
 sys.dont_write_bytecode = True
 sys.path.insert(0, str(Path(__file__).resolve().parents[1]))
-from lib import TOP, callers
+from lib import FORMATS, TOP, callers
 from lib.callers import PYTHON
+from lib.draws import instances
+from lib.formats import Refused as FormatRefused
+from lib.formats import read
+from lib.worked_texts import SPOILED, WORKED
 
 callers.package()
 from pbcube import Answer, Constraint, Error, Explanation, Fixed, ForeignLiteral, Literal, Model, Refused, Status, Sum, solve, total
 
 MODELS = 150
+INSTANCES = 300
+SPOILS = (b";", b"-", b"\n", b"\xff", b"*", b"0", b"~", b":", b"%", b"\r", b"c")  # bytes that change what a text spells
 IN_CHILD = 6  # of which each has to start
 PATIENCE = 30  # seconds, of a machine that may be busy; no search that is ended here would end by itself in so few
 RELATIONS = {">=": operator.ge, "<=": operator.le, "==": operator.eq}
@@ -446,6 +454,121 @@ def text_facts():
         yield f"{text!r}: {fault!r}", is_told and str(fault) == text_again == f"{fault.name} at line {line}: {fault.hint}"
 
 
+# ---- models as texts
+
+WRITTEN = """* #variable= 4 #constraint= 7
+min: -1 x1 4 ~x2 36893488147419103232 x2 ;
+1 x1 1 ~x2 1 x4 >= 1 ;
+2 x1 6 ~x2 >= 3 ;
+1 x1 -1 x2 <= 0 ;
+1 x1 1 x3 = 1 ;
+18446744073709551616 x1 >= -1 ;
+>= 1 ;
+0 x4 -3 x1 >= -2 ;
+"""
+
+
+def written_facts():
+    """A model as a text, in a file, and read from both."""
+    model = Model()
+    x, y, z, w = model.variables(["x", "x1", "<=", "w w"])
+    model.maximise(x / 4 - ~y - 2**63 * y + 7)
+    model.clause([x, ~y, w])
+    model.add(x / 3 + ~y >= 0.5)
+    model.add(x <= y)
+    model.exactly(1, [x, z])
+    model.add(2**64 * x >= -1)
+    model.add(sum([]) == 1)
+    model.add(0 * w - 3 * x >= -2)
+    yield f"written: {model.text()}", model.text() == model.copy().text() == WRITTEN
+    yield "of nothing", Model().text() == "* #variable= 0 #constraint= 0\n" and Model.read("").text() == Model().text()
+    with tempfile.TemporaryDirectory() as folder:
+        path = Path(folder) / "a model.opb"
+        model.write(path)
+        yield "in a file", path.read_bytes() == WRITTEN.encode()
+        model.write(str(path))
+        again = [Model.read(it) for it in (path, str(path), WRITTEN, WRITTEN.encode(), bytearray(WRITTEN, "ascii"))]
+        yield "read again", [it.text() for it in again] == [WRITTEN] * 5
+        missing = raised(lambda: Model.read(str(path.with_suffix(".cnf"))))
+        yield f"no such file: {missing}", isinstance(missing, FileNotFoundError) and "a text has a ';'" in str(missing)
+    yield "names", [again[0][f"x{number}"].number for number in range(1, 5)] == [1, 2, 3, 4] and "x5" not in again[0]._names
+    yield "the same answer", again[0].solve().values == model.solve().values
+    yield "no format", type(raised(lambda: Model.read(TEXT, "lp"))) is ValueError
+    read = Model.read("p inccnf\n1 2 0\nc a note\n-1 0\na 1 -3 0\na 0\n%\n", "icnf")
+    cubes = ((read["x1"].number, -read["x3"].number), ())
+    numbers = [tuple(tuple(it.number for it in cube) for cube in it.cubes) for it in (read, read.copy(), pickle.loads(pickle.dumps(read)))]
+    yield "cubes", numbers == [cubes] * 3 and repr(read.cubes) == "((x1, ~x3), ())" and model.cubes == ()
+    yield "which no text has", read.text() == "* #variable= 3 #constraint= 2\n1 x1 1 x2 >= 1 ;\n1 ~x1 >= 1 ;\n"
+    yield "and which are literals of the model", raised(lambda: read.clause(read.cubes[0])) is None
+
+
+def read_facts():
+    """Each instance that is read is the one that docs/FORMATS.md tells, by a reader of the tests, and reads again as it is written."""
+    files = [it for it in sorted((TOP / "examples").rglob("*.*")) if it.suffix[1:] in FORMATS]
+    for path in files:
+        yield str(path), is_read_alike(path.suffix[1:], path.read_bytes()) and Model.read(path, path.suffix[1:]).text() is not None
+    yield "of each format", {it.suffix[1:] for it in files} == {*FORMATS}
+    for number, instance in enumerate(instances(INSTANCES)):
+        yield f"instance {number}", is_read_alike(instance.format, instance.text().encode())
+    random.seed(11)
+    for number in range(INSTANCES // 6):
+        text = drawn_model()[0].text()
+        yield f"model {number}", Model.read(text).text() == text and is_read_alike("opb", text.encode())
+    texts = [(format, text) for format, text, *_ in (*WORKED, *SPOILED)]
+    for format, text in texts:
+        yield f"{format}: {text!r}", is_read_alike(format, text)
+    for format, text in SPOILED:
+        spoiled = [text[:at] + more + text[at + cut :] for at in range(len(text) + 1) for more in (b"", *SPOILS) for cut in (0, 1)]
+        wrong = [it for it in [*spoiled, *(text[:at] for at in range(len(text)))] if not is_read_alike(format, it)]
+        yield f"{format} that is spoiled: {wrong[:3]}", wrong == []
+    zeros, digits = b"0" * 5000, b"9" * 5000
+    for text in (zeros + b"1 x1 >= 1 ;", digits + b" x1 >= 1 ;", b"1 x" + digits + b" >= 1 ;", b"* #variable= " + digits):
+        yield f"long: {text[:3]} {text[-9:]}", refusal_of("opb", text) == ("" if text[:1] == b"0" else long_fault(text))
+
+
+def long_fault(text):
+    return f"{'TooLarge' if text[:1] == b'9' else 'BadVariable' if text[:1] == b'1' else 'TooMany'} at line 1"
+
+
+def refusal_of(format, text):
+    """The fault that a text is refused with, and its line; nothing where it is read."""
+    fault = raised(lambda: Model.read(text, format))
+    return f"{fault.name} at line {fault.line}" if isinstance(fault, Refused) else "" if fault is None else repr(fault)
+
+
+def is_read_alike(format, text):
+    """Whether a text is read, or refused, as the reader of the tests does, and is spelled by the model where it is read."""
+    try:
+        instance = replace(read(format, text), is_cnf=False)
+    except FormatRefused as fault:
+        return refusal_of(format, text) == str(fault)
+    written = Model.read(text, format).text()
+    return written == instance.text() == Model.read(written).text()
+
+
+def limit_of_text_facts():
+    """Texts beyond the limits, with small ones in their place, and what is said of refused texts."""
+    module, texts = sys.modules["pbcube.model"], sys.modules["pbcube.texts"]
+    held = module._MOST_CONSTRAINTS, module._MOST_TERMS, texts.MOST_CUBES
+    module._MOST_CONSTRAINTS, module._MOST_TERMS, texts.MOST_CUBES = 2, 6, 2
+    cases = (
+        ("opb", ">= 0 ;\n>= 0 ;", ""), ("opb", ">= 0 ;\n\n>= 0 ;\n>= 0 ;", "TooMany at line 4"),
+        ("opb", "min: 1 x1 1 x1 1 x1 1 x1 1 x1 1 x1 1 x1 ;", "TooMany at line 1"), ("opb", "1 x1 " * 6 + "= 1 ;", ""),
+        ("opb", "min: 1 x1 ;\n" + "1 x1 " * 6 + ">= 1 ;", "TooMany at line 2"),
+        ("cnf", "p cnf 1 3\n", "TooMany at line 1"), ("cnf", "p cnf 1 2\n1 1 1 1 0\n1 1\n1 0", "TooMany at line 3"),
+        ("icnf", "p inccnf\n1 0 1 0 1 0", "TooMany at line 2"), ("icnf", "p inccnf\na 1 0\na 0\na 1 0", "TooMany at line 4"),
+        ("icnf", "p inccnf\na 1 1 1 1 0\na 1 1 1 0\n", "TooMany at line 3"), ("icnf", "p inccnf\na 1 1 1 0\na 1 1 1 0\n", ""),
+    )  # fmt: skip
+    for format, text, told in cases:
+        yield f"{format}: {text!r}", refusal_of(format, text.encode()) == told
+    module._MOST_CONSTRAINTS, module._MOST_TERMS, texts.MOST_CUBES = held
+    for format, text, name, line, hint in REFUSED:
+        fault = raised(lambda: Model.read(text.encode("latin-1"), format))
+        is_told = isinstance(fault, Refused) and (fault.name, fault.line) == (name, line)
+        yield f"{text!r} as a model: {fault!r}", is_told and hint.replace("solve(", "Model.read(") in fault.hint
+    yield "a str", raised(lambda: Model.read("1 x1 >= 1 ;\n1 x1")).line == 2
+
+
 # ---- random models beside a listing
 
 
@@ -806,9 +929,9 @@ def death_facts():
 
 
 def main():
-    written = [name_facts, table_facts, many_name_facts, pickle_facts, number_facts, gathered_facts]
+    written = [name_facts, table_facts, many_name_facts, pickle_facts, number_facts, gathered_facts, written_facts, read_facts]
     calls = [value_facts, page_facts, wide_facts, copy_facts, question_facts, start_facts, random_facts, child_facts, kept_facts]
-    refusals = [mistake_facts, foreign_facts, refusal_facts, room_facts, text_facts]
+    refusals = [mistake_facts, foreign_facts, refusal_facts, room_facts, text_facts, limit_of_text_facts]
     interrupts = [lambda: interrupt_facts(os.kill), lambda: interrupt_facts(os.killpg), question_end_facts]
     ends = [*interrupts, exception_facts, limit_facts, death_facts]
     facts = [fact for part in (*written, *calls, *refusals, *ends) for fact in part()]

@@ -74,15 +74,15 @@ def _is_path(text: bytes) -> bool:
     return len(text) < 4096 and not set(text) & set(b"\n;") and os.path.isfile(text)
 
 
-def refused(name: str, line: int, text: bytes, format: str) -> Refused:
-    """The refusal of a text in this format, with what may help."""
+def refused(name: str, line: int, text: bytes, format: str, reads: str = "solve") -> Refused:
+    """The refusal of a text in this format by the call of that name, with what may help."""
     begins = _beginning(text)
     if _is_path(text):
         return Refused(name, line, f"the text is the name of a file: Model.read({os.fsdecode(text)!r}, {format!r}) reads that")
     if text.startswith(b"\x1f\x8b"):
         return Refused(name, line, "the text is compressed by gzip: gzip.decompress reads it")
     if begins and begins != format:
-        return Refused(name, line, f"the text begins as one in the format {begins!r}: solve(text, {begins!r}) reads it")
+        return Refused(name, line, f"the text begins as one in the format {begins!r}: {reads}(text, {begins!r}) reads it")
     if name == "Syntax" and format == "opb" and b"max:" in text:
         return Refused(name, line, "there is no 'max:': write 'min:' of the sum with its signs turned")
     return Refused(name, line)

@@ -10,13 +10,13 @@ from fractions import Fraction
 from operator import index
 from typing import Any, Dict, Iterable, List, Mapping, NoReturn, Optional, Sequence, Tuple, Union
 
-from . import searches
+from . import searches, texts
 from .answers import Answer, Explanation, Fixed, Names, Status
-from .errors import Error, refused
+from .errors import Error, Refused, refused
 from .jobs import Question, Reply, Statement
 from .library import AMONG, FORMATS, RELATIONS
 from .sums import MOST_VARIABLES, Constraint, Exact, Expression, Literal, Owner, Sum, total
-from .sums import as_constraint, as_literal, as_sum, check_owners, lower_bounds, tidy, whole
+from .sums import as_constraint, as_literal, as_sum, check_owners, compact, lower_bounds, tidy, whole
 from .tables import table
 
 _MOST_CONSTRAINTS = 4_194_304
@@ -39,13 +39,17 @@ class _Objective:
 
 class Model:
     """Constraints over variables, and an objective. Coefficients and bounds may be fractions and floats, which are taken exactly.
-    Pickled and read again it is a copy, as `copy` makes."""
+    Pickled and read again it is a copy, as `copy` makes.
+
+    `cubes` are those of the text in iCNF that it was read from, each as its literals, and else none. They divide the work of other
+    programs, and no answer here depends on them."""
 
     def __init__(self, *texts: NoReturn) -> None:
         if texts:
             raise TypeError("a model is made without a text: Model.read(path) reads a file or a text, and pbcube.solve(text) solves one")
         self._lock = threading.Lock()
         self._inherited: Dict[int, int] = {}  # owners and greatest numbers of variables that were copied with their model
+        self.cubes: Tuple[Tuple[Literal, ...], ...] = ()
         self._variables = 0
         self._names: Dict[str, int] = {}
         self._name_literals({})
@@ -69,6 +73,7 @@ class Model:
         with self._lock:
             return {
                 "_inherited": {int(owner): number for owner, number in self._known().items()},
+                "cubes": self.cubes,
                 "_variables": self._variables,
                 "_names": dict(self._names),
                 "_statements": list(self._statements),
@@ -104,6 +109,62 @@ class Model:
         with self._lock:
             terms = self._terms + (self._objective.terms if self._objective else 0)
             return [("variables", self._variables), ("constraints", len(self._statements)), ("terms", terms)]
+
+    @classmethod
+    def read(cls, path_or_text: Union[str, bytes, os.PathLike[str]], format: str = "opb") -> Model:
+        """The model that a file or a text spells, in the format 'opb', 'cnf' or 'icnf', with variables that are named x1, x2 and so on.
+
+        Bytes are a text, and so is a str that has a ';' or a line break, is blank, or begins with 'p ', 'c ' or '* '; any other str
+        names a file. Raises Refused, with the fault's name, its line and what may help, where the text is not of the format, and
+        OSError where the file cannot be read.
+
+            >>> model = Model.read("min: 2 x1 3 x2 ;\\n1 x1 1 x2 >= 1 ;\\n")
+            >>> model.add(model["x2"] >= 1)
+            >>> print(model.text(), end="")
+            * #variable= 2 #constraint= 2
+            min: 2 x1 3 x2 ;
+            1 x1 1 x2 >= 1 ;
+            1 x2 >= 1 ;
+        """
+        if format not in FORMATS:
+            raise ValueError(f"no format: {format!r}")
+        text = texts.bytes_of(path_or_text)
+        model, line = cls(), 1
+        reader, cubes = texts.Reader(text, format, _MOST_CONSTRAINTS), texts.Cubes(_MOST_TERMS)
+        try:
+            for line, statement in reader.statements():
+                if statement[0] == "cube":
+                    cubes.append(statement[2])
+                else:
+                    model._tell_read(statement)
+        except Error as fault:
+            at = fault.line if isinstance(fault, Refused) else line
+            raise refused(fault.name, at, text, format, "Model.read") from None
+        variables = model.variables(f"x{number}" for number in range(1, reader.variables + 1))
+        model.cubes = tuple(tuple(variables[it - 1] if it > 0 else ~variables[-it - 1] for it in cube) for cube in cubes.read)
+        return model
+
+    def _tell_read(self, statement: Statement) -> None:
+        kind, _, numbers = statement
+        terms = len(numbers) if kind == "or" else len(numbers) // 2
+        if kind == "min":
+            self._set_objective(_Objective(statement, terms, 1, 0))
+        else:
+            self._tell(statement, terms)
+
+    def text(self) -> str:
+        """The model as a text in OPB, whose variables are numbered from x1 on in the order in which they were made. An objective that is
+        to be greatest is negated, and has no constant; numbers that are not whole are multiplied until they are. Cubes are left out."""
+        with self._lock:
+            objective = [self._objective.statement] if self._objective else []
+            variables, statements = self._variables, [*objective, *self._statements]
+        return texts.opb(variables, statements)
+
+    def write(self, path: Union[str, os.PathLike[str]]) -> None:
+        """Writes `text` to a file. Raises OSError where it cannot be written."""
+        text = self.text().encode("ascii")
+        with open(path, "wb") as file:
+            file.write(text)
 
     def _known(self) -> Dict[int, int]:
         return {**self._inherited, self._owner: self._variables}
@@ -152,10 +213,12 @@ class Model:
     def _aim(self, aim: Sum, sign: int) -> None:
         check_owners(aim.owners, self._known())
         factor, numbers, _ = whole((aim * sign).terms)
+        self._set_objective(_Objective(("min", 0, compact(numbers)), len(aim.terms), factor * sign, aim.constant))
+
+    def _set_objective(self, objective: _Objective) -> None:
         with self._lock:
-            self._check_room(len(aim.terms))
-            statement = ("min", 0, _compact(numbers))
-            self._objective = _Objective(statement, len(aim.terms), factor * sign, aim.constant)
+            self._check_room(objective.terms)
+            self._objective = objective
 
     def add(self, constraint: Union[Constraint, bool]) -> None:
         """Adds a constraint, as `2 * x + 3 * ~y >= 2`. Raises Error, and adds nothing, where it is refused. What Python itself
@@ -171,7 +234,7 @@ class Model:
         if rule.relation not in RELATIONS:
             raise ValueError(f"no relation: {rule.relation!r}")
         _, numbers, bound = whole(rule.terms, rule.bound)
-        self._tell((rule.relation, bound, _compact(numbers, bound)), len(rule.terms))
+        self._tell((rule.relation, bound, compact(numbers, bound)), len(rule.terms))
 
     def clause(self, literals: Iterable[Literal]) -> None:
         """Adds that at least one of the literals is true."""
@@ -403,12 +466,6 @@ def _names_of(count: object) -> List[Optional[str]]:
     return [*count]
 
 
-def _compact(numbers: List[int], *others: int) -> Union[array[int], List[int]]:
-    """The numbers in little space, where these and the others fit 64 bits."""
-    fit = all(-(2**63) <= number < 2**63 for number in (*others, *numbers))
-    return array("q", numbers) if fit else numbers
-
-
 def _ask_text(statements: searches.Statements, question: Question, nodes: int, deadline: Optional[float]) -> Reply:
     """What is found where some number is greater than is told term by term: the statements go as a text, and each literal that is to
     be true as one more."""
@@ -417,18 +474,8 @@ def _ask_text(statements: searches.Statements, question: Question, nodes: int, d
         raise Error("TooLarge", "the numbers of a model are below 2**63 where it is asked for more than an answer: take smaller units")
     units = [("or", 0, array("i", [number])) for number in array("i", literals)]
     ordered = sorted(statements.after(None) + units, key=lambda it: it[0] != "min")  # the objective comes first, the others stay
-    text = "\n".join(_line(*it) for it in ordered).encode("ascii")
+    text = "\n".join(texts.line(*it) for it in ordered).encode("ascii")
     return searches.search(("text", text, FORMATS["opb"]), nodes, deadline)
-
-
-def _line(kind: str, bound: int, numbers: Iterable[int]) -> str:
-    """The statement in OPB."""
-    given = [*numbers]
-    pairs = zip([1] * len(given), given) if kind == "or" else zip(given[::2], given[1::2])
-    terms = "".join(f"{number} {'~' if literal < 0 else ''}x{abs(literal)} " for number, literal in pairs)
-    if kind == "min":
-        return f"min: {terms};"
-    return f"{terms}{ {'==': '=', 'or': '>='}.get(kind, kind) } {1 if kind == 'or' else bound} ;"
 
 
 def _answer_of_text(reply: Reply, text: bytes, format: str) -> Answer:

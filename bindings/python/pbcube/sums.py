@@ -3,6 +3,7 @@
 from __future__ import annotations
 
 import math
+from array import array
 from dataclasses import dataclass, field
 from decimal import Decimal
 from fractions import Fraction
@@ -12,7 +13,7 @@ from typing import Any, Dict, Iterable, List, Mapping, NoReturn, Optional, Seque
 from .errors import Error, ForeignLiteral
 
 MOST_VARIABLES = 1_048_576
-_GREATEST_SUM = 2**126 - 1
+GREATEST_SUM = 2**126 - 1
 
 Exact = Union[int, Fraction]
 Number = Union[int, float, Fraction, Decimal]
@@ -80,11 +81,17 @@ def whole(terms: Terms, bound: Exact = 0) -> Tuple[int, list[int], int]:
     factor = math.lcm(bound.denominator, *{coefficient.denominator for coefficient, _ in terms})
     numbers = [number for coefficient, literal in terms for number in (int(coefficient * factor), literal)]
     greatest = int(bound * factor)
-    if sum(map(abs, numbers[::2]), abs(greatest)) > _GREATEST_SUM:
+    if sum(map(abs, numbers[::2]), abs(greatest)) > GREATEST_SUM:
         rounded = ", once all are whole: round them, as by Fraction(number).limit_denominator(1000)"
         advice = rounded if factor > 1 else ": take smaller units"
         raise Error("TooLarge", f"the numbers of a statement add up to at most 2**126 - 1{advice}")
     return factor, numbers, greatest
+
+
+def compact(numbers: List[int], *others: int) -> Union[array[int], List[int]]:
+    """The numbers in little space, where these and the others fit 64 bits."""
+    fit = all(-(2**63) <= number < 2**63 for number in (*others, *numbers))
+    return array("q", numbers) if fit else numbers
 
 
 def _joined(one: Owners, other: Owners) -> Owners:
