@@ -4,10 +4,10 @@
     tests/runs/python_package.py
 
 It takes the library that is built. Random models with fractions, floats, implications and counts have the answer that a listing of all
-assignments finds; each refusal is met; what a child process finds is what this process finds. Real signals end a long search: Ctrl-C,
-alone and for the whole group as a terminal sends it, an exception, a time limit, and the death of the process; each time no child is
-left, and after Ctrl-C the process solves on. The block of docs/EMBEDDING.md prints what it says. Where there is no C compiler, and so
-no library, all is left out.
+assignments finds; each refusal is met; a model is read from a text as a reader of docs/FORMATS.md tells, and written so that it reads
+again; what a child process finds is what this process finds. Real signals end a long search: Ctrl-C, alone and for the whole group as a
+terminal sends it, an exception, a time limit, and the death of the process; each time no child is left, and after Ctrl-C the process
+solves on. The block of docs/EMBEDDING.md prints what it says. Where there is no C compiler, and so no library, all is left out.
 """
 import itertools
 import json
@@ -415,6 +415,7 @@ def room_facts():
     told = {name: int(number.replace("_", "")) for name, number in re.findall(r"const (MAX_\w+): \w+ = ([\d_]+);", source)}
     held = (module.MOST_VARIABLES, module._MOST_CONSTRAINTS, module._MOST_TERMS)
     yield "the limits of the library", held == (told["MAX_VARS"], told["MAX_CONSTRAINTS"], told["MAX_TERMS"])
+    yield "and on cubes", sys.modules["pbcube.texts"].MOST_CUBES == told["MAX_CUBES"]
     module._MOST_CONSTRAINTS, module._MOST_TERMS = 2, 6
     model = Model()
     x, y = model.variables(2)
@@ -650,6 +651,7 @@ def question_facts():
     yield "twice of no rule", model.solve(assuming=[unnamed, ~unnamed]).status is Status.UNSATISFIABLE
     why = model.explain([z, ~x, unnamed, ~y])
     yield "why", why.status is Status.UNSATISFIABLE and why.is_minimal and [it.number for it in why.core] == [-1, -2]
+    yield "a core has names with signs", repr(why.core) == str(why.core) == "(~x, ~y)"
     why = model.explain([x, ~y])
     yield "no core", isinstance(why, Explanation) and (why.status, why.core, why.is_minimal) == (Status.SATISFIABLE, None, False)
     fixed = model.fixed([~x])

@@ -18,6 +18,7 @@ or tell the rules one by one:
 Among the assignments of the least cost the answer is the first one: at the first variable where two differ, the one with
 False comes first. A model may be asked question after question, under literals that are assumed (`Model.solve`), also why there is no
 answer (`Model.explain`) and which variables have one value (`Model.fixed`), with more rules between them; it keeps its search.
+`Model.read` reads a model from a file or a text, and `Model.write` writes one to a file.
 
 Ctrl-C ends a search, which then leaves the model as it was, and so does a time limit. For that a search that may
 take long runs in a process of its own, a new `sys.executable`; in a thread that is not the main one, where Ctrl-C is never raised,

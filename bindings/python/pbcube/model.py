@@ -8,7 +8,7 @@ from array import array
 from dataclasses import dataclass
 from fractions import Fraction
 from operator import index
-from typing import Any, Dict, Iterable, List, Mapping, NoReturn, Optional, Sequence, Tuple, Union
+from typing import Any, Dict, Iterable, List, Mapping, NoReturn, Optional, Sequence, SupportsIndex, Tuple, Union
 
 from . import searches, texts
 from .answers import Answer, Explanation, Fixed, Names, Status
@@ -88,7 +88,7 @@ class Model:
         self._name_literals({number: name for name, number in self._names.items()})
 
     def _name_literals(self, names: Dict[int, str]) -> None:
-        """Gives this model a number of its own, and names by the numbers of its variables, by which its literals are written."""
+        """Gives this model a number of its own, by which its literals are known, and the names by which they are written."""
         self._owner = Owner(int.from_bytes(os.urandom(8), "little"), names)  # known again also in another process
         self._literals: Dict[str, Literal] = {}
         self._ordered = Names()
@@ -436,7 +436,7 @@ class _Asked:
 
 def _truth(value: object) -> bool:
     """The value of a variable in a start. None, as `Fixed` tells, is False."""
-    known = index(value) if hasattr(value, "__index__") else value
+    known = index(value) if isinstance(value, SupportsIndex) else value
     if known is not None and known not in (0, 1):
         raise ValueError(f"a value in a start is True or False, or 1 or 0, and not {value!r}")
     return bool(known)
@@ -456,7 +456,7 @@ def _names_of(count: object) -> List[Optional[str]]:
     """A name or none for each of the variables that are asked for."""
     if isinstance(count, str):
         return [*count.split()]
-    if hasattr(count, "__index__"):
+    if isinstance(count, SupportsIndex):
         number = index(count)
         if not 0 <= number <= MOST_VARIABLES:
             raise Error("BadVariable", f"{number} variables are asked for: write a number from 0 to {MOST_VARIABLES}")

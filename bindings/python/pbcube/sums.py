@@ -152,7 +152,9 @@ class _Operand:
     def __xor__(self, other: NoReturn) -> NoReturn:
         raise TypeError("literals are not joined by ^: write model.add(x + y == 1) where exactly one is to be true")
 
-    __rand__, __ror__, __rxor__ = __and__, __or__, __xor__
+    __rand__ = __and__
+    __ror__ = __or__
+    __rxor__ = __xor__
 
 
 @dataclass(frozen=True, eq=False)
