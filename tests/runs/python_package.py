@@ -129,6 +129,7 @@ def name_facts():
     added = copied.variable("z")
     yield "a sum of a model and its copy", (repr(x + added), repr(copied["y"] - x)) == ("x + z", "y - x")
     yield "a later one of the model", repr(model.variable("w") + x) == "w + x" and model["w"].number == added.number == 5
+    yield "which is not the copy's", repr(x + added) == "x + z"
     model.minimise(x + y)
     model.add(x + y + odd >= 1)
     yield repr(model), repr(model) == "<Model: 5 variables, 1 constraints, 5 terms, an objective>"
@@ -155,11 +156,11 @@ def many_name_facts():
     """Names are found by a table that is made once."""
     names = tuple(f"v{number}" for number in range(100_000))
     answer, fixed = Answer(Status.SATISFIABLE, None, (True,) * 100_000, names), Fixed(Status.SATISFIABLE, bytes(100_000), names)
-    begun = time.monotonic()
+    begun = time.process_time()
     yield "names", all(answer[names[-at]] and fixed[names[-at]] is False for at in range(1, 2001))
-    yield "soon", time.monotonic() - begun < PATIENCE / 10
+    yield "soon", time.process_time() - begun < PATIENCE / 10
     again = pickle.loads(pickle.dumps(answer))
-    yield "pickled", again == answer and again["v7"] and len(pickle.dumps(again)) == len(pickle.dumps(answer))
+    yield "pickled", again == answer and again["v7"] and len(pickle.dumps(answer)) == len(pickle.dumps(replace(answer)))
     yield "of two of one name the first", Answer(Status.FOUND, 1, (True, False), ("x", "x"))["x"]
     yield "no name", isinstance(raised(lambda: answer["w"]), LookupError) and isinstance(raised(lambda: fixed["w"]), LookupError)
 
@@ -274,9 +275,9 @@ def gathered_facts():
     for name in ("terms", "constant", "owners", "other"):
         yield f"{name} is kept", isinstance(raised(lambda: setattr(begun, name, ())), AttributeError)
     variables = model.variables(20_000)
-    begun = time.monotonic()
+    begun = time.process_time()
     added = sum(3 * variable for variable in variables * 5)
-    seconds = time.monotonic() - begun
+    seconds = time.process_time() - begun
     yield f"100,000 parts took {seconds} seconds", seconds < PATIENCE / 2
     yield "and are all of them", added.terms == total(3 * variable for variable in variables * 5).terms == ((3, 4),) + added.terms[1:]
     parts, made, ready = [1 * it for it in variables[:1000]], [], threading.Barrier(4)

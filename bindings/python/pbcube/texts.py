@@ -196,7 +196,7 @@ class Reader:
         clause: List[bytes] = []
         is_open, begins, made = False, 1, 0
         for at, word in ((at, word) for at, words in rows for word in words):
-            if not is_open and made == count:
+            if made == count:
                 raise Refused("TooManyClauses", at)
             is_open, begins = True, begins if is_open else at
             if not _ZERO.fullmatch(word):
