@@ -44,8 +44,8 @@ class Model:
     `cubes` are those of the text in iCNF that it was read from, each as its literals, and else none. They divide the work of other
     programs, and no answer here depends on them."""
 
-    def __init__(self, *texts: NoReturn) -> None:
-        if texts:
+    def __init__(self, *given: NoReturn) -> None:
+        if given:
             raise TypeError("a model is made without a text: Model.read(path) reads a file or a text, and pbcube.solve(text) solves one")
         self._lock = threading.Lock()
         self._inherited: Dict[int, int] = {}  # owners and greatest numbers of variables that were copied with their model
