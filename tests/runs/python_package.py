@@ -516,7 +516,8 @@ def read_facts():
     for number in range(INSTANCES // 6):
         text = drawn_model()[0].text()
         yield f"model {number}", Model.read(text).text() == text and is_read_alike("opb", text.encode())
-    texts = [(format, text) for format, text, *_ in (*WORKED, *SPOILED)]
+    close = [b"min:2 x1 -3 ~x2;+1 x1>=-1;", b"min:", b"min:;", b"a:1 x1 >= 1 ;", b"1:x1 >= 1 ;", b"1 x1 := 1 ;", b"1 x1 < = 1 ;", b";"]
+    texts = [*(("opb", text) for text in close), *((format, text) for format, text, *_ in (*WORKED, *SPOILED))]
     for format, text in texts:
         yield f"{format}: {text!r}", is_read_alike(format, text)
     for format, text in SPOILED:
