@@ -545,8 +545,11 @@ def is_read_alike(format, text):
         instance = replace(read(format, text), is_cnf=False)
     except FormatRefused as fault:
         return refusal_of(format, text) == str(fault)
-    written = Model.read(text, format).text()
-    return written == instance.text() == Model.read(written).text()
+    try:
+        written = Model.read(text, format).text()
+        return written == instance.text() == Model.read(written).text()
+    except Refused:
+        return False
 
 
 def limit_of_text_facts():
