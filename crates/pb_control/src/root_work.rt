@@ -78,6 +78,8 @@ pub struct RootWork {
     /// The trail's length and the best cost where the last dive began.
     dived: Option<(usize, Option<Number>)>,
     looks: Looks,
+    /// How often the search may still be about to turn to another value, where it is to be over then.
+    turns: Option<u32>,
     /// How often multipliers may still be improved anew at the root.
     renewals: u32,
     /// The length of the root's trail when that was done last.
@@ -113,11 +115,13 @@ impl RootWork {
             renewals: 0,
             renewed: 0,
             looks: Looks::new(),
+            turns: None,
         }
     }
 
-    /// The search of a piece begins, for this goal and with so many decisions left of its budget.
-    pub fn begin(&mut self, goal: Goal, left: Option<u64>) {
+    /// The search of a piece begins, for this goal, with the decisions that are `left` of its budget, and where it is not to go
+    /// through all of it, with as many `turns` to another value.
+    pub fn begin(&mut self, goal: Goal, left: Option<u64>, turns: Option<u32>) {
         // More than any search comes to. Each step back that is left counts in the measure of the search's loop, so the loop ends
         // whatever number stands here.
         self.returns = u32::MAX;
@@ -144,6 +148,12 @@ impl RootWork {
         self.renewals = if self.is_decision { 0 } else { MOST_RENEWALS };
         self.renewed = 0;
         self.looks = Looks::new();
+        self.turns = turns;
+    }
+
+    /// Whether the search was about to turn to another value as often as it may.
+    pub fn has_no_turns(&self) -> bool {
+        self.turns == Some(0)
     }
 
     /// Nothing is left below the path, after a conflict or not, where the best cost is this one. Answers how many decisions are
@@ -157,6 +167,7 @@ impl RootWork {
         ensures used { IfSome result (λ _. self.old ≡ self.new + 1) }
         ensures kept { IfNone result (self.new ≤ self.old) }
     {
+        self.turns = self.turns.map(|turns| turns.saturating_sub(1));
         let count = self.return_to(path, is_conflict, cost)?;
         if self.returns == 0 || count >= path.len() {
             return None;

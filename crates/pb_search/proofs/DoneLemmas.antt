@@ -19,7 +19,11 @@ use Rattle.pb_cubes.specs.Pieces.{LiesIn}
 use Rattle.pb_cubes.specs.Done.{Division, IsCandidate, IsDone}
 use Rattle.pb_control.specs.declared.goal.Goal.{Goal}
 use Rattle.pb_control.specs.Goal.{IsMet}
-use Rattle.pb_subtree.specs.Held.{IsImprovement}
+use Rattle.pb_subtree.specs.Held.{IsImprovement, IsNotAfter}
+use Rattle.pb_prune.specs.Subtree.{IsEngineOf}
+use Rattle.pb_search.specs.Root.{IsBetter, IsFixedFor}
+use Rattle.pb_subtree.proofs.HeldLemmas.{improvement_on_earlier}
+use Rattle.pb_subtree.proofs.RootLemmas.{All_back}
 use Rattle.pb_subtree.specs.Solutions.{SameConstraints, Satisfies, SatisfiesUnder}
 use Rattle.pb_subtree.specs.SearchState.{IsOwn}
 use Rattle.pb_prune.proofs.ValueLemmas.{value_on-true}
@@ -106,3 +110,24 @@ cube_own d i s cube old new is (inr found) = inr (inside new.held found)
 pub used_up : {left : Option ℕ} (held : Option Solution) → (left ≡ Some 0) ⊎ IsMet Goal.Least held → left ≡ Some 0
 used_up held (inl none_left) = none_left
 used_up held (inr met) = absurd met
+
+-- what a search below the fixed literals and a cube shows of those below the cube
+pub without_root : (p : Problem) (s : EngineState) (root cube : List Literal) (closed : Bool) (old new : Option Solution) → IsEngineOf p s → IsFixedFor p root closed old → IsNotAfter p old new → ((a : List Bool) → SatisfiesUnder s (root ++ cube) a → ¬ IsImprovement p a new) → (a : List Bool) → SatisfiesUnder s cube a → ¬ IsImprovement p a new
+without_root p s root cube closed old new engine fixed later none a h better =
+    let first : IsBetter p old a = record { for_all_variables = h.solution.for_all_variables ∙ engine.vars; feasible = engine.feasible a h.solution.meets_rows; improvement = improvement_on_earlier p a old new later better } in
+    none a (record { solution = h.solution; makes_true = All-append (λ l. literal_value a l ≡ 1) root cube (fixed.fixed a first) h.makes_true }) better
+
+-- and what was found lies below the cube
+pub found_below : (s : EngineState) (root cube : List Literal) (old new : Incumbent) → (new ≡ old) ⊎ IsSomeAnd new.held (λ r. SatisfiesUnder s (root ++ cube) r.assignment) → (new ≡ old) ⊎ IsSomeAnd new.held (λ r. SatisfiesUnder s cube r.assignment)
+found_below s root cube old new (inl same) = inl same
+found_below s root cube old new (inr found) = inr (within new.held found)
+  where
+    within : (o : Option Solution) → IsSomeAnd o (λ r. SatisfiesUnder s (root ++ cube) r.assignment) → IsSomeAnd o (λ r. SatisfiesUnder s cube r.assignment)
+    within None h = h
+    within (Some r) h = record { solution = h.solution; makes_true = All_back (λ l. literal_value r.assignment l ≡ 1) root cube h.makes_true }
+
+-- where the whole was searched every piece is done
+pub closed_done : (d : Division) (i : ℕ) (root : List Literal) (closed : Bool) (best : Incumbent) → best.problem ≡ d.problem → IsSound best → IsFixedFor d.problem root closed best.held → closed ≡ true → IsDone d i best.held
+closed_done d i root closed best e sound fixed is =
+    done_from d i best.held (subst (λ (x : Problem). IfSome best.held (λ t. IsSolution x t)) e sound)
+    (λ a h better. fixed.none_better is a (record { for_all_variables = h.for_all_variables; feasible = h.feasible; improvement = better }))

@@ -1,2 +1,3 @@
 pub mod LayoutLemmas
 pub mod DoneLemmas
+pub mod RootLemmas

@@ -10,6 +10,7 @@ mod piece_search;
 mod piece_tables;
 mod search;
 mod tables;
+mod whole_root;
 mod whole_search;
 mod whole_search_at;
 

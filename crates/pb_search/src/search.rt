@@ -89,6 +89,27 @@ impl<'a> Search<'a> {
         self.decisions
     }
 
+    /// Begins the search of the whole instance, where there is a cube, and keeps what it fixes for good: the pieces are then searched
+    /// below that. The best assignment is not after what it was. It asks the share and tells it as `run` does. With a budget for each
+    /// piece it does nothing, since nothing is searched outside pieces then. Takes no memory.
+    pub fn begin<S: Share>(&mut self, best: &mut Best<'_>, share: &mut S, nodes: Option<u64>)
+        requires { best.old.problem ≡ self.old.division.problem }
+        ensures not_after { IsNotAfter self.old.division.problem best.old.held best.new.held }
+        ensures kept { S.keeps share.old share.new }
+        ensures same_lending { S.lends share.new ≡ S.lends share.old }
+        ensures same_instance { best.new.problem ≡ best.old.problem }
+        ensures nothing { IfSome nodes (λ _. best.new ≡ best.old) }
+        ensures unchanged { self.new ≡ self.old }
+    {
+        if nodes.is_some() {
+            return;
+        }
+        match &mut self.at_width {
+            Width::Narrow(search) => search.begin(best, share),
+            Width::Wide(search) => search.begin(best, share),
+        }
+    }
+
     /// Searches a piece: that of a cube, or the remainder as the last one. With a budget, `nodes`, it makes so many decisions
     /// at most, for first and second values of variables alike; the literals of a cube are no decisions. It answers `Cut`
     /// where it would need one more, and without a budget always `Whole`. After `Whole` no feasible assignment of the piece is

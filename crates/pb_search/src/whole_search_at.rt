@@ -62,7 +62,7 @@ impl<C: Coefficient> WholeSearchAt<C> {
         ensures unchanged { self.new ≡ self.old }
     {
         clause_laws();
-        let outcome = search_under(&mut self.state, cube, best, share, goal, left);
+        let outcome = search_under(&mut self.state, &[], cube, best, share, goal, None, left);
         self.state.begin_question();
         outcome
     }

@@ -21,7 +21,7 @@ pub All_last : {X : Type 0} (P : X → Type 0) (xs : List X) (y : X) → All P (
 All_last P [] y h = h 0 y (omega arith)
 All_last P (x ∷ xs) y h = All_last P xs y (λ k d lt. h (suc k) d (omega arith))
 
-decided-push : (path : List Branch) (b : Branch) → decided (path ++ b ∷ []) ≡ decided path ++ b.lit ∷ []
+pub decided-push : (path : List Branch) (b : Branch) → decided (path ++ b ∷ []) ≡ decided path ++ b.lit ∷ []
 decided-push path b = map-append (λ (c : Branch). c.lit) path (b ∷ [])
 
 -- the engine after an assumption

@@ -1,5 +1,5 @@
 -- How open branches and the steps that are left change when the path does.
-use Rattle.std.proofs.Common.{◌≡◌, ℕ, ◌+◌, ◌*◌, ◌-◌, ◌^◌, ◌<◌, ◌≤◌, List, [], ◌∷◌, ◌++◌, length, refl, ap, ◌∙◌, arith, suc, zero, Bool, true, false, not, cond, inl, inr, ◌⊎◌}
+use Rattle.std.proofs.Common.{◌≡◌, ℕ, ◌+◌, ◌*◌, ◌-◌, ◌^◌, ◌<◌, ◌≤◌, List, [], ◌∷◌, ◌++◌, length, refl, sym, take, All, ap, ◌∙◌, arith, suc, zero, Bool, true, false, not, cond, inl, inr, ◌⊎◌}
 use Rattle.std.specs.Prelude.{if◌then◌else◌, slice_index_or}
 use Rattle.std.proofs.lemmas.List.Elements.{All-nil, All-cons}
 use Rattle.pb_inst.specs.Literal.{Literal}
@@ -118,3 +118,20 @@ pub fewer_from : (n x r s : ℕ) (path : List Branch) → s ≤ r → x < search
 fewer_from n x r s path less h =
     let most : s * 3 ^ n ≤ r * 3 ^ n = grind arith in
     omega arith
+
+-- none of the branches has another value to try
+abbrev pub AreFixed : List Branch → Type 0
+AreFixed path = All (λ (b : Branch). b.flipped ≡ true) path
+
+-- who lies below an open branch of the path makes its first decisions true, where these are fixed
+pub fixed_true : (a : List Bool) (i : ℕ) (path : List Branch) → AreFixed (take i path) → LiesOpen a path → MakesTrue a (decided (take i path))
+fixed_true a zero path fixed lies = All-nil (λ (l : Literal). literal_value a l ≡ 1)
+fixed_true a (suc i) [] fixed lies = All-nil (λ (l : Literal). literal_value a l ≡ 1)
+fixed_true a (suc i) (b ∷ path) fixed (inl on) = All-cons (λ (l : Literal). literal_value a l ≡ 1) b.lit (decided (take i path)) on.0 (fixed_true a i path (λ k d lt. fixed (suc k) d (omega arith)) on.1)
+fixed_true a (suc i) (b ∷ path) fixed (inr off) = let e : true ≡ false = sym (fixed 0 b (omega arith)) ∙ off.1 in let bad : ⊥ = cc in absurd bad
+
+-- their variables
+pub fixed_within : (n i : ℕ) (path : List Branch) → All (λ (b : Branch). b.lit.var ≤ n) path → All (λ (l : Literal). l.var ≤ n) (decided (take i path))
+fixed_within n zero path within = All-nil (λ (l : Literal). l.var ≤ n)
+fixed_within n (suc i) [] within = All-nil (λ (l : Literal). l.var ≤ n)
+fixed_within n (suc i) (b ∷ path) within = All-cons (λ (l : Literal). l.var ≤ n) b.lit (decided (take i path)) (within 0 b (omega arith)) (fixed_within n i path (λ k d lt. within (suc k) d (omega arith)))

@@ -88,6 +88,11 @@ LeavesFewer {C} p old new next = length new.branches.items < p.vars → search_s
 abbrev pub IsSearched : Problem → EngineState → Option Solution → Type 0
 IsSearched p start held = (a : List Bool) → SatisfiesUnder start (assumptions start) a → ¬ IsImprovement p a held
 
+-- a search under the assumed literals was broken off where it stands: every solution under them that is before what is held lies below an open branch
+pub record IsBrokenOff {C : Type 0} (p : Problem) (s : EngineState) (assumed : List Literal) (t : SearchState C) (held : Option Solution) : Type 0 where
+  pub variables : All (λ b. b.lit.var ≤ s.vars) t.branches.items
+  pub all_open : (a : List Bool) → SatisfiesUnder s assumed a → IsImprovement p a held → LiesOpen a t.branches.items
+
 -- what is held is as before, or is a solution below the start
 abbrev pub IsOwn : EngineState → Incumbent → Incumbent → Type 0
 IsOwn start old new = (new ≡ old) ⊎ IsSomeAnd new.held (λ s. SatisfiesUnder start (assumptions start) s.assignment)

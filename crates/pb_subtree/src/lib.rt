@@ -28,9 +28,11 @@ mod search_state;
 mod share;
 mod step_back;
 mod under;
+mod whole;
 
 pub use outcome::Outcome;
 pub use pb_control::Goal;
 pub use search_state::SearchState;
 pub use share::{Alone, Share};
 pub use under::search_under;
+pub use whole::begin_whole;

@@ -1,10 +1,11 @@
 //! The search of a subtree, node by node.
 
-ghost use Rattle.std.specs.Prelude.{◌≡◌, false, [], IfSome};
+ghost use Rattle.std.specs.Prelude.{◌≡◌, ◌≢◌, false, true, [], None, IfSome};
 ghost use Rattle.pb_inst.specs.Incumbent.{IsSound};
+ghost use Rattle.pb_engine.specs.Soundness.{assumptions};
 ghost use Rattle.pb_subtree.specs.Ended.{IsEnded};
 ghost use Rattle.pb_subtree.specs.Nodes.{GoesOn, IsAtNode, IsExpanded, IsFurther, IsOnPath};
-ghost use Rattle.pb_subtree.specs.SearchState.{IsOwn, IsSearched, LeavesFewer};
+ghost use Rattle.pb_subtree.specs.SearchState.{IsBrokenOff, IsOwn, IsSearched, LeavesFewer};
 
 use crate::Share;
 use crate::backtrack::backtrack;
@@ -111,12 +112,13 @@ fn expand_above<C: Coefficient, S: Share>(
 }
 
 /// Searches all solutions below the trail, or stops where it would need one decision more than are left, or a decision where
-/// the goal is met. No call of it recurses, and it takes no memory.
+/// the goal is met, or where there are no turns left, if these are counted. No call of it recurses, and it takes no memory.
 pub fn search_subtree<C: Coefficient, S: Share>(
     state: &mut SearchState<C>,
     best: &mut Best<'_>,
     share: &mut S,
     goal: Goal,
+    turns: Option<u32>,
     run: &mut Run,
 ) -> Outcome
     requires node { IsAtNode best.old.problem state.old best.old.held run.old.agreed }
@@ -124,11 +126,12 @@ pub fn search_subtree<C: Coefficient, S: Share>(
     requires held_sound { IsSound best.old }
     ensures searched { result ≡ Outcome.Whole → IsSearched best.old.problem state.old.engine best.new.held }
     ensures own { S.lends share.old ≡ false → IsOwn state.old.engine best.old best.new }
-    ensures ended { IsEnded S.keeps S.lends share.old share.new goal state.old state.new best.old best.new run.old.left run.new.left result }
+    ensures broken_off { result ≡ Outcome.Cut → IsBrokenOff best.old.problem state.old.engine (assumptions state.old.engine) state.new best.new.held }
+    ensures ended { IsEnded S.keeps S.lends share.old share.new goal turns state.old state.new best.old best.new run.old.left run.new.left result }
 {
-    state.root_work.begin(goal, run.left);
+    state.root_work.begin(goal, run.left, turns);
     while let Some(branch) = next_branch(state, best, share, run) {
-        if goal.is_reached(best, run.left) {
+        if goal.is_reached(best, run.left) || is_out_of_turns(state, turns) {
             return Outcome::Cut;
         }
         decide(
@@ -140,4 +143,11 @@ pub fn search_subtree<C: Coefficient, S: Share>(
         borrow_after(state, best, share, &mut run.agreed, 1, Origin::Lent);
     }
     Outcome::Whole
+}
+
+/// Whether turns are counted, and none is left.
+fn is_out_of_turns<C: Coefficient>(state: &SearchState<C>, turns: Option<u32>) -> bool
+    ensures { result ≡ true → turns ≢ None }
+{
+    turns.is_some() && state.root_work.has_no_turns()
 }

@@ -52,7 +52,7 @@ fn assume_free<C: Coefficient>(engine: &mut EngineAt<C>, lit: Lit)
 
 /// Takes back all assumptions, and adds what follows without any. A conflict means that no assignment meets the
 /// constraints; it stands from then on, so that it is found but once.
-pub fn return_to_root<C: Coefficient>(engine: &mut EngineAt<C>) -> Step
+fn return_to_root<C: Coefficient>(engine: &mut EngineAt<C>) -> Step
     ensures constraints { SameConstraints engine.old engine.new }
     ensures sound { IsSoundTrail engine.new }
     ensures no_assumptions { result ≡ Step.Fixed → assumptions engine.new ≡ [] }
@@ -77,21 +77,40 @@ fn is_refuted<C: Coefficient>(engine: &EngineAt<C>) -> bool
     engine.conflict()
 }
 
-/// Assumes the literals of a cube. A conflict means that no assignment that meets the constraints makes the cube true.
-pub fn assume_cube<C: Coefficient>(engine: &mut EngineAt<C>, cube: &[Lit]) -> Step
+/// Assumes the literals too. A conflict means that no assignment that meets the constraints makes them and the assumptions before them true.
+fn assume_all<C: Coefficient>(engine: &mut EngineAt<C>, literals: &[Lit]) -> Step
     requires sound { IsSoundTrail engine.old }
-    requires no_assumptions { assumptions engine.old ≡ [] }
     requires no_conflict { engine.old.conflict ≡ false }
-    requires variables { All (λ l. l.var ≤ engine.old.vars) cube.now }
+    requires variables { All (λ l. l.var ≤ engine.old.vars) literals.now }
     ensures constraints { SameConstraints engine.old engine.new }
     ensures sound { IsSoundTrail engine.new }
-    ensures fixed { result ≡ Step.Fixed → (a : List Bool) → Satisfies engine.old a → MakesTrue a (assumptions engine.new) ↔ MakesTrue a cube.now }
-    ensures conflict { result ≡ Step.Conflict → (a : List Bool) → Satisfies engine.old a → ¬ MakesTrue a cube.now }
+    ensures no_conflict { result ≡ Step.Fixed → engine.new.conflict ≡ false }
+    ensures fixed { result ≡ Step.Fixed → (a : List Bool) → Satisfies engine.old a → MakesTrue a (assumptions engine.new) ↔ (MakesTrue a (assumptions engine.old) × MakesTrue a literals.now) }
+    ensures conflict { result ≡ Step.Conflict → (a : List Bool) → Satisfies engine.old a → MakesTrue a (assumptions engine.old) → ¬ MakesTrue a literals.now }
 {
-    for lit in cube {
+    for lit in literals {
         if assume_literal(engine, *lit) == Step::Conflict {
             return Step::Conflict;
         }
     }
     Step::Fixed
+}
+
+/// Takes back all assumptions, and assumes the literals of the root and then those of the cube. A conflict means that no assignment
+/// that meets the constraints makes all of them true.
+pub fn stand_below<C: Coefficient>(engine: &mut EngineAt<C>, root: &[Lit], cube: &[Lit]) -> Step
+    requires root { All (λ l. l.var ≤ engine.old.vars) root.now }
+    requires cube { All (λ l. l.var ≤ engine.old.vars) cube.now }
+    ensures constraints { SameConstraints engine.old engine.new }
+    ensures sound { IsSoundTrail engine.new }
+    ensures fixed { result ≡ Step.Fixed → (a : List Bool) → Satisfies engine.old a → MakesTrue a (assumptions engine.new) ↔ MakesTrue a (root.now ++ cube.now) }
+    ensures conflict { result ≡ Step.Conflict → (a : List Bool) → Satisfies engine.old a → ¬ MakesTrue a (root.now ++ cube.now) }
+{
+    if return_to_root(engine) == Step::Conflict {
+        return Step::Conflict;
+    }
+    if assume_all(engine, root) == Step::Conflict {
+        return Step::Conflict;
+    }
+    assume_all(engine, cube)
 }

@@ -1,49 +1,51 @@
 //! The search under the literals of a cube.
 
-ghost use Rattle.std.specs.Prelude.{◌≡◌, ◌⊎◌, ◌≤◌, false, List, Bool, All, IsSomeAnd};
+ghost use Rattle.std.specs.Prelude.{◌≡◌, ◌⊎◌, ◌≤◌, ◌++◌, false, List, Bool, All, IsSomeAnd};
 ghost use Rattle.pb_prune.specs.Held.{IsImprovement};
 ghost use Rattle.pb_prune.specs.Solutions.{SatisfiesUnder};
 ghost use Rattle.pb_subtree.specs.Ended.{IsEnded};
-ghost use Rattle.pb_subtree.specs.SearchState.{IsStateOf};
+ghost use Rattle.pb_subtree.specs.SearchState.{IsBrokenOff, IsStateOf};
 
 use crate::Share;
 use crate::incumbent::borrow;
 use crate::node::search_subtree;
 use crate::outcome::Outcome;
-use crate::root::{assume_cube, return_to_root};
+use crate::root::stand_below;
 use crate::run::Run;
 use crate::search_state::SearchState;
 use pb_control::Goal;
 use pb_engine::{Coefficient, Step};
 use pb_inst::{Best, Lit};
 
-/// Searches all solutions of the state's constraints under the assumption that the cube is true, or stops where it would
-/// need one decision more than are left, or a decision where the goal is met.
+/// Searches all solutions of the state's constraints under the assumption that the literals of the root and of the cube are true, or
+/// stops where it would need one decision more than are left, or a decision where the goal is met, or where it was about to turn to
+/// another value as often as `turns` says, where it says anything.
 pub fn search_under<C: Coefficient, S: Share>(
     state: &mut SearchState<C>,
+    root: &[Lit],
     cube: &[Lit],
     best: &mut Best<'_>,
     share: &mut S,
     goal: Goal,
+    turns: Option<u32>,
     left: &mut Option<u64>,
 ) -> Outcome
     requires state { IsStateOf best.old.problem state.old }
+    requires root { All (λ l. l.var ≤ state.old.engine.vars) root.now }
     requires variables { All (λ l. l.var ≤ state.old.engine.vars) cube.now }
-    ensures searched { result ≡ Outcome.Whole → (a : List Bool) → SatisfiesUnder state.old.engine cube.now a → ¬ IsImprovement best.old.problem a best.new.held }
-    ensures own { S.lends share.old ≡ false → (best.new ≡ best.old) ⊎ IsSomeAnd best.new.held (λ s. SatisfiesUnder state.old.engine cube.now s.assignment) }
-    ensures ended { IsEnded S.keeps S.lends share.old share.new goal state.old state.new best.old best.new left.old left.new result }
+    ensures searched { result ≡ Outcome.Whole → (a : List Bool) → SatisfiesUnder state.old.engine (root.now ++ cube.now) a → ¬ IsImprovement best.old.problem a best.new.held }
+    ensures own { S.lends share.old ≡ false → (best.new ≡ best.old) ⊎ IsSomeAnd best.new.held (λ s. SatisfiesUnder state.old.engine (root.now ++ cube.now) s.assignment) }
+    ensures broken_off { result ≡ Outcome.Cut → IsBrokenOff best.old.problem state.old.engine (root.now ++ cube.now) state.new best.new.held }
+    ensures ended { IsEnded S.keeps S.lends share.old share.new goal turns state.old state.new best.old best.new left.old left.new result }
 {
     // Before the first bound is compared: what another piece gave may close this one at its root.
     borrow(&mut state.candidate, best, share);
     state.branches.clear();
-    if return_to_root(&mut state.engine) == Step::Conflict {
-        return Outcome::Whole;
-    }
-    if assume_cube(&mut state.engine, cube) == Step::Conflict {
+    if stand_below(&mut state.engine, root, cube) == Step::Conflict {
         return Outcome::Whole;
     }
     let mut run = Run::begin(best, *left);
-    let outcome = search_subtree(state, best, share, goal, &mut run);
+    let outcome = search_subtree(state, best, share, goal, turns, &mut run);
     *left = run.left;
     outcome
 }

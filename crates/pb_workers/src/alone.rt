@@ -29,6 +29,7 @@ pub fn solve_alone<'i>(
     let mut best = Best::none(alloc, inst)?;
     let normal = normalise(alloc, inst)?;
     let mut search = Search::new(alloc, inst, &normal, pieces)?;
+    search.begin(&mut best, &mut Alone, nodes);
     let cut = search_all(&mut search, pieces.len(), &mut best, nodes);
     Ok(Answer { best, cut })
 }

@@ -115,6 +115,7 @@ impl<'a, 'i, N: Notes, G: Gate> SearchWorkers<'a, 'i, N, G> {
         let mut search = Search::over(alloc, self.tables)?;
         let beyond = NoteShare::new(alloc, self.notes, self.inst.vars(), worker)?;
         let mut share = BoardShare::beside(self.board, seat, worker, beyond);
+        search.begin(&mut best, &mut share, self.nodes);
         let count = self.pieces.len();
         let named = self.search_claimed(alloc, &mut search, count, &mut best, &mut share)?;
         Ok((Part::new(self.pieces, named, best), share.into_seat()))

@@ -1,10 +1,11 @@
-use Rattle.std.proofs.Common.{rules, ◌≡◌, ◌<◌, ◌≤◌, false, ◌∙◌, ◌∷◌, [], ℕ, refl, sym, subst, inl}
+use Rattle.std.proofs.Common.{rules, All, ◌≡◌, ◌<◌, ◌≤◌, false, ◌∙◌, ◌∷◌, [], ℕ, refl, sym, subst, inl}
 use Rattle.std.specs.Prelude.{vec_capacity}
 use Rattle.pb_inst.specs.Problem.{Problem}
 use Rattle.pb_engine.specs.EngineState.{EngineState}
 use Rattle.pb_engine.specs.Soundness.{IsSoundTrail}
 use Rattle.pb_prune.specs.AgreedPrefix.{KnowsHeldPrefix}
 use Rattle.pb_prune.specs.Held.{IsNotAfter}
+use Rattle.pb_control.specs.declared.branch.Branch.{Branch}
 use Rattle.pb_subtree.specs.Paths.{search_steps}
 use Rattle.pb_subtree.specs.declared.search_state.SearchState.{SearchState}
 use Rattle.pb_subtree.specs.SearchState.{IsUnderWay, IsNext, IsOwn, IsSearched, IsStateOf, SameBranches}
@@ -14,6 +15,7 @@ use Rattle.pb_subtree.proofs.DivingLemmas.{same_branches_back}
 use Rattle.pb_subtree.proofs.Engines.{same_constraints_onward}
 use Rattle.pb_subtree.proofs.GoesOnLemmas.{goes_itself, goes_onward}
 use Rattle.pb_subtree.proofs.HeldLemmas.{moves_onward, moves_itself, not_after_itself}
+use Rattle.pb_subtree.proofs.PathLemmas.{back_keeps}
 use Rattle.pb_subtree.proofs.SearchLemmas.{begins, goes_on, at_problem, at_next, next_falls, own_onward, state_moves, stays_under_way}
 use Rattle.pb_subtree.proofs.node.search_subtree.Goals as goal
 
@@ -109,7 +111,7 @@ returns-clause-ended g c =
     let goes = goes_onward _ _ g.met.S.Share.keeps_onward _ _ _ _ _ _ _ _ _ _ before.goes_on c.next_branch.ensures.goes_on in
     let moves = moves_onward c.args.best.now c.loop-branch.best c.next_branch.new.best before.moves_on further.moves_on in
     record {
-      cut = search rules;
+      cut = λ all. search rules;
       budget = goes.budget;
       moves_on = moves;
       held_sound = moves.sound c.requires.held_sound;
@@ -126,7 +128,7 @@ returns-then-is_reached-clause-ended g c =
     let goes = goes_onward _ _ g.met.S.Share.keeps_onward _ _ _ _ _ _ _ _ _ _ before.goes_on c.next_branch.ensures.goes_on in
     let moves = moves_onward c.args.best.now c.loop-branch.best c.next_branch.new.best before.moves_on further.moves_on in
     record {
-      cut = search rules;
+      cut = λ all. search rules;
       budget = goes.budget;
       moves_on = moves;
       held_sound = moves.sound c.requires.held_sound;
@@ -134,4 +136,12 @@ returns-then-is_reached-clause-ended g c =
       same_lending = goes.same_lending;
       made_for = subst (λ (p : Problem). IsStateOf p c.next_branch.new.state) before.moves_on.same_instance further.made_for;
       constraints = same_constraints_onward c.args.state.now.engine c.loop-branch.state.engine c.next_branch.new.state.engine before.under_way.constraints further.constraints;
+    }
+
+pub returns-then-is_reached-clause-broken_off : goal.returns-then-is_reached-clause-broken_off
+returns-then-is_reached-clause-broken_off g c _ =
+    let next = at_next c.args.best.now.problem c.loop-branch.best.problem c.args.state.now.engine c.loop-branch.state c.next_branch.new.state c.in-Some.branch c.loop-branch.best.held c.next_branch.new.best.held c.loop-branch.invariant.moves_on.same_instance (c.in-Some.ensures.further.onward c.args.state.now.engine) c.loop-branch.invariant.under_way in
+    record {
+      variables = subst (λ (n : ℕ). All (λ (b : Branch). b.lit.var ≤ n) c.next_branch.new.state.branches.items) next.constraints.vars next.at_path.variables;
+      all_open = λ a below better. back_keeps a c.next_branch.new.state.branches.items c.in-Some.branch (next.all_open a below better);
     }

@@ -31,7 +31,7 @@ returns-clause-searched g c =
     let state : IsCubeState p c.self.inside.state = whole_state p c.args.self.now c.self.inside.state c.clause_laws.ensures.met c.self.view_is c.requires.form_of.vars c.requires.form_of.feasible c.requires.form_of.costs c.requires.few c.self.invariant in
     record {
       done = λ whole. cube_done p d 0 c.self.inside.state.engine c.args.cube.now under.new.best refl under.ensures.ended.moves_on.same_instance state.state.engine.vars state.rows refl under.ensures.ended.held_sound (under.ensures.searched whole);
-      cut = under.ensures.ended.cut;
+      cut = under.ensures.ended.cut refl;
       budget = under.ensures.ended.budget;
       not_after = under.ensures.ended.moves_on.not_after;
       own = λ none. own_makes_true c.self.inside.state.engine c.args.cube.now c.args.best.now under.new.best (under.ensures.own none);
