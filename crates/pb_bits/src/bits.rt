@@ -35,7 +35,7 @@ impl Bits {
         self.words[index / 64] >> (index % 64) & 1 == 1
     }
 
-    /// The first flag that is set from a place on within the place's word, or none.
+    /// The first flag that is set at or after a place, within the place's word, or none.
     pub fn next_in_word(&self, from: usize) -> Option<usize>
         requires { from < length self.now }
         ensures some { ForSome result (λ index. (from ≤ index) × (index < length self.now) × (slice_index_or self.now index false ≡ true) × HasNoneBetween self.now from index) }
@@ -49,7 +49,7 @@ impl Bits {
         Some(from + rest.trailing_zeros() as usize)
     }
 
-    /// Whether no flag of the place's word is set.
+    /// Whether no flag in the place's word is set.
     pub fn has_none_in_word(&self, index: usize) -> bool
         requires { index < length self.now }
         ensures none { result ≡ true → (i : ℕ) → i / 64 ≡ index / 64 → slice_index_or self.now i false ≡ false }

@@ -14,7 +14,7 @@ pub trait Flags: Drop {
     /// The flags, in order.
     ghost flags: { Self → List Bool };
 
-    /// As many flags, none of them set.
+    /// `count` flags, none of them set.
     fn new(alloc: Global, count: usize) -> Result<Self, Memory>
         requires { count < 2 ^ 63 }
         ensures { IfOk result (λ made. flags made ≡ replicate count false) };
@@ -31,7 +31,7 @@ pub trait Flags: Drop {
         requires { index < length (flags self.old) }
         ensures { flags self.new ≡ slice_set (flags self.old) index false };
 
-    /// The first flag that is set from a place on, or none.
+    /// The first flag that is set at or after a place, or none.
     fn next(&self, from: usize) -> Option<usize>
         ensures some { ForSome result (λ index. (from ≤ index) × (index < length (flags self.now)) × (slice_index_or (flags self.now) index false ≡ true) × HasNoneBetween (flags self.now) from index) }
         ensures none { result ≡ None → HasNoneBetween (flags self.now) from (length (flags self.now)) };

@@ -1,4 +1,4 @@
-//! Sets of places that are gone through in order, and marks that are all taken back in one step.
+//! Sets of places that are visited in order, and marks that are all removed in one step.
 #![tactic(auto)]
 
 mod bits;

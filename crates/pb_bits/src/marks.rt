@@ -1,4 +1,4 @@
-//! Marks of variables, all taken back in one step.
+//! Marks on variables that are all removed in one step.
 
 ghost use Rattle.std.specs.Prelude.{◌≡◌, ◌-◌, ◌≤◌, true, false, length, replicate, slice_index_or, slice_set, IfOk};
 
@@ -6,7 +6,7 @@ use pb_inst::Memory;
 use std::alloc::Global;
 use std::marker::Model;
 
-/// Whether each variable is marked. A variable is marked where it has the present stamp, so a new stamp takes back all marks.
+/// Whether each variable is marked. A variable is marked where it has the present stamp, so a new stamp removes all marks.
 /// Contracts see a list of truth values, that of variable 1 first.
 #[derive(Drop)]
 pub struct Marks {
@@ -26,7 +26,7 @@ impl Model for Marks {
 }
 
 impl Marks {
-    /// No mark, and room for as many variables.
+    /// No marks, on variables 1 to `vars`.
     pub fn new(alloc: Global, vars: u32) -> Result<Marks, Memory>
         ensures { IfOk result (λ marks. marks ≡ replicate vars false) }
     {
@@ -48,7 +48,7 @@ impl Marks {
         self.stamps[var as usize - 1] = self.stamp;
     }
 
-    /// Takes back all marks.
+    /// Removes all marks.
     pub fn clear(&mut self)
         ensures { self.new ≡ replicate (length self.old) false }
     {

@@ -11,8 +11,8 @@ use pb_inst::Memory;
 use std::alloc::Global;
 use std::marker::Model;
 
-/// A set of rows: a flag for each row, and three levels of flags of groups above, so that one word stands above 16 million rows.
-/// Contracts see for each row whether it is a member.
+/// A set of rows: a flag for each row, and above these three levels of flags for groups of 64, so that one word of the top
+/// level covers 16 million rows. Contracts see for each row whether it is a member.
 #[derive(Drop)]
 pub struct RowSet {
     members: Summary<Summary<Summary<Bits>>>,
@@ -27,7 +27,7 @@ impl Model for RowSet {
 }
 
 impl RowSet {
-    /// The empty set, with room for as many rows.
+    /// The empty set, with room for `rows` rows.
     pub fn new(alloc: Global, rows: usize) -> Result<RowSet, Memory>
         requires { rows < 2 ^ 63 }
         ensures { IfOk result (λ set. set ≡ replicate rows false) }
@@ -36,7 +36,7 @@ impl RowSet {
         Ok(RowSet { members })
     }
 
-    /// Makes the row a member or takes it out.
+    /// Adds the row to the set or takes it out.
     pub fn put(&mut self, row: usize, member: bool)
         requires { row < length self.old }
         ensures { self.new ≡ slice_set self.old row member }
@@ -48,7 +48,7 @@ impl RowSet {
         }
     }
 
-    /// The first member from a row on, or none.
+    /// The first member at or after a row, or none.
     pub fn next(&self, from: usize) -> Option<usize>
         ensures some { ForSome result (λ row. (from ≤ row) × (row < length self.now) × (slice_index_or self.now row false ≡ true) × HasNoneBetween self.now from row) }
         ensures none { result ≡ None → HasNoneBetween self.now from (length self.now) }

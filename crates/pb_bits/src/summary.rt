@@ -1,4 +1,4 @@
-//! Flags with a flag for each 64 of them.
+//! Flags, with one more flag for each group of 64.
 
 use crate::bits::Bits;
 use crate::flags::Flags;
@@ -6,8 +6,9 @@ use pb_inst::Memory;
 use std::alloc::Global;
 use std::marker::Model;
 
-/// Flags, and for each 64 of them whether one is set. Where the flags of the groups are a summary in their turn, each level
-/// has a 64th of the flags of the one below, and a call reads at most two words of each. Contracts see the flags below.
+/// Flags, and for each group of 64 a flag that says whether one of them is set. Where the groups' flags are a summary in
+/// turn, each level has a 64th of the flags of the one below, and a call reads at most two words of each level.
+/// Contracts see the lowest flags.
 #[derive(Drop)]
 pub struct Summary<G: Flags> {
     members: Bits,

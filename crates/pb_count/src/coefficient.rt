@@ -8,7 +8,7 @@ use pb_inst::Magnitude;
 use std::fmt::Debug;
 
 /// Numbers in which an engine counts: natural numbers below twice some limit. Where the sums of a normal form are below the
-/// limit, they are wide enough for all that an engine adds up.
+/// limit, the type is wide enough for all that an engine adds up.
 pub trait Coefficient: Copy + Debug {
     // The natural number that a value stands for, and the other way round.
     ghost count: { Self → ℕ };
@@ -24,8 +24,8 @@ pub trait Coefficient: Copy + Debug {
 
     ghost limit_at_least: { 2 ^ 63 ≤ limit };
 
-    // Where a number may fall below 0 it is kept with this much more. As many such numbers as there are variables, each at
-    // most three times as great, have a sum of 128 bits.
+    // A number that may fall below 0 is kept with this added. As many such numbers as there are variables, each at
+    // most three times as great, have a sum that fits 128 bits.
     ghost origin: { ℕ };
 
     ghost origin_at_most: { 2 * origin ≤ limit };
@@ -42,11 +42,11 @@ pub trait Coefficient: Copy + Debug {
     fn origin() -> Self
         ensures { count result ≡ origin };
 
-    /// The number, as one of these. Every one of 64 bits is.
+    /// The number in this type, which holds every number of 64 bits.
     fn of(number: u64) -> Self
         ensures { count result ≡ number };
 
-    /// The number, as one of these, where it is below twice the limit.
+    /// The number in this type, where it is below twice the limit.
     fn fitting(number: Magnitude) -> Self
         requires { number < 2 * limit }
         ensures { count result ≡ number };
@@ -55,7 +55,7 @@ pub trait Coefficient: Copy + Debug {
     fn fits(number: Magnitude) -> bool
         ensures { result ≡ nat_lt number limit };
 
-    /// One of these, as a number.
+    /// The value as a `Magnitude`.
     fn number(self) -> Magnitude
         ensures { result ≡ count self };
 

@@ -9,7 +9,7 @@ use std::alloc::AllocError;
 use std::marker::Model;
 use std::ops::{Add, AddAssign, Div, Mul, Sub, SubAssign};
 
-/// A number of an engine's type of counters. Contracts see a natural number.
+/// A number in the type in which an engine counts. Contracts see a natural number.
 #[derive(Copy)]
 pub struct Counter<C: Coefficient>(C);
 
@@ -38,7 +38,7 @@ impl<C: Coefficient> Clone for Counter<C> {
 }
 
 impl<C: Coefficient> Counter<C> {
-    /// The number, which is one of 64 bits.
+    /// The number, which fits 64 bits.
     #[inline]
     pub fn of(number: u64) -> Counter<C>
         ensures { result ≡ number }
@@ -55,7 +55,7 @@ impl<C: Coefficient> Counter<C> {
         Counter(C::fitting(number))
     }
 
-    /// What the sums of a form are below.
+    /// The limit, below which the sums of a form are.
     #[inline]
     pub fn limit() -> Counter<C>
         ensures { result ≡ C.limit }
@@ -101,7 +101,7 @@ impl<C: Coefficient> Counter<C> {
         self.is_below(Counter::of(1))
     }
 
-    /// How much this is above the other, 0 where it isn't.
+    /// The amount by which this is above the other, 0 where it isn't.
     #[inline]
     pub fn above(self, other: Counter<C>) -> Counter<C>
         ensures { result ≡ self - other }

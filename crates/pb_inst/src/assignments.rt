@@ -10,7 +10,7 @@ use std::marker::Model;
 
 const WORD_BITS: usize = 64;
 
-/// Truth values of the variables 1 to n. Contracts see the list of them, that of variable 1 first.
+/// Truth values of the variables 1 to n. Contracts see a list of them that begins with variable 1.
 #[derive(Drop)]
 pub struct Assignment {
     vars: u32,
@@ -95,7 +95,7 @@ impl Assignment {
         self.words[i] = with_low_bits(word, used);
     }
 
-    /// Takes over the values of an assignment of as many variables.
+    /// Copies the values of another assignment to the same number of variables.
     pub fn copy_from(&mut self, other: &Assignment)
         requires { length self.old ≡ length other.now }
         ensures { self.new ≡ other.now }

@@ -46,7 +46,7 @@ pub struct FinishFault {
 }
 
 impl InstanceBuilder {
-    /// No objective and no constraints. Takes no memory.
+    /// A builder without an objective or constraints. Takes no memory.
     pub fn new(alloc: Global) -> InstanceBuilder
         ensures { result ≡ record { objective = None; constraints = [] } }
     {
@@ -57,7 +57,7 @@ impl InstanceBuilder {
         }
     }
 
-    /// The statements of a finished instance, to which more may be added. Takes no memory.
+    /// A builder that starts with the statements of a finished instance. Takes no memory.
     pub fn reopen(alloc: Global, instance: Instance) -> InstanceBuilder
         ensures { result ≡ record { objective = instance.objective; constraints = instance.constraints } }
     {
@@ -117,7 +117,7 @@ impl InstanceBuilder {
         Ok(())
     }
 
-    /// Adds at the end the constraint that the literals' values, repeats included, add up to at least 1. Fails, and leaves
+    /// Adds at the end the clause of the literals: their values, repeats included, add up to at least 1. Fails, and leaves
     /// the builder unchanged, with `TooMany` where there would be more than `MAX_CONSTRAINTS` constraints or `MAX_TERMS`
     /// terms, and with `Memory` where memory is refused.
     pub fn add_clause(&mut self, lits: &[Lit]) -> Result<(), InstFault>
@@ -135,7 +135,7 @@ impl InstanceBuilder {
     }
 
     /// The instance of the variables 1 to n with these statements. Fails, and hands the builder back, with `TooMany` where
-    /// n is over `MAX_VARS`, else with `BadVariable` where a literal is of a variable over n. Takes no memory.
+    /// n is over `MAX_VARS`, else with `BadVariable` where the variable of a literal is over n. Takes no memory.
     pub fn finish(self, n: u32) -> Result<Instance, FinishFault>
         ensures finished { IfOk result
             (λ instance. instance ≡ record { vars = n; objective = self.objective; constraints = self.constraints }) }
@@ -176,7 +176,7 @@ impl InstanceBuilder {
         true
     }
 
-    /// Whether one more constraint of so many terms keeps the limits on counts.
+    /// Whether one more constraint with `terms` terms keeps the limits on counts.
     fn has_room(&self, terms: usize) -> bool
         ensures { IsTrue result ↔ HasRoom self.now terms }
     {

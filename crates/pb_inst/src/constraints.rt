@@ -16,7 +16,7 @@ pub struct Term {
     pub lit: Lit,
 }
 
-/// How the sum of a constraint's terms stands to its bound.
+/// How the sum of a constraint's terms relates to its bound.
 #[derive(Clone, Copy, Debug, PartialEq, Eq)]
 pub enum Relation {
     /// `>=`
@@ -32,7 +32,7 @@ pub enum Relation {
 pub struct Constraint<'a> {
     /// The terms as they were added, repeats included.
     pub terms: Terms<'a>,
-    /// How the sum of the terms is to stand to the bound.
+    /// How the sum of the terms must relate to the bound.
     pub relation: Relation,
     /// The number on the right side.
     pub bound: Number,
@@ -74,7 +74,7 @@ impl ConstraintList {
     ghost use Rattle.pb_inst.specs.Constraints.{linear, unit_term, clause_constraint};
     ghost use Rattle.pb_inst.specs.Limits.{constraint_terms};
 
-    /// No constraints. Takes no memory.
+    /// The empty list. Takes no memory.
     pub fn new(alloc: Global) -> ConstraintList
         ensures { result ≡ [] }
     {

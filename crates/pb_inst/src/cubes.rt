@@ -7,7 +7,7 @@ use smallvec::SmallVec;
 use std::alloc::Global;
 use std::marker::Model;
 
-/// A list of literals that are to be true together, of which 16 are kept inline. It may be empty, repeat a literal or
+/// A list of literals that are to be true together, up to 16 of them kept inline. It may be empty, repeat a literal or
 /// hold a literal and its negation. Contracts see the list.
 #[derive(Drop)]
 pub struct Cube {

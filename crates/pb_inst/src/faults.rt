@@ -6,7 +6,7 @@ ghost use Rattle.pb_inst.specs.declared.faults.InstFault.TheVariants.{Memory};
 use std::alloc::AllocError;
 use thiserror::Error;
 
-/// Want of memory.
+/// Memory was refused.
 pub type Memory = AllocError;
 
 /// Why an instance, or a part of one, was refused.

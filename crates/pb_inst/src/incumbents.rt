@@ -15,7 +15,7 @@ pub struct Best<'i> {
     instance: &'i Instance,
     cost: Option<Number>,
     assignment: Assignment,
-    /// How many first variables the assignment makes false, counted once for all that compare with it.
+    /// How many variables at the start the assignment makes false, counted once for all comparisons with it.
     leading_zeros: u32,
 }
 
@@ -34,7 +34,7 @@ impl<'i> Model for Best<'i> {
 }
 
 impl<'i> Best<'i> {
-    /// Holds nothing, and has the memory for all that it will hold. Fails where memory is refused.
+    /// An incumbent that holds nothing yet, with memory for any assignment that it will hold. Fails where memory is refused.
     pub fn none(alloc: Global, instance: &'i Instance) -> Result<Best<'i>, Memory>
         ensures { IfOk result (λ best. best ≡ record { problem = instance.now; held = None }) }
     {
@@ -42,8 +42,8 @@ impl<'i> Best<'i> {
         Ok(Best::within(instance, room))
     }
 
-    /// Holds nothing, and has an assignment to as many variables as the instance's for the room of all that it will hold.
-    /// Takes no memory.
+    /// An incumbent that holds nothing yet, and will copy what it holds into `room`, an assignment to the instance's
+    /// variables. Takes no memory.
     pub fn within(instance: &'i Instance, room: Assignment) -> Best<'i>
         requires { length room ≡ instance.now.vars }
         ensures { result ≡ record { problem = instance.now; held = None } }
@@ -57,7 +57,7 @@ impl<'i> Best<'i> {
         }
     }
 
-    /// The room for what is held, with the assignment that is held, if one is.
+    /// Gives the room back. Where an assignment is held, it is in there.
     pub fn into_room(self) -> Assignment
         ensures count { length result ≡ self.entry.problem.vars }
         ensures held { IfSome self.entry.held (λ s. result ≡ s.assignment) }
@@ -94,8 +94,8 @@ impl<'i> Best<'i> {
         self.leading_zeros
     }
 
-    /// Where the assignment, to as many variables as the instance's, is feasible and before what is held, or nothing is
-    /// held, copies it in and answers true; else changes nothing and answers false. Takes no memory.
+    /// Copies in the assignment, which is to the instance's variables, and answers true, where it is feasible and either
+    /// comes before what is held or nothing is held. Else it changes nothing and answers false. Takes no memory.
     pub fn take(&mut self, assignment: &Assignment) -> bool
         requires { length assignment.now ≡ self.old.problem.vars }
         ensures decides { IsTrue result ↔ (IsFeasible self.old.problem assignment.now × Improves assignment.now self.old) }

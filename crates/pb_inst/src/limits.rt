@@ -12,6 +12,7 @@ pub const MAX_CONSTRAINTS: usize = 4_194_304;
 pub const MAX_TERMS: usize = 16_777_216;
 
 /// The most that absolute coefficients may add up to: in a constraint together with its bound, in the objective alone.
+/// It is 2^126 - 1, so that no partial sum leaves the range of a `Number`.
 pub const SUM_BOUND: Magnitude = 85_070_591_730_234_615_865_843_651_857_942_052_863;
 
 /// The most workers that may share an instance.

@@ -8,7 +8,7 @@ ghost use Rattle.pb_inst.specs.Words.{has_bit};
 use crate::{Assignment, Number};
 
 /// Whether the first cost is less, or the costs are equal and at the first variable where the assignments differ the
-/// first has 0. The assignments are to as many variables. Takes no memory.
+/// first has 0. Both are to the same number of variables. Takes no memory.
 pub fn precedes(cost_a: Number, a: &Assignment, cost_b: Number, b: &Assignment) -> bool
     requires { length a.now ≡ length b.now }
     ensures { IsTrue result ↔ Precedes cost_a a.now cost_b b.now }

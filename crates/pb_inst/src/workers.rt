@@ -48,8 +48,8 @@ impl Workers {
     }
 }
 
-/// Of `count` that are numbered from 0 on, workers or tasks, the one whose turn comes after that of the last one, without this one. It is this one
-/// only where there is no other.
+/// Of `count` workers or tasks, numbered from 0 on, the one whose turn comes after that of `last`, passing over `this`. It
+/// is `this` only where there is no other.
 pub fn next_other(count: u32, this: u32, last: u32) -> u32
     ensures other { 1 < count → result ≢ this }
     ensures within { 0 < count → result < count }
@@ -62,8 +62,8 @@ pub fn next_other(count: u32, this: u32, last: u32) -> u32
     }
 }
 
-/// The one before this one, and the last before the first: tasks are begun in the order of their numbers, so of those that have
-/// begun the one just before knows most.
+/// The one before `this`, and the last one where `this` is 0. Tasks are begun in the order of their numbers, so among
+/// those that have begun, the one just before knows most.
 pub fn next_in_turn(count: u32, this: u32) -> u32
     ensures another { 1 < count → result ≢ this }
     ensures within { 0 < count → result < count }
