@@ -18,7 +18,7 @@ pub enum CubeFault {
     /// A literal of a variable over the number of variables.
     #[error("a variable is out of range")]
     BadVariable,
-    /// Want of memory.
+    /// Memory was refused.
     #[error("out of memory")]
     Memory,
 }

@@ -1,4 +1,5 @@
 //! Pieces: one for each cube, and the remainder.
+//! Source: [H11]
 
 ghost use Rattle.std.specs.Prelude.{◌≡◌, ◌↔◌, ℕ, Bool, List, ◌+◌, ◌<◌, ◌≤◌, ◌⊎◌, Any, length, vec_len, IfOk, IfErr, IsErrOf, IsTrue, false};
 ghost use Rattle.pb_inst.specs.Literal.{Literal};

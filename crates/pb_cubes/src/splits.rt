@@ -1,4 +1,4 @@
-//! The split: 2^k cubes over the k variables of most occurrences.
+//! The split: 2^k cubes over the k variables that occur most often.
 
 ghost use Rattle.std.specs.Prelude.{◌≡◌, ℕ, ◌<◌, ◌≤◌, ◌^◌, ◌⊎◌, ◌↔◌, Bool, List, length, vec_len, All, Any, IfOk, IfErr, IsErrOf};
 ghost use Rattle.pb_inst.specs.declared.limits.TheConstants.{MAX_SPLIT};
@@ -13,10 +13,10 @@ use pb_inst::{Cube, Instance, Lit, Memory};
 use std::alloc::Global;
 
 /// The 2^k cubes over the `k` variables that occur most often in the constraints' terms, as written, ties to the lower
-/// index. Cube m, from 0, has a literal of each of these variables, that of most occurrences first: positive where the
+/// index. Cube m, from 0, has a literal of each of these variables, the most frequent first: positive where the
 /// binary digit of m is 1, the highest digit for the first variable. So `k` = 0 gives one empty cube, and every assignment
 /// makes some cube true.
-/// A `k` over `MAX_SPLIT` or over the number of variables is `BadSplit`; want of memory is `Memory`.
+/// A `k` over `MAX_SPLIT` or over the number of variables is `BadSplit`; refused memory is `Memory`.
 pub fn split(alloc: Global, instance: &Instance, k: u32) -> Result<Vec<Cube>, CubeFault>
     ensures bad_split { IsErrOf result CubeFault.BadSplit ↔ ((MAX_SPLIT < k) ⊎ (instance.now.vars < k)) }
     ensures cubes { IfOk result (λ cubes. IsSplit instance.now k cubes.items) }

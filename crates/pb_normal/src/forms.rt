@@ -1,4 +1,5 @@
 //! The normal form of an instance.
+//! Source: [ES06]
 
 ghost use Rattle.std.specs.Prelude.{◌≡◌, true, false, Err, ℕ, ◌+◌, ◌*◌, ◌<◌, ◌≤◌, List, [], ◌∷◌, All, length, map, slice_get, sum_by, unsigned_abs, IfOk, OnOk, IsSomeAnd, pos, ◌+ℤ◌, ◌≤ℤ◌, neg_ℤ};
 ghost use Rattle.pb_inst.specs.declared.limits.TheConstants.{SUM_BOUND};
@@ -55,7 +56,7 @@ impl<C: Coefficient> Model for Form<C> {
     ghost invariant = { λ f. IsNormalWithin C.limit (record { vars = (arc_value f.parts).vars; rows = (arc_value f.parts).rows; base = (arc_value f.parts).base; objective = (arc_value f.parts).objective.items }) };
 }
 
-// By hand, so that who lets a form go calls this, and does not let each part go in its place.
+// Written by hand, so that code that drops a form calls this, and does not drop each part itself.
 impl<C: Coefficient> Drop for Form<C> {
     fn drop(self) {
         let Form { parts: _ } = self;
@@ -138,7 +139,7 @@ impl<C: Coefficient> Form<C> {
 }
 
 /// The normal form of the instance for engines that count in these numbers. `TooWide` says that a sum is not below their
-/// limit, which none is where that is above `SUM_BOUND`; `Memory` that a growth of memory was refused.
+/// limit, which never comes where the limit is above `SUM_BOUND`; `Memory` says that a growth of memory was refused.
 pub fn form_of<C: Coefficient>(alloc: Global, instance: &Instance) -> Result<Form<C>, Unbuilt>
     ensures exact { IfOk result (λ form. IsNormalFormOf instance.now form) }
     ensures variables { IfOk result (λ form. form.vars ≡ instance.now.vars) }
@@ -243,7 +244,7 @@ fn add_constraint<C: Coefficient>(
     }
 }
 
-/// Adds the row that the sum is at least the bound, unless it always is.
+/// Adds the row that says that the sum is at least the bound, unless it always is.
 fn add_at_least<C: Coefficient>(
     rows: &mut RowList<C>,
     sum: &PositiveSum,
@@ -278,7 +279,7 @@ fn has_sums_below<C: Coefficient>(terms: &[PositiveTerm], degree: Magnitude) -> 
     C::fits(degree) && C::fits(clipped_total(terms, degree))
 }
 
-/// Adds the row that the sum is at most the bound, unless it always is, and leaves the sum negated.
+/// Adds the row that says that the sum is at most the bound, unless it always is, and leaves the sum negated.
 fn add_at_most<C: Coefficient>(
     rows: &mut RowList<C>,
     sum: &mut PositiveSum,

@@ -1,4 +1,5 @@
 //! A sum of terms as a base and positive terms by rising variable.
+//! Source: [ES06]
 
 ghost use Rattle.std.specs.Prelude.{◌≡◌, ℕ, ◌+◌, ◌≤◌, List, [], Bool, map, min, sum_by, unsigned_abs, IfOk, OnOk, pos, ◌+ℤ◌, ◌≤ℤ◌, neg_ℤ};
 ghost use Rattle.std.specs.List.Sorted.{IsNonDecreasingBy};
@@ -11,7 +12,8 @@ use crate::PositiveTerm;
 use pb_inst::{Magnitude, Memory, Number, Term, Terms};
 use std::alloc::Global;
 
-/// A base and positive terms by rising variable. Its lists keep their memory, so that one value serves for one sum after the other.
+/// A base and positive terms by rising variable. Its lists keep their memory, so that one value serves for one sum after
+/// another.
 #[derive(Drop)]
 pub struct PositiveSum {
     pub base: Number,
@@ -19,7 +21,7 @@ pub struct PositiveSum {
     sorted: Vec<Term>,
 }
 
-/// What two terms of one variable come to: a term and a constant.
+/// What two terms of one variable add up to: a term and a constant.
 #[derive(Clone, Copy)]
 struct Joined {
     term: PositiveTerm,
@@ -72,7 +74,7 @@ impl PositiveSum {
     }
 }
 
-/// The sum of two terms of one variable. Opposite literals have the smaller coefficient in common.
+/// The sum of two terms of one variable. Opposite literals share the smaller coefficient, which is the constant.
 fn join(first: PositiveTerm, second: PositiveTerm) -> Joined
     requires same_variable { first.lit.var ≡ second.lit.var }
     requires room { first.coef + second.coef ≤ SUM_BOUND }
@@ -154,7 +156,7 @@ fn add_term(terms: &mut Vec<PositiveTerm>, term: Term) -> Result<Number, Memory>
     Ok(constant as Number)
 }
 
-/// Merges terms that stand by variable into the empty list, and gives the base.
+/// Merges terms that are sorted by variable into the empty list, and gives the base.
 fn merge_sorted(terms: &[Term], merged: &mut Vec<PositiveTerm>) -> Result<Number, Memory>
     requires sorted { IsNonDecreasingBy (λ t. t.lit.var) terms.now }
     requires bounded { total_magnitude terms.now ≤ SUM_BOUND }

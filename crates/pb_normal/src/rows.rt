@@ -1,4 +1,5 @@
-//! Rows kept flat: one list of terms, and where each row's terms lie in it.
+//! Rows kept flat: one list of terms, and where each row's terms lie in it. A row is saturated when it is added.
+//! Source: [CK05]
 
 ghost use Rattle.std.specs.Prelude.{◌≡◌, ◌+◌, ◌<◌, ◌≤◌, [], ◌∷◌, ◌++◌, All, length, map, slice_get, slice_range, IsSomeAnd, OnOk, OnErr};
 ghost use Rattle.pb_normal.specs.declared.TheConstants.{MAX_ROW_TERMS};
@@ -87,7 +88,8 @@ impl<C: Coefficient> RowList<C> {
         part(&self.terms, start as usize, end as usize)
     }
 
-    /// Adds the row of these terms at the end, with coefficients cut down to the degree, or leaves the list unchanged where memory runs out.
+    /// Adds the row of these terms at the end, with coefficients cut down to the degree, or leaves the list unchanged where
+    /// memory runs out.
     pub fn push(&mut self, terms: &[PositiveTerm], degree: Magnitude) -> Result<(), Memory>
         requires room { row_terms self.old + length terms.now ≤ MAX_ROW_TERMS }
         requires fits { HasSumsBelow C.limit (clipped_row degree terms.now) }

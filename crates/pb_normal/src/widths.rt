@@ -37,7 +37,7 @@ impl Model for Normal {
     ghost view = { λ n. either n.form };
 }
 
-// By hand, so that who lets it go calls this, and does not tell the two widths apart.
+// Written by hand, so that code that drops it calls this, and does not tell the two widths apart itself.
 impl Drop for Normal {
     fn drop(self) {
         let Normal { form: _ } = self;
@@ -123,7 +123,7 @@ impl Normal {
 }
 
 /// The normal form of the instance. The rows stand in the order of their constraints, an equality's `>=` before its `<=`;
-/// a constraint that always holds has no row. Takes time in proportion to the terms, but for sorting those of a constraint.
+/// a constraint that always holds has no row. Takes time in proportion to the terms, except for sorting those of each constraint.
 /// `Memory` says that a growth of memory was refused.
 pub fn normalise(alloc: Global, instance: &Instance) -> Result<Normal, Memory>
     ensures exact { IfOk result (λ form. IsNormalFormOf instance.now form) }
@@ -141,7 +141,7 @@ pub fn normalise(alloc: Global, instance: &Instance) -> Result<Normal, Memory>
     }
 }
 
-/// The same in numbers of 128 bits, below whose limit all sums are.
+/// The normal form in numbers of 128 bits, whose limit is above all sums.
 fn wide(alloc: Global, instance: &Instance) -> Result<Normal, Memory>
     ensures exact { IfOk result (λ form. IsNormalFormOf instance.now form) }
     ensures variables { IfOk result (λ form. form.vars ≡ instance.now.vars) }

@@ -21,7 +21,7 @@ pub use tables::{RowTerms, Tables};
 pub use tables_source::{TablesSource, shared_in};
 pub use weighs::Weighs;
 
-/// How many clauses of cubes there may be at most beside the rows of a normal form.
+/// The most clauses of cubes that there may be beside the rows of a normal form.
 pub const MAX_CLAUSES: usize = 2_147_483_648;
 
 // Rows and clauses are numbered in 32 bits.

@@ -1,4 +1,4 @@
-//! The clause that some literal of a cube is false.
+//! The clause that says that some literal of a cube is false.
 
 ghost use Rattle.std.specs.Prelude.{◌≡◌, ◌-◌, ◌<◌, IfOk, None, true, length, slice_index_or};
 ghost use Rattle.std.specs.Option.{ForSome};
@@ -8,7 +8,8 @@ ghost use Rattle.pb_rows.specs.Clauses.{IsContradictory, IsClauseOf, clause_row}
 use pb_inst::{Lit, Memory};
 use std::alloc::Global;
 
-/// The literals of the clause by rising variable, or none where the cube holds a literal and its negation, so that it is always false.
+/// The literals of the clause by rising variable, or none where the cube holds a literal and its negation, so that the cube
+/// is always false.
 pub fn negated_cube(alloc: Global, cube: &[Lit]) -> Result<Option<Vec<Lit>>, Memory>
     ensures none { IfOk result (λ clause. clause ≡ None → IsContradictory cube.now) }
     ensures some { IfOk result (λ clause. ForSome clause (λ lits. IsClauseOf cube.now (clause_row lits.items))) }

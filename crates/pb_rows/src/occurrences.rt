@@ -8,7 +8,7 @@ use pb_count::{Coefficient, Counter};
 use pb_inst::{Lit, Memory};
 use std::marker::Model;
 
-/// What says in which row a literal occurs, and with which coefficient.
+/// Names a row in which a literal occurs, and the coefficient that it has there.
 pub trait Occurs<C: Coefficient>: Copy {
     ghost use Rattle.pb_rows.specs.Occurrences.{Occurrence as Weighted};
 
@@ -93,8 +93,9 @@ impl<C: Coefficient> Occurs<C> for UnitOccurrence {
     }
 }
 
-/// An occurrence, and the place of its literal. The occurrence's parts stand beside the place, since so an entry takes no more
-/// room than an occurrence alone: while tables are built there is one of each for every term. Contracts see an `Occurrence` in it.
+/// An occurrence, and the place of its literal. The parts of the occurrence stand beside the place, so that an entry takes no
+/// more room than an occurrence alone, because tables being built hold one of each for every term. Contracts see an
+/// `Occurrence` in it.
 #[derive(Clone, Copy)]
 pub struct Entry<C: Coefficient> {
     pub place: u32,

@@ -1,4 +1,5 @@
 //! The rows of a normal form, with the rows in which each literal occurs.
+//! Source: [CK05]
 
 ghost use Rattle.std.specs.Prelude.{◌≡◌, ℕ, ◌+◌, ◌*◌, ◌^◌, ◌<◌, ◌≤◌, length, All, IfOk};
 ghost use Rattle.pb_normal.specs.NormalForm.{IsNormal};
@@ -17,15 +18,16 @@ use pb_normal::{Form, FormTerm};
 use std::alloc::Global;
 use std::marker::Model;
 
-/// The degree of a row, and what it must be able to reach so that it forces no literal, side by side for the test of its sum.
+/// The degree of a row, and a sum that is high enough to force no literal while the row can reach it. They stand side by
+/// side for the test of the row's sum.
 #[derive(Clone, Copy)]
 pub struct Limits<C: Coefficient> {
     pub degree: Counter<C>,
     pub enough: Counter<C>,
 }
 
-/// The rows of a normal form, with the rows in which each literal occurs and what the objective says of it. They have a share of
-/// the form, are built once and lent to engines.
+/// The rows of a normal form, with the rows in which each literal occurs and what the objective says of it. They share the
+/// form with its other owners, are built once, and are lent to engines.
 #[derive(Drop)]
 pub struct Rows<C: Coefficient = u64> {
     form: Form<C>,

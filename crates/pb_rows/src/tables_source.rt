@@ -17,7 +17,7 @@ use std::alloc::{AllocError, Global};
 use std::marker::Model;
 use std::sync::Arc;
 
-/// An engine's share of rows and clauses. What runs over them takes `Tables`.
+/// An engine's share of rows and clauses. Code that reads them takes `Tables`.
 #[derive(Drop)]
 pub struct TablesSource<C: Coefficient> {
     rows: Arc<Rows<C>, Global>,

@@ -7,7 +7,7 @@ use pb_count::{Coefficient, Counter};
 use pb_inst::Lit;
 use pb_normal::FormTerm;
 
-/// What says of a literal which coefficient it has: a term, or a literal of a clause, whose coefficient is 1.
+/// Gives a literal and its coefficient: a term, or a literal of a clause, whose coefficient is 1.
 pub trait Weighs<C: Coefficient>: Copy {
     ghost use Rattle.pb_normal.specs.declared.terms.PositiveTerm.{PositiveTerm as Term};
 

@@ -1,4 +1,5 @@
-//! Looking at rows for literals that they force.
+//! Propagation: looks at rows for literals that they force, by the slack of each.
+//! Source: [CK05]
 
 ghost use Rattle.std.specs.Prelude.{◌≡◌, ℕ, ◌+◌, ◌<◌, ◌≤◌, length, All, None, IfSome};
 ghost use Rattle.pb_rows.specs.Constraints.{row_at};
@@ -23,7 +24,7 @@ pub enum Step {
 }
 
 /// Puts the literals that the row forces on the trail, or finds that the row can't be met any more.
-// Most rows that are looked at force nothing. So the question stands in the loops themselves, and only what adds literals is called.
+// Most rows that are looked at force nothing. So the test is inlined in the loops, and only what adds literals is called.
 #[inline(always)]
 fn propagate_constraint<C: Coefficient>(
     tables: &Tables<'_, C>,
@@ -86,8 +87,8 @@ fn propagate_clause<C: Coefficient>(
     Step::Fixed
 }
 
-/// Adds what is forced, where the rows are known to be settled but for the literals from a place on, or nothing is known: looks
-/// at the rows that the literals from there on touch, and at those that their own literals touch in turn.
+/// Adds what is forced. The rows are known to be settled but for the literals from a place on, or nothing is known. It looks
+/// at the rows that the literals from there on touch, and at those that the literals it adds touch in turn.
 pub fn propagate_all<C: Coefficient>(
     tables: &Tables<'_, C>,
     trail: &mut Trail<C>,
@@ -121,7 +122,8 @@ pub fn propagate_all<C: Coefficient>(
     Step::Fixed
 }
 
-/// From which literal on rows may not be settled. Where nothing is known it looks at every row; there is none at a conflict.
+/// The place from which on literals may leave rows unsettled, or none at a conflict. Where nothing is known it looks at every
+/// row.
 #[inline(always)]
 fn settled_from<C: Coefficient>(
     tables: &Tables<'_, C>,
@@ -146,7 +148,7 @@ fn settled_from<C: Coefficient>(
 }
 
 /// Looks at every row.
-// A search calls it once, at its start. In the place of that call it would keep the compiler from taking `propagate` into the search.
+// A search calls it once, at its start. Inlined there, it would keep the compiler from inlining `propagate` into the search.
 #[inline(never)]
 fn propagate_every_row<C: Coefficient>(tables: &Tables<'_, C>, trail: &mut Trail<C>) -> Step
     requires up_to_date { IsUpToDate tables.now trail.old }
@@ -184,8 +186,8 @@ fn propagate_occurrences<C: Coefficient, O: Occurs<C>>(
     Step::Fixed
 }
 
-/// Puts the literals of a row of the form that have no value and a coefficient greater than the slack on the trail. A long row
-/// that was looked through at this slack, with nothing taken off since, has none and is passed over.
+/// Puts on the trail the literals of a row of the form that have no value and a coefficient above the slack. A long row that
+/// was looked through at this slack or a lesser one, with nothing taken off since, has none and is skipped.
 #[inline(never)]
 fn add_forced<C: Coefficient>(
     tables: &Tables<'_, C>,
@@ -217,7 +219,7 @@ fn add_forced<C: Coefficient>(
     }
 }
 
-/// Puts the literal of a clause that is not false yet on the trail, if it has no value.
+/// Puts on the trail the one literal of a clause that is not false yet, if it has no value.
 #[inline(never)]
 fn add_last<C: Coefficient>(tables: &Tables<'_, C>, trail: &mut Trail<C>, row: usize)
     requires form { length tables.now.form.rows ≤ row }

@@ -1,4 +1,5 @@
 //! A trail with assumptions, and what follows from them.
+//! Source: [ES03]
 
 ghost use Rattle.std.specs.Prelude.{◌≡◌, ◌<◌, ◌≤◌, [], false, true, length, take, None, Some, IfOk, IfSome, slice_index_or};
 ghost use Rattle.std.specs.Option.{ForSome};
@@ -52,7 +53,7 @@ impl<C: Coefficient> Model for Propagator<C> {
 }
 
 impl<C: Coefficient> Propagator<C> {
-    /// The empty trail over the rows. Nothing after it takes memory.
+    /// The empty trail over the rows. No later call takes memory.
     pub fn new(alloc: Global, source: TablesSource<C>) -> Result<Propagator<C>, Memory>
         ensures { IfOk result (λ p. p ≡ record { form = source.form; vars = source.vars; rows = source.rows; trail = []; levels = []; conflict = false }) }
     {
@@ -79,7 +80,7 @@ impl<C: Coefficient> Propagator<C> {
         TrailView::new(self.source.tables(), &self.trail)
     }
 
-    /// Where the assumption after as many others stands on the trail, and the trail's length where there is none.
+    /// Where the assumption after `level` others stands on the trail, or the trail's length where there is none.
     pub fn start_of(&self, level: u32) -> usize
         ensures { result ≡ slice_index_or self.now.levels level (length self.now.trail) }
     {
@@ -154,8 +155,8 @@ impl<C: Coefficient> Propagator<C> {
         }
     }
 
-    /// The row that forced the variable's value, where it has one that a row forced. No more than a hint: where the variable
-    /// has no value it is the row that forced the last one.
+    /// The row that forced the variable's value, if a row did. No more than a hint: where the variable has no value it is the
+    /// row that forced its last one.
     pub fn reason(&self, var: u32) -> Option<usize>
         ensures within { IfSome result (λ row. row < length self.now.rows) }
     {
@@ -204,7 +205,7 @@ impl<C: Coefficient> Propagator<C> {
         step
     }
 
-    /// Takes back every assumption above the level, and what was added since.
+    /// Undoes every assumption above the level, and what was added since.
     pub fn undo_to(&mut self, level: u32)
         requires { level ≤ length self.old.levels }
         ensures undone { self.new ≡ record self.old { trail = trail_before self.old level; levels = take level self.old.levels; conflict = false } }
@@ -224,7 +225,7 @@ impl<C: Coefficient> Propagator<C> {
     }
 }
 
-/// Whether rows are known to be settled up to just this place.
+/// Whether the place up to which rows are known to be settled is this one.
 fn is_at(propagated: Option<usize>, place: usize) -> bool
     ensures { result ≡ true → propagated ≡ Some place }
 {
@@ -234,7 +235,7 @@ fn is_at(propagated: Option<usize>, place: usize) -> bool
     }
 }
 
-/// The place where it is known, and else none.
+/// The place where `known`, and else none.
 fn known_if(known: bool, propagated: Option<usize>) -> Option<usize>
     ensures { ForSome result (λ place. (known ≡ true) × (propagated ≡ Some place)) }
 {

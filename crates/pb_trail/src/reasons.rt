@@ -1,4 +1,5 @@
-//! Which rows forced the literals of a trail. No answer depends on it, so nothing is promised.
+//! Which rows forced the literals of a trail. No answer depends on this, so nothing is promised about it.
+//! Source: [MS99]
 
 use pb_inst::{Lit, Memory};
 use std::alloc::Global;
@@ -13,7 +14,7 @@ pub struct Reasons {
 }
 
 impl Reasons {
-    /// No row forced any of so many variables.
+    /// Reasons for `vars` variables, none of which a row has forced.
     pub fn new(alloc: Global, vars: usize) -> Result<Reasons, Memory> {
         let rows = vec![in alloc; NO_ROW; vars]?;
         Ok(Reasons { rows })

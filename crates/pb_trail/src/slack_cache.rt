@@ -1,4 +1,4 @@
-//! The slack cache: at which slack each long row was looked through last.
+//! The slack cache: the slack at which each long row was last looked through.
 
 ghost use Rattle.std.specs.Prelude.{◌≡◌, ◌<◌, true, length, IfOk, IfSome};
 ghost use Rattle.pb_trail.specs.SlackCache.{IsKnown, IsEntryOf, KnowsNothing, NotesOnly};
@@ -9,11 +9,11 @@ use pb_normal::{Form, FormTerm};
 use std::alloc::Global;
 use std::marker::Model;
 
-/// A row of the form with at least so many terms is long. To look through a shorter one costs less than to find out what is
-/// known of it.
+/// A row of the form with at least `LONG` terms is long. Looking through a shorter one costs less than finding out what is
+/// known of it. The number was chosen by hand.
 const LONG: usize = 64;
 
-/// The slack at which a row was looked through last, and the number of undoings from which on it tells nothing.
+/// The slack at which a row was last looked through, and the number of undoings from which on it is stale.
 #[derive(Clone, Copy)]
 struct CachedSlack<C: Coefficient> {
     row: usize,
@@ -31,12 +31,12 @@ impl<C: Coefficient> Model for CachedSlack<C> {
     ghost inverse = { λ l. record { row = l.row; slack = l.slack; until = l.until } };
 }
 
-/// The slack at which each long row was looked through last, by the numbers of the rows, and how often literals were taken off
-/// the trail. A slack tells something as long as none was since. What is known of short rows is nothing, and takes no memory.
+/// The slack at which each long row was last looked through, in the order of the rows, and how often literals were taken off
+/// the trail. A slack is stale once literals were taken off since. Short rows are not kept, and take no memory.
 #[derive(Drop)]
 pub struct SlackCache<C: Coefficient> {
     last: Vec<CachedSlack<C>>,
-    /// Stays at its greatest number, from which on nothing is known.
+    /// Stays at the greatest number once it gets there, and from then on nothing is known.
     undone: u64,
 }
 
@@ -52,7 +52,7 @@ impl<C: Coefficient> Model for SlackCache<C> {
 }
 
 impl<C: Coefficient> SlackCache<C> {
-    /// Nothing is known yet. It makes room for all long rows of the form.
+    /// The cache that knows nothing yet. It makes room for all long rows of the form.
     pub fn new(alloc: Global, form: &Form<C>) -> Result<SlackCache<C>, Memory>
         ensures { IfOk result (λ slack_cache. KnowsNothing slack_cache) }
     {
@@ -83,7 +83,7 @@ impl<C: Coefficient> SlackCache<C> {
         }
     }
 
-    /// Notes that the row was looked through at the slack. A row that isn't long is not noted.
+    /// Notes that the row was looked through at the slack. A short row is not noted.
     pub fn note(&mut self, row: usize, slack: Counter<C>)
         ensures { NotesOnly self.old self.new row slack }
     {

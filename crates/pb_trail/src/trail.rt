@@ -1,4 +1,5 @@
-//! A trail, with what it leaves each row to reach.
+//! A trail, with the sum that each row can still reach under it.
+//! Source: [ES03], [CK05]
 
 ghost use Rattle.std.specs.Prelude.{◌≡◌, ℕ, ◌+◌, ◌-◌, ◌*◌, ◌<◌, ◌≤◌, [], ◌∷◌, ◌++◌, true, length, take, All, None, slice_index, slice_index_or, IfOk, sum_by};
 ghost use Rattle.pb_rows.specs.Constraints.{row_at};
@@ -27,7 +28,7 @@ pub struct Trail<C: Coefficient> {
     slack_cache: SlackCache<C>,
     /// The row at which a conflict was found last. No more than a hint: the view leaves it out.
     blamed: usize,
-    /// Which rows forced the literals. No more than a hint, as before.
+    /// Which rows forced the literals. No more than a hint, as `blamed` is.
     reasons: Reasons,
 }
 
@@ -124,8 +125,8 @@ impl<C: Coefficient> Trail<C> {
         self.reasons.row_of(var)
     }
 
-    /// Whether the row was looked through at this slack or a lesser one, with nothing taken off since. Of short rows that is
-    /// not known.
+    /// Whether the row was looked through at this slack or a lesser one, with nothing taken off since. For a short
+    /// row it is false.
     pub fn knows(&self, row: usize, slack: Counter<C>) -> bool
         ensures { result ≡ true → IsKnown self.now.slack_cache row slack }
     {
@@ -140,7 +141,7 @@ impl<C: Coefficient> Trail<C> {
         self.slack_cache.note(row, slack);
     }
 
-    /// Puts a literal without a value on the trail, for the reason that the row forces it; or for none, `NO_ROW`.
+    /// Puts a literal without a value on the trail. The reason is the row that forces it, or `NO_ROW`.
     pub fn push(&mut self, tables: &Tables<'_, C>, lit: Lit, reason: usize)
         requires up_to_date { IsUpToDate tables.now self.old }
         requires variable { lit.var ≤ self.old.vars }
