@@ -57,7 +57,7 @@ impl<'i> Best<'i> {
         }
     }
 
-    /// Gives the room back. Where an assignment is held, it is in there.
+    /// Gives the room back, which is the assignment that is held, if one is.
     pub fn into_room(self) -> Assignment
         ensures count { length result ≡ self.entry.problem.vars }
         ensures held { IfSome self.entry.held (λ s. result ≡ s.assignment) }
