@@ -17,7 +17,7 @@ use Rattle.pb_rows.proofs.CostLemmas.{weight_of-next, place_below}
 use Rattle.pb_dual.proofs.SoundLemmas.{over-same}
 use Rattle.pb_dual.specs.ReducedCosts.{weighted, promised, cost_at, least_cost, over_variables, part, parts}
 
--- one number is another
+-- one number of a sum is replaced
 pub over-changed : (f g : ℕ → ℕ) (n v : ℕ) → 1 ≤ v → v ≤ n → ((u : ℕ) → 1 ≤ u → u ≤ n → u ≢ v → f u ≡ g u) → over_variables g n + f v ≡ over_variables f n + g v
 over-changed f g zero v low high same = absurd (omega arith)
 over-changed f g (suc n) v low high same = elim (cases_eq v (suc n)) [
@@ -33,7 +33,7 @@ over-has f (suc n) v low high = elim (cases_lt n v) [
   | inr h ↦ omega (arith, over-has f n v low h)
 ]
 
--- a sum of numbers up to a limit
+-- a sum of numbers that are at most `most`
 pub over-most : (f : ℕ → ℕ) (n most : ℕ) → ((v : ℕ) → 1 ≤ v → v ≤ n → f v ≤ most) → over_variables f n ≤ n * most
 over-most f zero most each = omega arith
 over-most f (suc n) most each = omega (arith, over-most f n most (λ v low high. each v low (omega arith)), each (suc n) (omega arith) (omega arith))
@@ -45,7 +45,7 @@ places_apart v u true false low from other e = other (omega arith)
 places_apart v u false true low from other e = other (omega arith)
 places_apart v u false false low from other e = other (omega arith)
 
--- another reduced cost of a literal
+-- a literal's reduced cost is replaced
 pub parts-repriced : (costs : List ℕ) (values : List (Option Bool)) (l : Literal) (n : ℕ) → 1 ≤ l.var → l.var ≤ length values → parts (set costs (literal_place l) n) values + part costs l.var (get_or values (l.var - 1) None) ≡ parts costs values + part (set costs (literal_place l) n) l.var (get_or values (l.var - 1) None)
 unfolding parts
 parts-repriced costs values l n low high =
@@ -60,7 +60,7 @@ parts-repriced costs values l n low high =
     same_part u (Some false) plain negated = negated
     same_part u None plain negated = rw (plain, negated) refl
 
--- another value of a variable
+-- a variable's value is replaced
 pub parts-valued : (costs : List ℕ) (values : List (Option Bool)) (v : ℕ) (value : Option Bool) → 1 ≤ v → v ≤ length values → parts costs (set values (v - 1) value) + part costs v (get_or values (v - 1) None) ≡ parts costs values + part costs v (get_or (set values (v - 1) value) (v - 1) None)
 unfolding parts
 parts-valued costs values v value low high =
@@ -101,7 +101,7 @@ part-of-literal costs l m value x y same other own others = of_sign l.positive v
     of_sign false (Some false) own others = own
     of_sign false None own others = rw (own, others) refl
 
--- the same once the literal's reduced cost is another
+-- what a variable adds at least once the literal's reduced cost is replaced by `n`
 pub part-of-changed : (costs : List ℕ) (l m : Literal) (value : Option Bool) (n y : ℕ) → m.var ≡ l.var → m.positive ≡ not l.positive → literal_place l < length costs → y ≡ get_or costs (literal_place m) 0 → least_cost (λ positive. cond (same_sign positive l.positive) n y) value ≡ part (set costs (literal_place l) n) l.var value
 part-of-changed costs l m value n y same other short others =
     let apart : literal_place m ≢ literal_place l = λ e. places_of_signs l.var l.positive (sym (ap (λ (v : ℕ). literal_place (record { var = v; positive = m.positive })) same ∙ ap (λ (b : Bool). literal_place (record { var = l.var; positive = b })) other) ∙ e) in
@@ -113,7 +113,7 @@ part-of-changed costs l m value n y same other short others =
     places_of_signs v true e = omega arith
     places_of_signs v false e = omega arith
 
--- one row's multiplier is another
+-- one row's multiplier is replaced
 pub weighted-set : (worth : PositiveRow → ℕ) (ys : List ℕ) (rows : List PositiveRow) (r y : ℕ) → length ys ≡ length rows → r < length rows → weighted worth (set ys r y) rows + get_or ys r 0 * worth (row_at rows r) ≡ weighted worth ys rows + y * worth (row_at rows r)
 weighted-set worth [] [] r y same h = absurd (omega arith)
 weighted-set worth [] (row ∷ rows) r y same h = absurd (omega arith)
@@ -156,7 +156,7 @@ place-set costs l m n low from short =
           kept ∙ (let one : get_or costs (literal_place m) 0 ≡ cond (same_literal m l) n (get_or costs (literal_place m) 0) = rw other refl in one))
     ]
 
--- what a variable adds once the cost of one of its literals is another is within the limit of all of them
+-- once the cost of one of its literals is replaced, what a variable adds is still within the limit of all costs
 pub repriced-most : (costs : List ℕ) (vars : ℕ) (l : Literal) (n most : ℕ) → 1 ≤ l.var → l.var ≤ vars → length costs ≡ 2 * vars → n ≤ most → ((m : Literal) → 1 ≤ m.var → m.var ≤ vars → get_or costs (literal_place m) 0 ≤ most) → (value : Option Bool) → part (set costs (literal_place l) n) l.var value ≤ most
 repriced-most costs vars l n most low high count new each value = part-most (set costs (literal_place l) n) l.var most one value
   where
@@ -190,7 +190,7 @@ can-reprice costs before terms i t from to most h read is enough fits =
     let whole = mul-le from (w + t.coef) from (weight_of t.lit terms) (omega arith) (omega arith) in
     (omega arith, omega arith)
 
--- a cost on the way is within the limit too
+-- a cost after some of the terms is within the limit too
 pub now-most : (cost before : ℕ) (terms : List PositiveTerm) (i : ℕ) (l : Literal) (from to most : ℕ) → cost + to * weight_of l (take i terms) ≡ before + from * weight_of l (take i terms) → before + from * weight_of l terms ≤ most → cost ≤ most
 unfolding weight_of
 now-most cost before terms i l from to most is fits =
@@ -228,7 +228,7 @@ repriced-one old values l m v p q x y n low high count same other here_var here 
       new = is;
     }
 
--- one term further
+-- one term more is repriced
 pub repriced-next : (first costs : List ℕ) (terms : List PositiveTerm) (i : ℕ) (t : PositiveTerm) (from to : ℕ) (m : Literal) → i < length terms → t ≡ get_or terms i t → 1 ≤ t.lit.var → 1 ≤ m.var → literal_place t.lit < length costs → to * t.coef ≤ get_or costs (literal_place t.lit) 0 + from * t.coef → get_or costs (literal_place m) 0 + to * weight_of m (take i terms) ≡ get_or first (literal_place m) 0 + from * weight_of m (take i terms) → get_or (set costs (literal_place t.lit) (get_or costs (literal_place t.lit) 0 + from * t.coef - to * t.coef)) (literal_place m) 0 + to * weight_of m (take (i + 1) terms) ≡ get_or first (literal_place m) 0 + from * weight_of m (take (i + 1) terms)
 repriced-next first costs terms i t from to m h read low above short enough is =
     let n = get_or costs (literal_place t.lit) 0 + from * t.coef - to * t.coef in

@@ -23,7 +23,7 @@ counted-less form ss root trail are r h =
     let at = ap (λ (row : PositiveRow). row.degree) (counted-at ss form.rows r (record { terms = []; degree = 0 }) are.count short) in
     omega (arith, at, (are.within r short).less)
 
--- one saturation is another
+-- the saturation of one row is replaced
 pub saturations-set : (form : NormalForm) (ss : List Saturation) (root : ℕ) (trail : List Literal) (row : ℕ) (s : Saturation) → AreSaturations form ss root trail → row < length form.rows → IsWithinRow (row_at form.rows row) s → ((a : List Bool) → IsCompletion form.rows (take root trail) a → MeetsRow a (counted_row s (row_at form.rows row))) → AreSaturations form (set ss row s) root trail
 saturations-set form ss root trail row s are h within met = record {
   count = length-set ss row s ∙ are.count;

@@ -35,14 +35,14 @@ counted-at (s ∷ ss) [] r d same h = absurd (omega arith)
 counted-at (s ∷ ss) (row ∷ rows) zero d same h = refl
 counted-at (s ∷ ss) (row ∷ rows) (suc r) d same h = counted-at ss rows r d (omega arith) (omega arith)
 
--- one is counted in another way
+-- one row is counted in another way
 pub counted-set : (ss : List Saturation) (rows : List PositiveRow) (r : ℕ) (s : Saturation) → length ss ≡ length rows → r < length rows → counted_rows (set ss r s) rows ≡ set (counted_rows ss rows) r (counted_row s (row_at rows r))
 counted-set [] rows r s same h = absurd (omega arith)
 counted-set (t ∷ ss) [] r s same h = absurd (omega arith)
 counted-set (t ∷ ss) (row ∷ rows) zero s same h = refl
 counted-set (t ∷ ss) (row ∷ rows) (suc r) s same h = ap (λ (rest : List PositiveRow). counted_row t row ∷ rest) (counted-set ss rows r s (omega arith) (omega arith))
 
--- that of a row without a multiplier is worth nothing
+-- a row with a multiplier of 0 is worth nothing, however it is counted
 pub weighted-unused : (worth : PositiveRow → ℕ) (ys : List ℕ) (rows : List PositiveRow) (r : ℕ) (row : PositiveRow) → get_or ys r 0 ≡ 0 → weighted worth ys (set rows r row) ≡ weighted worth ys rows
 weighted-unused worth [] rows r row none = refl
 weighted-unused worth (y ∷ ys) [] r row none = refl
@@ -117,7 +117,7 @@ counted-normal form ss root trail normal are = record {
     is_short : (r : ℕ) → r < length (counted_rows ss form.rows) → r < length form.rows
     is_short r h = omega (arith, length-counted ss form.rows are.count)
 
--- what completes the trail gives at least what is on it and, of the rest, what is left of the degree or more, be no coefficient counted over that
+-- even with capped coefficients, an assignment that agrees with the trail reaches at least what the trail does plus the rest of its uncapped value, up to the cap
 met-rest : (a : List Bool) (trail : List Literal) (most : ℕ) (terms : List PositiveTerm) → All (λ (l : Literal). literal_value a l ≡ 1) trail → reached trail (capped most terms) + min most (positive_value a terms - reached trail terms) ≤ positive_value a (capped most terms)
 unfolding reached
 met-rest a trail most [] makes = omega arith
@@ -201,7 +201,7 @@ reached-next trail most terms i t h read =
     ap (reached trail) (map_more (capped_term most) terms i t h)
     ∙ (reached-push trail (capped most (take i terms)) (capped_term most (get_or terms i t)) ∙ ap (λ (u : PositiveTerm). reached trail (capped most (take i terms)) + cond (is_true trail u.lit) (min u.coef most) 0) (sym read))
 
--- no more than where no coefficient is capped
+-- a trail reaches no more with capped coefficients than without
 pub reached-capped : (trail : List Literal) (most : ℕ) (terms : List PositiveTerm) → reached trail (capped most terms) ≤ reached trail terms
 unfolding reached
 reached-capped trail most [] = omega arith
@@ -213,7 +213,7 @@ reached-capped trail most (t ∷ terms) =
     pick true n = omega arith
     pick false n = omega arith
 
--- so far no more than in the end
+-- a trail reaches no more of the first terms than of all
 pub reached-most : (trail : List Literal) (most : ℕ) (terms : List PositiveTerm) (i : ℕ) → reached trail (capped most (take i terms)) ≤ reached trail terms
 unfolding reached
 reached-most trail most terms i = omega (arith, reached-capped trail most (take i terms), sum_by-take-le (λ (u : PositiveTerm). cond (is_true trail u.lit) u.coef 0) terms i)
@@ -269,7 +269,7 @@ true_by_value trail l b consistent value = by_cases (is_true trail (lit l.var tr
     by_cases false true p true both value = absurd (let wrong : ⊥ = cc in wrong)
     by_cases false false p b both value = absurd (let wrong : ⊥ = cc in wrong)
 
--- the same where no coefficient is capped
+-- one term further where no coefficient is capped
 pub reached-step : (trail : List Literal) (terms : List PositiveTerm) (i : ℕ) (t : PositiveTerm) → i < length terms → t ≡ get_or terms i t → reached trail (take (i + 1) terms) ≡ reached trail (take i terms) + cond (is_true trail t.lit) t.coef 0
 reached-step trail terms i t h read =
     ap (reached trail) (take_more terms i t h)

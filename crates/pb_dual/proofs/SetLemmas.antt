@@ -12,7 +12,7 @@ use Rattle.pb_dual.specs.Multipliers.{IsWithinShare}
 use Rattle.pb_dual.proofs.ChangeLemmas.{weighted-set, promised-most}
 use Rattle.pb_dual.proofs.SoundLemmas.{taken-le-promised, weight-most}
 
--- each row's multiplier is within its share, for all rows but one that is given another
+-- each row's multiplier stays within its share where one row is given another
 pub within-set : (form : NormalForm) (ys : List ℕ) (share row to : ℕ) → length ys ≡ length form.rows → ((r : ℕ) → r < length form.rows → IsWithinShare form share r (get_or ys r 0)) → IsWithinShare form share row to → (r : ℕ) → r < length form.rows → IsWithinShare form share r (get_or (set ys row to) r 0)
 within-set form ys share row to same each new r h = elim (cases_eq r row) [
   | inl here ↦
@@ -28,7 +28,7 @@ within-set form ys share row to same each new r h = elim (cases_eq r row) [
 pub promised-small : (form : NormalForm) (ys : List ℕ) (origin share : ℕ) → length ys ≡ length form.rows → share * length form.rows ≤ origin → ((r : ℕ) → r < length form.rows → IsWithinShare form share r (get_or ys r 0)) → promised ys form.rows ≤ origin
 promised-small form ys origin share same shared each = omega (arith, promised-most ys form.rows share same each)
 
--- a reduced cost, once the row's multiplier is another: what it takes, and that nothing leaves its range
+-- a reduced cost once the row's multiplier is replaced: what that needs, and that nothing leaves its range
 pub can-set : (origin scale : ℕ) (form : NormalForm) (ys : List ℕ) (share row to : ℕ) (l : Literal) (cost : ℕ) → IsNormal form → length ys ≡ length form.rows → share * length form.rows ≤ origin → ((r : ℕ) → r < length form.rows → IsWithinShare form share r (get_or ys r 0)) → scale * total_coefficient form.objective < 2 * origin → row < length form.rows → IsWithinShare form share row to → IsReducedCost origin scale form ys l cost → (to * weight_of l (row_at form.rows row).terms ≤ cost + get_or ys row 0 * weight_of l (row_at form.rows row).terms) × (cost + get_or ys row 0 * weight_of l (row_at form.rows row).terms ≤ 3 * origin)
 can-set origin scale form ys share row to l cost normal same shared each scaled exists new is =
     let w = weight_of l (row_at form.rows row).terms in

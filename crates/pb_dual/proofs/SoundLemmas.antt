@@ -106,7 +106,7 @@ over-weights a n (t ∷ terms) within =
 abbrev value_in : List Bool → PositiveRow → ℕ
 value_in a row = positive_value a row.terms
 
--- what rows take off the chosen literals is what they are worth, so many times each
+-- what rows take off the chosen literals is what they are worth, each times its multiplier
 pub over-taken : (a : List Bool) (n : ℕ) (ys : List ℕ) (rows : List PositiveRow) → All (λ (row : PositiveRow). AreWithin n row.terms) rows → over_variables (λ v. taken_off ys rows (chosen a v)) n ≡ weighted (value_in a) ys rows
 over-taken a n [] rows within = over-none (λ v. 0) n (λ v low high. refl)
 over-taken a n (y ∷ ys) [] within = over-none (λ v. 0) n (λ v low high. refl)
@@ -118,7 +118,7 @@ over-taken a n (y ∷ ys) (row ∷ rows) within =
     let rest : over_variables others n ≡ weighted (value_in a) ys rows = over-taken a n ys rows (All-tail P row rows within) in
     over-add (λ v. y * own v) others n ∙ (ap (λ (m : ℕ). m + over_variables others n) one ∙ ap (λ (m : ℕ). y * value_in a row + m) rest)
 
--- the degrees promise no more than rows are worth that are met
+-- the degrees promise no more than the rows are worth where all of them are met
 pub promised-le-worth : (a : List Bool) (ys : List ℕ) (rows : List PositiveRow) → MeetsRows a rows → promised ys rows ≤ weighted (value_in a) ys rows
 promised-le-worth a [] rows meets = omega arith
 promised-le-worth a (y ∷ ys) [] meets = omega arith

@@ -92,7 +92,7 @@ starting-next vars origin scale terms i t costs place are h read low high at = r
       ]);
 })
 
--- rows taken no times are worth nothing
+-- rows whose multipliers are 0 are worth nothing
 pub weighted-none : (worth : PositiveRow → ℕ) (rows : List PositiveRow) → weighted worth (replicate (length rows) 0) rows ≡ 0
 weighted-none worth [] = refl
 weighted-none worth (row ∷ rows) = omega (arith, weighted-none worth rows)

@@ -79,7 +79,7 @@ reduced-most origin scale form ys l scaled =
     most : (w t k : ℕ) → w ≤ t → t < 2 * origin → (origin + w) - k ≤ 3 * origin
     most w t k h scaled = omega arith
 
--- so does what a variable adds
+-- so is what a variable adds
 part_on-most : (origin scale : ℕ) (form : NormalForm) (ys : List ℕ) (trail : List Literal) (v : ℕ) → scale * total_coefficient form.objective < 2 * origin → part_on origin scale form ys trail v ≤ 3 * origin
 part_on-most origin scale form ys trail v scaled = least (value_on trail v)
   where
@@ -201,7 +201,7 @@ below_cost s n a low most =
     order : (base : ℤ) (total up value : ℕ) → up ≤ value → (base +ℤ pos (min total up)) ≤ℤ (base +ℤ pos value)
     order base total up value h = omega (arith, ints)
 
--- the form is counted with these rows, which whatever completes the trail meets
+-- the form is counted with these rows, which every completion of the trail meets
 pub record IsCountedWith (s : MultipliersState) (rows : List PositiveRow) : Type 0 where
   pub counted_is : s.counted ≡ record s.form { rows = rows }
   pub normal : IsNormal (record s.form { rows = rows })

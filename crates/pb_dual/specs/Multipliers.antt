@@ -12,7 +12,7 @@ use Rattle.pb_trail.specs.Tracked.{AreValues}
 use Rattle.pb_dual.specs.Changes.{Change}
 use Rattle.pb_dual.specs.ReducedCosts.{promised, reduced_cost, AreReducedCosts, part_on, parts_on, parts}
 
--- a normal form, the same with its rows as they are counted, where a reduced cost of 0 is kept, by how much costs are scaled up, the most that a multiplier times its row's degree
+-- a normal form, the same with its rows as they are counted, the number that stands for a reduced cost of 0, by how much costs are scaled up, the most that a multiplier times its row's degree
 -- may be, a multiplier for each row, a trail over the variables, on how many literals of it the counting stands, the changes of multipliers that can be taken back, the earliest
 -- first, and how many of them there may be
 pub record MultipliersState : Type 0 where
@@ -46,7 +46,7 @@ undone (change ∷ changes) ys = slice_set (undone changes ys) change.row change
 abbrev pub released : MultipliersState → MultipliersState
 released s = record s { counted = s.form; root = 0 }
 
--- the state with so many literals left on the trail: rows are counted as they are once fewer are left than the counting stands on
+-- the state with `length` literals left on the trail: rows are counted as they are once fewer are left than the counting stands on
 abbrev pub cut_to : ℕ → MultipliersState → MultipliersState
 cut_to length s = if nat_lt length s.root then record (released s) { trail = take length s.trail } else record s { trail = take length s.trail }
 

@@ -12,7 +12,7 @@ weighted worth [] rows = 0
 weighted worth (y ∷ ys) [] = 0
 weighted worth (y ∷ ys) (row ∷ rows) = y * worth row + weighted worth ys rows
 
--- the degrees, so many times each
+-- the sum of the degrees, each times its row's multiplier
 abbrev pub promised : List ℕ → List PositiveRow → ℕ
 promised ys rows = weighted (λ row. row.degree) ys rows
 
@@ -53,7 +53,7 @@ part_on origin scale form ys trail var = least_cost (λ positive. reduced_cost o
 unfoldable pub parts_on : ℕ → ℕ → NormalForm → List ℕ → List Literal → ℕ
 parts_on origin scale form ys trail = over_variables (part_on origin scale form ys trail) form.vars
 
--- the same where these are the reduced costs, and the variable's value
+-- what a variable adds at least, where these are the reduced costs and this is its value
 abbrev pub part : List ℕ → ℕ → Option Bool → ℕ
 part costs var value = least_cost (λ positive. cost_at costs var positive) value
 

@@ -1,4 +1,5 @@
 //! Multipliers for rows, with what they say of the completions of a trail.
+//! Source: [G74], [DFJ54], [CJP83]
 
 ghost use Rattle.std.specs.Prelude.{◌≡◌, ◌⊎◌, ℕ, ◌+◌, ◌-◌, ◌*◌, ◌^◌, ◌<◌, ◌≤◌, [], ◌∷◌, ◌++◌, false, true, Ok, None, IfOk, IfSome, IsTrue, Bool, List, length, take, drop, replicate, min, slice_index, slice_set, slice_index_or, pos, ◌≤ℤ◌, ltb};
 ghost use Rattle.pb_inst.specs.declared.limits.TheConstants.{MAX_VARS};
@@ -34,18 +35,18 @@ pub struct Multipliers<C: Coefficient = u64> {
     /// The sum of the degrees, each times its row's multiplier.
     degrees: Counter<C>,
     costs: Vec<Counter<C>>,
-    /// What all variables add at least.
+    /// What all variables together add at least.
     sum: u128,
     values: Vec<Option<bool>>,
     lits: Vec<Lit>,
     changes: Vec<Change<C>>,
     /// How each row is counted.
     saturations: Vec<Saturation<C>>,
-    /// On how many literals of the trail the counting stands.
+    /// How many literals, from the trail's first on, the counting of the rows stands on.
     root: usize,
 }
 
-// By hand, so that whoever lets go of multipliers sees one call, and not each of their parts.
+// Written by hand, so that whoever drops multipliers sees one call, and not one for each part.
 impl<C: Coefficient> Drop for Multipliers<C> {
     fn drop(self) {
         let Multipliers {
@@ -79,9 +80,9 @@ impl<C: Coefficient> Model for Multipliers<C> {
 }
 
 impl<C: Coefficient> Multipliers<C> {
-    /// A multiplier of 0 for each row, the empty trail, and room for so many changes. Nothing after it takes memory. Costs
-    /// are scaled up, so that multipliers are fractions of a cost. There are none where the sum of all costs leaves no room
-    /// for a scale in the width of the form, or the variables are more than an instance has.
+    /// A multiplier of 0 for each row, the empty trail, and room for `room` changes. No later call takes memory. Costs are
+    /// scaled up, so that multipliers can be fractions of a cost. None where the sum of all costs leaves no room for a scale in
+    /// the width of the form, or where there are more variables than an instance may have.
     pub fn new(alloc: Global, form: &Form<C>, room: usize) -> Result<Option<Multipliers<C>>, Memory>
         ensures form { IfOk result (λ made. IfSome made (λ m. m.form ≡ form.now)) }
         ensures multipliers { IfOk result (λ made. IfSome made (λ m. m.multipliers ≡ replicate (length form.now.rows) 0)) }
@@ -100,7 +101,7 @@ impl<C: Coefficient> Multipliers<C> {
         Ok(Some(made))
     }
 
-    /// The same where there is a scale for costs of this sum.
+    /// Makes the multipliers of a form whose costs have this sum, where there is a scale for it.
     fn scaled(
         alloc: Global,
         form: Form<C>,
@@ -209,7 +210,7 @@ impl<C: Coefficient> Multipliers<C> {
         self.lits.len()
     }
 
-    /// The multiplier of the row, by the scale.
+    /// The multiplier of the row, times the scale.
     pub fn multiplier(&self, row: usize) -> Counter<C>
         requires { row < length self.now.form.rows }
         ensures { result ≡ slice_index self.now.multipliers row }
@@ -238,7 +239,7 @@ impl<C: Coefficient> Multipliers<C> {
         self.bound_at(self.sum + self.penalty(lit).number())
     }
 
-    /// What the bound rises by, times the scale, once the literal is on the trail.
+    /// By how much the bound rises, times the scale, once the literal is on the trail.
     pub fn penalty(&self, lit: Lit) -> Counter<C>
         requires variable { lit.var ≤ self.now.form.vars }
         ensures { result ≡ penalty self.now lit }
@@ -247,7 +248,7 @@ impl<C: Coefficient> Multipliers<C> {
         self.costs[place_of(lit)].above(least)
     }
 
-    /// Whether more than all costs together is promised. Then nothing completes the trail: no assignment costs more than that.
+    /// Whether more than all costs together is promised. Then nothing completes the trail, since no assignment costs more.
     pub fn refutes(&self) -> bool
         ensures value { result ≡ is_over_all_costs self.now }
         ensures no_completion { result ≡ true → HasNoCompletion self.now.form.rows self.now.trail }
@@ -258,11 +259,11 @@ impl<C: Coefficient> Multipliers<C> {
     }
 
     /// A literal without a value that every completion of the trail that costs no more than the limit makes true, or none. It
-    /// is looked for among the variables after the first `from`, and among some hundred of them alone.
+    /// is looked for among the variables after the first `from`, and among `FIXING_WINDOW` of them alone.
     pub fn fixed_literal(&self, from: u32, limit: Number) -> Option<Lit>
         ensures { IfSome result (IsFixed self.now.form self.now.trail limit) }
     {
-        // What the reduced costs propose is believed only where the bound with the other value is over the limit.
+        // The reduced costs only propose a literal: it is believed where the bound with its other value is over the limit.
         let lit = self.proposed_literal(from, limit)?;
         if !self.is_free(lit) {
             return None;
@@ -287,19 +288,19 @@ impl<C: Coefficient> Multipliers<C> {
         None
     }
 
-    /// By how much, times the scale, the bound may rise before it is over the limit. A measure, and no more than a hint.
+    /// By how much, times the scale, the bound may rise before it is over the limit. No more than a hint.
     pub fn gap(&self, limit: Number) -> Counter<C> {
         let room = limit.saturating_sub(self.form.base()).max(0).unsigned_abs();
         let most = room.saturating_mul(self.scale.number());
         Counter::nearest(most.saturating_sub(self.above()))
     }
 
-    /// How far the bound is over the base, times the scale. A measure, and no more than a hint.
+    /// How far the bound is over the base, times the scale. No more than a hint.
     pub fn height(&self) -> Counter<C> {
         Counter::nearest(self.above())
     }
 
-    /// The same, however great.
+    /// What is promised over the base, times the scale, however great.
     fn above(&self) -> u128
         ensures { result ≡ promised_above self.now }
     {
@@ -309,20 +310,20 @@ impl<C: Coefficient> Multipliers<C> {
             .saturating_sub(self.floor())
     }
 
-    /// What all variables add where none costs anything.
+    /// What all variables together add where none has a cost.
     fn floor(&self) -> u128
         ensures { result ≡ self.now.form.vars * self.now.origin }
     {
         self.values.len() as u128 * Counter::<C>::origin().number()
     }
 
-    /// The bound where all variables add so much at least.
+    /// The bound where all variables together add `sum` at least.
     fn bound_at(&self, sum: u128) -> Number
         requires { sum < 2 ^ 127 }
         ensures { result ≡ bound_from self.now sum }
     {
         let above = (sum + self.degrees.number()).saturating_sub(self.floor());
-        // More than all costs together is promised only where the trail has no completion.
+        // Cut to all costs, so that it fits: more than these is promised only where the trail has no completion.
         let most = self.scale * self.total;
         let scaled = Counter::<C>::fitting(above.min(most.number()));
         self.form.base() + scaled.div_ceil(self.scale).number() as Number
@@ -344,7 +345,7 @@ impl<C: Coefficient> Multipliers<C> {
         self.lits.push_reserved(lit);
     }
 
-    /// Takes literals off the trail until so many are left. Once fewer are left than those by which rows were saturated, the
+    /// Takes literals off the trail until `length` are left. Once fewer are left than those by which rows were saturated, the
     /// rows count as they are again.
     pub fn unassign_to(&mut self, length: usize)
         ensures value { self.new ≡ cut_to length self.old }
@@ -357,7 +358,7 @@ impl<C: Coefficient> Multipliers<C> {
         self.unassign_down_to(length);
     }
 
-    /// The same where rows count no literal that is taken off.
+    /// Takes literals off the trail until `length` are left, where the counting of the rows stands on none of those taken off.
     fn unassign_down_to(&mut self, length: usize)
         requires { self.old.root ≤ length }
         ensures { self.new ≡ record self.old { trail = take length self.old.trail } }
@@ -438,8 +439,8 @@ impl<C: Coefficient> Multipliers<C> {
         self.saturations[row].most
     }
 
-    /// Counts no coefficient of any row more than what is left of the row's degree under the trail as it is, as long as no
-    /// literal of it is taken off.
+    /// Caps each coefficient at what is left of its row's degree under the trail as it is. That lasts until a literal of this
+    /// trail is taken off.
     pub fn saturate(&mut self)
         ensures same { IsSameButCounted self.old self.new }
         ensures root { self.new.root ≡ length self.old.trail }
@@ -450,7 +451,7 @@ impl<C: Coefficient> Multipliers<C> {
         }
     }
 
-    /// The same for one row, where the counting stands on the whole trail. A row that the trail meets stays as it is.
+    /// Caps the coefficients of one row, where the counting stands on the whole trail. A row that the trail meets stays as it is.
     fn saturate_row(&mut self, row: usize)
         requires row { row < length self.old.form.rows }
         requires root { self.old.root ≡ length self.old.trail }
@@ -480,7 +481,7 @@ impl<C: Coefficient> Multipliers<C> {
         left
     }
 
-    /// So much, and what the row's literals on the trail count where no coefficient counts more.
+    /// `most`, plus what the row's literals on the trail count where no coefficient counts more than it.
     fn degree_beside(&self, row: usize, most: Counter<C>) -> Counter<C>
         requires row { row < length self.now.form.rows }
         requires fits { most + reached self.now.trail (row_at self.now.form.rows row).terms ≤ (row_at self.now.form.rows row).degree }
@@ -532,6 +533,7 @@ impl<C: Coefficient> Multipliers<C> {
         ensures { self.new ≡ record self.old { counted = record self.old.counted { rows = slice_set self.old.counted.rows row (counted_row saturation (row_at self.old.form.rows row)) } } }
     {
         let multiplier = self.multipliers[row];
+        // At a multiplier of 0 the row is in no sum, so that the way it is counted may change.
         self.set(row, Counter::of(0));
         self.saturations[row] = saturation;
         self.set(row, multiplier);
@@ -544,8 +546,8 @@ impl<C: Coefficient> Multipliers<C> {
         self.changes.len()
     }
 
-    /// Takes back changes, the last one first, until so many are left. The multipliers are then what they were when there
-    /// were so many.
+    /// Takes back changes, the last one first, until `count` are left. The multipliers are then what they were when there
+    /// were `count`.
     pub fn take_back_to(&mut self, count: usize)
         requires { count ≤ length self.old.changes }
         ensures { self.new ≡ record self.old { multipliers = undone (drop count self.old.changes) self.old.multipliers; changes = take count self.old.changes } }
@@ -555,7 +557,7 @@ impl<C: Coefficient> Multipliers<C> {
         }
     }
 
-    /// The row of the last change, where there are more than so many.
+    /// The row of the last change, where there are more than `count`.
     pub fn last_changed(&self, count: usize) -> Option<usize>
         ensures { IfSome result (λ _. count < length self.now.changes) }
     {
@@ -575,7 +577,7 @@ impl<C: Coefficient> Multipliers<C> {
         }
     }
 
-    /// Keeps the multipliers as they are: no change before can be taken back.
+    /// Keeps the multipliers as they are: no change made so far can be taken back.
     pub fn keep(&mut self)
         ensures { self.new ≡ record self.old { changes = [] } }
     {
@@ -605,16 +607,17 @@ impl<C: Coefficient> Multipliers<C> {
     }
 }
 
-/// How many variables are looked at for one fixed literal, so that a node does not cost what the instance has.
+/// How many variables are looked at for one fixed literal, so that the cost of a node does not grow with the instance.
 pub const FIXING_WINDOW: u32 = 512;
 
-/// The sum of all costs is scaled up to no more than this part of the origin, 1 in so many, where that is more than their sum.
+/// All costs together are scaled up to at most the origin divided by this, where that is more than their sum. So multipliers
+/// may promise some thousand times all costs.
 const SCALED_PART: u64 = 1_024;
 
-/// Which part of the origin, 1 in so many, is the greatest scale: 65,536 where the origin is 2^62.
+/// The origin divided by this is the greatest scale: 65,536 where the origin is 2^62.
 const SCALE_PART: u64 = 70_368_744_177_664;
 
-/// How far the two are apart.
+/// How far apart the two are.
 #[inline]
 fn apart<C: Coefficient>(first: Counter<C>, second: Counter<C>) -> Counter<C> {
     if first.is_below(second) {
@@ -645,7 +648,7 @@ fn scale_for<C: Coefficient>(total: Counter<C>) -> Counter<C>
     (scaled / total.max(one)).min(greatest).max(one)
 }
 
-/// The most that each row's multiplier times its degree may be where there are so many rows.
+/// The most that each row's multiplier times its degree may be in a form of `rows` rows: an equal part of the origin.
 fn share_of<C: Coefficient>(rows: usize) -> Counter<C>
     ensures { result * rows ≤ C.origin }
 {

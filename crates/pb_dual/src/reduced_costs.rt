@@ -1,4 +1,5 @@
 //! The reduced costs of literals, and what the variables add at least.
+//! Source: [G74]
 
 ghost use Rattle.std.specs.Prelude.{◌≡◌, ℕ, ◌+◌, ◌-◌, ◌*◌, ◌^◌, ◌<◌, ◌≤◌, Bool, None, All, IfOk, length, replicate, slice_index, slice_index_or, slice_set, if◌then◌else◌};
 ghost use Rattle.pb_inst.specs.declared.limits.TheConstants.{MAX_VARS};
@@ -25,7 +26,7 @@ pub fn part<C: Coefficient>(costs: &[Counter<C>], values: &[Option<bool>], lit: 
     least_of(lit, cost, other, values[lit.var() as usize - 1])
 }
 
-/// The same where these are the reduced costs of the literal and of its negation, and this is the variable's value.
+/// What a variable with this value, or without one, adds at least, by the reduced costs of a literal of it and of the negation.
 #[inline]
 fn least_of<C: Coefficient>(
     lit: Lit,
@@ -97,7 +98,7 @@ pub fn reprice<C: Coefficient>(
     }
 }
 
-/// The same for one literal, and what it counts in the row.
+/// Changes what a row takes off the cost of one literal, which counts `coef` in it.
 fn reprice_literal<C: Coefficient>(
     costs: &mut [Counter<C>],
     sum: &mut u128,

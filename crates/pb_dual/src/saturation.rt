@@ -1,5 +1,7 @@
-//! How rows are counted: no coefficient more than what is left of its row's degree once the literals at a search's root have
-//! their values. Whatever completes those values meets the rows all the same, and the bound of the multipliers is greater.
+//! How rows are counted: no coefficient counts more than what is left of its row's degree once the literals at a search's
+//! root have their values. Every completion of those values still meets the rows, and the same multipliers give a bound that
+//! is as high or higher.
+//! Source: [CJP83], [CK05]
 
 ghost use Rattle.std.specs.Prelude.{◌≡◌, ◌<◌, IfOk, length, min, vec_len};
 ghost use Rattle.pb_dual.specs.Saturation.{AreWhole};

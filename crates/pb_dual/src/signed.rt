@@ -5,8 +5,8 @@ ghost use Rattle.std.specs.Prelude.{◌≡◌, ◌+◌, int_lt, pos, unsigned_ab
 use pb_count::{Coefficient, Counter};
 use std::marker::Model;
 
-/// A number with a sign, which is kept with the limit of the counters more. What does not fit is cut to the range: from minus
-/// the limit up to below it. Contracts see an integer.
+/// A number with a sign, kept as a counter that is greater by the counters' limit. What does not fit is cut to the range: from
+/// minus the limit up to below it. Contracts see an integer.
 #[derive(Clone, Copy)]
 pub struct Signed<C: Coefficient>(Counter<C>);
 
@@ -33,13 +33,13 @@ impl<C: Coefficient> Signed<C> {
         Signed(Counter::limit() + most())
     }
 
-    /// The number without a sign.
+    /// A number of 0 or more, cut to the range.
     #[inline]
     pub fn of(number: Counter<C>) -> Signed<C> {
         Signed(Counter::limit() + number.min(most()))
     }
 
-    /// The number.
+    /// The number, cut to the range.
     #[inline]
     pub fn nearest(number: i128) -> Signed<C> {
         let size = Counter::nearest(number.unsigned_abs());
@@ -132,7 +132,7 @@ impl<C: Coefficient> Signed<C> {
     }
 }
 
-/// What is 1 below the limit.
+/// The number 1 below the limit.
 #[inline]
 fn most<C: Coefficient>() -> Counter<C>
     ensures { result + 1 ≡ C.limit }

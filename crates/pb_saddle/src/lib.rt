@@ -1,16 +1,17 @@
 //! Multipliers and a point for the linear relaxation of what a trail leaves, proposed by PDHG, the primal-dual hybrid gradient.
 //!
-//! The rows that the trail does not meet, and the variables that it gives no value, are taken as a linear program: the
-//! variables may have any value from 0 to 1, and the costs are to be least. A saddle point of its Lagrangian is approached
-//! by PDHG for linear programs, with scaled rows and columns, restarts and a primal weight, and with the reflected Halpern
-//! iteration in place of means.
+//! The rows that the trail does not meet and the variables that it gives no value form a linear program: each variable may
+//! have any value from 0 to 1, and the cost is to be least. PDHG for linear programs approaches a saddle point of its
+//! Lagrangian, with scaled rows and columns, restarts and a primal weight, and with the reflected Halpern iteration in place
+//! of means.
 //!
-//! All of it is counted in floats, by the plain operations in a fixed order, so each machine finds the same. What it finds
-//! is rounded, and no more than a proposal: `pb_dual` tells what follows from any multipliers, and no answer depends on which
-//! they are. So nothing is promised but that form and trail stay. What a form has of variables, rows and terms is the most
-//! that its problems have, so room for them is made once.
+//! The crate computes in floats, by basic operations in a fixed order, so that each machine finds the same. What it finds is
+//! rounded, and no more than a proposal: `pb_dual` tells what follows from any multipliers, and no answer depends on which
+//! they are. So the only promise is that form and trail stay. No problem has more variables, rows or terms than its form, so
+//! room for them is made once.
 //!
-//! Sizes, costs and multipliers are in the units of the form: a multiplier is in costs for 1 of a row's degree.
+//! Sizes, costs and multipliers are in the units of the form: a multiplier is a cost for each 1 of a row's degree.
+//! Source: [CP11], [PC11], [R01], [A21], [LY23], [LY24]
 #![tactic(auto)]
 
 mod floats;

@@ -1,4 +1,5 @@
 //! PDHG, the method: from the multipliers as they are to better ones, and to a point.
+//! Source: [CP11], [A21], [LY24]
 
 ghost use Rattle.pb_saddle.specs.Shifting.{IsSameButShifted};
 
@@ -16,35 +17,41 @@ use pb_inst::{Lit, Memory, Number};
 use pb_normal::Form;
 use std::alloc::Global;
 
-/// The most terms that a form may have: above, one call could make too few steps to be worth it, and nothing is proposed.
+/// The most terms that a form may have, or else nothing is proposed: above, `MOST_VISITS` would end a call before 40 steps,
+/// which are too few to be worth it.
 const MOST_TERMS: usize = 1_000_000;
 
-/// How many numbers one call looks at, at most: some tenths of a second.
+/// About how many numbers one call reads at most: some tenths of a second, so that the search never waits long. Chosen by
+/// hand.
 const MOST_VISITS: u64 = 100_000_000;
 
-/// How many steps there are from one check of the bound to the next.
+/// How many steps there are from one check of the bound to the next. A check costs as much as a step, so checks add 4 %.
 const CHECK_INTERVAL: u32 = 25;
 
-/// How far the bound may be below what it can be, about, where more steps are not worth it: a part of a cost.
+/// The gap to the greatest bound, in costs, at which more steps are not worth it. Costs are whole and bounds are rounded up,
+/// so a small part of one cost seldom matters. Chosen by hand.
 const NEAR: f64 = 1.0 / 64.0;
 
-/// The same as a part of the bound, where costs are great, or of what it lacks to the limit where that is less.
+/// By which part of the bound at the start that gap is wider, since the last 64th of a cost takes too long where bounds are
+/// great. Chosen by hand.
 const NEAR_PART: f64 = 1.0e-6;
 
-/// Which part of the bound, or of what it lacks to the limit where that is less, a better one must gain for its multipliers to be
-/// taken. Where they gain less, as beside few rows that were stepped one by one, those are left as they are: theirs lie between
-/// the vertices of the dual, where more reduced costs tell which value is the better one.
+/// Which part of the bound over the base, or of the gap to the limit where that is less, a better bound must gain for its
+/// multipliers to be taken. Where it gains less, as beside few rows that were stepped one by one, the old ones stay: they lie
+/// between the vertices of the dual, so more reduced costs tell which value is the better one. On knapsacks where the gain is
+/// below a thousandth, keeping the old ones took less time in the mean.
 const LEAST_GAIN: f64 = 1.0 / 256.0;
 
-/// How far over 0 a bound is to be where nothing costs anything, so that it is none by rounding.
+/// How far over 0 a bound must be where nothing has a cost, so that it is not over 0 by rounding alone. Chosen by hand.
 const REFUTING: f64 = 1.0 / 64.0;
 
-/// Where nothing costs anything, the greatest of what the degrees promise is scaled up to this.
+/// Where nothing has a cost, the most that one row's degree promises is scaled to this, 2^40: it rounds little, and a row may
+/// promise as much up to 2^22 rows, since all together may promise 2^62 in 64 bits.
 const GREATEST_PROMISE: f64 = 1_099_511_627_776.0;
 
 /// The problem that a trail leaves, and where the method stands in it.
 pub struct Pdhg {
-    /// Whether the form has few enough terms.
+    /// Whether the form has at most `MOST_TERMS` terms.
     is_open: bool,
     problem: Problem,
     scaling: Scaling,
@@ -53,14 +60,14 @@ pub struct Pdhg {
     y: Iterate,
     /// The y of the best bound so far.
     best: Vec<f64>,
-    /// That bound, without what the trail itself costs.
+    /// That bound, without the costs of the trail itself and without the constants of negations that have a cost.
     top: f64,
     /// The best y of the last call, by the rows of the form.
     held: Vec<f64>,
     plan: Plan,
 }
 
-// By hand, so that whoever lets go of it sees one call, and not each of its parts.
+// Written by hand, so that whoever drops it sees one call, and not one for each part.
 impl Drop for Pdhg {
     fn drop(self) {
         let Pdhg {
@@ -79,11 +86,12 @@ impl Drop for Pdhg {
 }
 
 impl Pdhg {
-    /// Room for the problems that trails leave of the form, where it has no more terms than are worth it. Fails where there
-    /// is no memory; nothing after it takes any.
+    /// Room for the problems that trails leave of the form; none where it has more than `MOST_TERMS` terms. Fails where there
+    /// is no memory; no later call takes any.
     pub fn new<C: Coefficient>(alloc: Global, form: &Form<C>) -> Result<Pdhg, Memory> {
         let terms = form.terms_len();
         let is_open = terms <= MOST_TERMS;
+        // A form with too many terms is never loaded, so it takes no memory.
         let (vars, rows, terms) = if is_open {
             (form.vars() as usize, form.len(), terms)
         } else {
@@ -103,9 +111,9 @@ impl Pdhg {
         })
     }
 
-    /// Improves the multipliers for the trail as it is, by at most so many steps from where they are; none follows once their
-    /// bound is over the limit, and none is made where no row is left. They are shifted for good, each to the nearest of their
-    /// numbers, and only where their bound rises by a good part. Gives how many numbers were looked at.
+    /// Improves the multipliers for the trail as it is, by at most `steps` steps from where they are. The steps end once the
+    /// bound is over the limit, and none is made where no row is left. The multipliers are shifted for good, each to the nearest
+    /// whole number, and only where their bound rises by more than `LEAST_GAIN`. Gives how many numbers were read.
     pub fn improve<C: Coefficient>(
         &mut self,
         multipliers: &mut Multipliers<C>,
@@ -131,8 +139,8 @@ impl Pdhg {
         visits
     }
 
-    /// Looks for multipliers by which nothing completes the trail, where nothing costs anything, by at most so many steps from 0
-    /// on. Multipliers are shifted for good, and only where such are found. Gives how many numbers were looked at.
+    /// Where nothing has a cost, looks for multipliers that prove that nothing completes the trail, by at most `steps` steps from
+    /// 0. Multipliers are shifted for good, and only where such are found. Gives how many numbers were read.
     pub fn refute<C: Coefficient>(&mut self, multipliers: &mut Multipliers<C>, steps: u32) -> u64
         ensures { IsSameButShifted multipliers.old multipliers.new }
     {
@@ -141,24 +149,26 @@ impl Pdhg {
         }
         self.load(multipliers);
         self.begin_at_zero();
+        // The bound begins at 0, and is at most 0 where the program has a point: so no gap above 0 is near enough.
         let visits = self.run(steps, REFUTING, 0.0);
         self.hold(multipliers.form().len());
         if self.top > REFUTING {
-            // Without costs they promise as many times more as they are greater, and are the less rounded.
+            // Without costs each multiple of these multipliers refutes too, and greater ones lose less by rounding.
             let scale = GREATEST_PROMISE / self.greatest_promise(multipliers);
             self.adopt(multipliers, scale);
         }
         visits
     }
 
-    /// Approaches a point of least cost under the trail as it is, by so many steps from the last point on, and plans anew in
-    /// which order its variables are to be decided. Gives how many numbers were looked at.
+    /// Approaches a point of least cost under the trail as it is, by at most `steps` steps from the last point, and plans anew
+    /// in which order its variables are to be decided. Gives how many numbers were read.
     pub fn approach<C: Coefficient>(&mut self, multipliers: &Multipliers<C>, steps: u32) -> u64 {
         if !self.is_open {
             return 0;
         }
         self.load(multipliers);
         self.resume();
+        // No limit ends the steps, because the point is wanted here and not a bound that closes the node.
         let visits = self.run(steps, f64::INFINITY, nearness(self.top, f64::INFINITY));
         self.hold(multipliers.form().len());
         self.order(multipliers);
@@ -173,20 +183,20 @@ impl Pdhg {
         }
     }
 
-    /// What is to be decided at the place, from 0, of the order that was planned last: a literal that had no value then. None
+    /// The literal to decide at this place, from 0, of the order that was planned last. Its variable had no value then. None
     /// behind the last.
     pub fn planned(&self, place: usize) -> Option<Lit> {
         self.plan.literal(place)
     }
 
-    /// Takes over the problem, and scales it.
+    /// Loads the problem that the trail leaves, and scales it.
     fn load<C: Coefficient>(&mut self, multipliers: &Multipliers<C>) {
         self.problem.load(multipliers);
         self.scaling.fit(&self.problem);
         self.steps.begin(&self.problem, &self.scaling);
     }
 
-    /// Begins at the multipliers as they are, where costs are scaled up by so much, and at x = 0.
+    /// Begins at the multipliers as they are, where costs are scaled up by `scale`, and at x = 0.
     fn begin_at<C: Coefficient>(&mut self, multipliers: &Multipliers<C>, scale: f64) {
         refill(&mut self.x.current, self.problem.costs.len(), 0.0);
         self.y.current.clear();
@@ -206,8 +216,9 @@ impl Pdhg {
         self.begin();
     }
 
-    /// Begins at the last x and at the best y of the last call, as far as there are the same rows.
+    /// Begins at the last x and at the best y of the last call. A row that was met then begins at 0.
     fn resume(&mut self) {
+        // From the last point on, so that the steps of earlier calls are not lost.
         refill(&mut self.x.current, self.problem.costs.len(), 0.0);
         for (current, target) in self.x.current.iter_mut().zip(self.x.target.iter()) {
             *current = *target;
@@ -219,7 +230,7 @@ impl Pdhg {
         self.begin();
     }
 
-    /// Begins where x and y stand now.
+    /// Begins at the current x and y.
     fn begin(&mut self) {
         self.x.begin();
         self.y.begin();
@@ -227,10 +238,11 @@ impl Pdhg {
         self.check();
     }
 
-    /// Makes so many steps, or fewer where the bound comes over the end or so near to the greatest, or they would look at too
-    /// much. Gives at how many numbers they looked.
+    /// Makes `steps` steps, or fewer once the bound is over `end` or, about, within `near` of the greatest, or once more than
+    /// `MOST_VISITS` numbers were read. Gives how many numbers were read.
     fn run(&mut self, steps: u32, end: f64, near: f64) -> u64 {
         let size = self.problem.size();
+        // The scales were found just before, so their work counts too.
         let mut visits = size.saturating_mul(VISITS);
         let mut restarts = Restarts::new();
         for number in 0..steps {
@@ -253,11 +265,12 @@ impl Pdhg {
         visits
     }
 
-    /// Goes to the target, or beyond it, after a step of this length and number.
+    /// Moves to the target, or beyond it, after a step of this length and number.
     fn go_on(&mut self, restarts: &mut Restarts, length: f64, number: u32) {
         if restarts.is_due(length, number) {
             let far_x = self.x.restart(&self.scaling.columns);
             let far_y = self.y.restart(&self.scaling.rows);
+            // The weight changes at a restart alone, since lengths of steps by different weights can't be compared.
             self.steps.adapt(far_x, far_y);
             return;
         }
@@ -266,8 +279,9 @@ impl Pdhg {
         self.y.reflect(part);
     }
 
-    /// Keeps the target of y as the best, if its bound is.
+    /// Keeps the target of y, if its bound is the best so far.
     fn check(&mut self) {
+        // Not of the current y: that is reflected and may be below 0, where it gives no bound.
         let bound = self.problem.bound(&self.y.target);
         if bound > self.top {
             self.top = bound;
@@ -275,13 +289,13 @@ impl Pdhg {
         }
     }
 
-    /// Whether the best bound is so near to the greatest, about.
+    /// Whether the best bound is, about, within `near` of the greatest.
     fn is_near(&self, near: f64) -> bool {
         let price = self.problem.price(&self.x.target, &self.y.target);
         price - self.top <= near
     }
 
-    /// Keeps the best y by the rows of the form, of which there are so many. Rows that the trail meets have 0.
+    /// Keeps the best y by the `rows` rows of the form. Those that the trail meets have 0.
     fn hold(&mut self, rows: usize) {
         refill(&mut self.held, rows, 0.0);
         for (row, value) in self.problem.ids.iter().zip(self.best.iter()) {
@@ -289,17 +303,18 @@ impl Pdhg {
         }
     }
 
-    /// Shifts all multipliers to the best y, where costs are scaled up by so much.
+    /// Shifts all multipliers to the best y, where costs are scaled up by `scale`.
     fn adopt<C: Coefficient>(&self, multipliers: &mut Multipliers<C>, scale: f64)
         ensures { IsSameButShifted multipliers.old multipliers.new }
     {
         for row in 0..multipliers.form().len() {
+            // A half more, because `number` rounds down.
             let nearest = number(at(&self.held, row) * scale + 0.5);
             shift_to(multipliers, row, Counter::nearest(nearest));
         }
     }
 
-    /// The greatest of what the degrees promise by the best y.
+    /// The most that the degree of one row promises by the best y.
     fn greatest_promise<C: Coefficient>(&self, multipliers: &Multipliers<C>) -> f64 {
         let mut greatest = 0.0;
         for row in 0..multipliers.form().len() {
@@ -311,7 +326,7 @@ impl Pdhg {
         greatest
     }
 
-    /// Plans in which order the variables without a value are to be decided.
+    /// Plans the order in which the variables without a value are to be decided.
     fn order<C: Coefficient>(&mut self, multipliers: &Multipliers<C>) {
         self.plan.clear();
         for column in 0..multipliers.form().vars() {
@@ -328,8 +343,8 @@ impl Pdhg {
     }
 }
 
-/// How far the bound may be below what it can be, about, where more steps are not worth it: it began at the start, and over the
-/// end it need not come.
+/// The gap to the greatest bound, about, at which more steps are not worth it, where the bound began at `start`. Beside `NEAR`
+/// it is at most a 256th of the way to `end`, since near there a little more may close the node.
 fn nearness(start: f64, end: f64) -> f64 {
     NEAR + less(start.abs() * NEAR_PART, (end - start) / 256.0)
 }

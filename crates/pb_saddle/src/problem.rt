@@ -9,13 +9,13 @@ use pb_dual::Multipliers;
 use pb_inst::{Lit, Memory};
 use std::alloc::Global;
 
-/// The least of the costs times x, where the matrix times x is at least what is needed, and each x is from 0 to 1. Column v
-/// is variable v + 1. A variable that has a value has no entry and no cost.
+/// Minimise costs times x, where the matrix times x is at least what the rows need, and each x is from 0 to 1. Column v is
+/// variable v + 1. A variable that has a value has no entry and no cost.
 #[derive(Drop)]
 pub struct Problem {
     /// The matrix by rows: those rows of the form that the trail does not meet.
     pub rows: Lines,
-    /// The same by columns, one for each variable.
+    /// The matrix by columns, one for each variable, so that a step of x finds the entries of a column side by side.
     pub columns: Lines,
     /// The number of each row in the form.
     pub ids: Vec<usize>,
@@ -26,7 +26,7 @@ pub struct Problem {
 }
 
 impl Problem {
-    /// An empty problem, and room for those of so many variables, rows and terms.
+    /// An empty problem, with room for any of at most `vars` variables, `rows` rows and `terms` terms.
     pub fn new(alloc: Global, vars: usize, rows: usize, terms: usize) -> Result<Problem, Memory> {
         Ok(Problem {
             rows: Lines::new(alloc, rows, terms)?,
@@ -37,7 +37,7 @@ impl Problem {
         })
     }
 
-    /// Becomes what the trail of the multipliers leaves.
+    /// Takes over the problem that the trail of the multipliers leaves.
     pub fn load<C: Coefficient>(&mut self, multipliers: &Multipliers<C>) {
         self.load_costs(multipliers);
         self.rows.clear();
@@ -49,7 +49,7 @@ impl Problem {
         self.columns.transpose(&self.rows, self.costs.len());
     }
 
-    /// Takes the costs of the variables that have no value. What a negation costs its variable spares.
+    /// Takes the costs of the variables that have no value. A cost of a negation is saved by its variable, so it counts below 0.
     fn load_costs<C: Coefficient>(&mut self, multipliers: &Multipliers<C>) {
         let form = multipliers.form();
         refill(&mut self.costs, form.vars() as usize, 0.0);
@@ -62,11 +62,12 @@ impl Problem {
         }
     }
 
-    /// Takes the row, if the trail does not meet it. A negation is 1 less its variable.
+    /// Takes the row, if the trail does not meet it. A negation is 1 less its variable, so its coefficient lowers the need.
     fn load_row<C: Coefficient>(&mut self, multipliers: &Multipliers<C>, row: usize)
         requires { row < length multipliers.now.form.rows }
     {
         let form = multipliers.form();
+        // Rows count as they do for the multipliers, so that both bounds are of the same problem.
         let most = multipliers.most(row);
         let (mut need, mut negated) = (multipliers.degree(row).number(), 0.0);
         for term in form.terms(row) {
@@ -85,6 +86,7 @@ impl Problem {
                 }
             }
         }
+        // Whether the row is met is known only now, when its entries are in.
         if need == 0 {
             self.rows.drop_line();
             return;
@@ -92,7 +94,7 @@ impl Problem {
         self.end_row(row, float(need) - negated);
     }
 
-    /// Ends a row that needs so much.
+    /// Ends the row of this number in the form, which needs `need`.
     fn end_row(&mut self, row: usize, need: f64) {
         if self.ids.len() < self.ids.capacity() {
             self.ids.push_reserved(row);
@@ -101,13 +103,13 @@ impl Problem {
         }
     }
 
-    /// How many numbers a look at all of it takes: entries, rows and columns.
+    /// How many numbers one pass over all of it reads: entries, rows and columns.
     pub fn size(&self) -> u64 {
         let lines = self.rows.len().saturating_add(self.columns.len());
         self.rows.entries().saturating_add(lines) as u64
     }
 
-    /// What the row lacks at this x; below 0 what it has too much.
+    /// What the row lacks at this x; below 0 where it has more than it needs.
     pub fn lack(&self, row: usize, x: &[f64]) -> f64 {
         at(&self.needs, row) - product(self.rows.line(row), x)
     }
@@ -117,8 +119,8 @@ impl Problem {
         at(&self.costs, column) - product(self.columns.line(column), y)
     }
 
-    /// A lower bound of the least costs, by multipliers from 0 on: what they make of the needs, and the reduced costs that
-    /// are below 0.
+    /// A lower bound of the least cost, by multipliers of 0 or more: the needs times these, and the reduced costs below 0,
+    /// since an x of 1 is the cheapest there and an x of 0 elsewhere.
     pub fn bound(&self, y: &[f64]) -> f64 {
         let mut bound = 0.0;
         for (need, multiplier) in self.needs.iter().zip(y) {
@@ -132,8 +134,8 @@ impl Problem {
         }
         bound
     }
-    /// The costs of x, and twice what its lacks are worth by these multipliers. Near a point of least costs it is about an
-    /// upper bound of them.
+    /// The cost of x, and twice what its lacks are worth by these multipliers, so that it does not pay to leave a row unmet.
+    /// Near a point of least cost it is about an upper bound of the least cost.
     pub fn price(&self, x: &[f64], y: &[f64]) -> f64 {
         let mut price = 0.0;
         for (cost, value) in self.costs.iter().zip(x) {
@@ -161,6 +163,7 @@ fn signed(lit: Lit, size: f64) -> f64 {
 
 /// Whether the trail makes the literal true, if it gives its variable a value.
 fn value<C: Coefficient>(multipliers: &Multipliers<C>, lit: Lit) -> Option<bool> {
+    // No form has such a literal. False is the value that adds nothing to a row.
     if lit.var() > multipliers.form().vars() {
         return Some(false);
     }

@@ -1,8 +1,9 @@
-//! By how much the rows and columns of a problem are scaled. Its entries stay as they are: a step along a scaled row or
-//! column is as much longer or shorter, and a distance is measured in scaled rows or columns.
+//! The scales of a problem's rows and columns. Its entries stay as they are: the scales make steps longer or shorter, and
+//! distances are measured by them.
 //!
-//! Each row and column is first scaled again and again to a greatest entry of 1, and once by the sum of its entries, so
-//! that the norm of the scaled matrix is at most 1.
+//! Rows and columns are first scaled towards a greatest entry of 1, again and again, and then once by the sum of their
+//! entries, so that the norm of the scaled matrix is at most 1.
+//! Source: [R01], [PC11], [A21]
 
 use crate::floats::{add, at, refill};
 use crate::problem::Problem;
@@ -10,10 +11,11 @@ use crate::sparse::{Entry, Lines};
 use pb_inst::Memory;
 use std::alloc::Global;
 
-/// How often rows and columns are scaled to a greatest entry of 1.
+/// How often rows and columns are scaled towards a greatest entry of 1. To scale one direction undoes the other in part, so one
+/// round is not enough. Source: [A21]
 const ROUNDS: u32 = 10;
 
-/// How many times all of a problem is looked at for its scales.
+/// How many passes over a problem its scales take: each round reads it by rows and by columns.
 pub const VISITS: u64 = 2 * (ROUNDS as u64 + 1);
 
 /// What is to become 1 about the entries of a line.
@@ -30,12 +32,12 @@ pub struct Scaling {
     pub columns: Vec<f64>,
     /// By how much each row is scaled next.
     row_factors: Vec<f64>,
-    /// The same of each column.
+    /// By how much each column is scaled next.
     column_factors: Vec<f64>,
 }
 
 impl Scaling {
-    /// No scales, and room for those of so many variables and rows.
+    /// No scales, and room for those of `vars` variables and `rows` rows.
     pub fn new(alloc: Global, vars: usize, rows: usize) -> Result<Scaling, Memory> {
         Ok(Scaling {
             rows: Vec::with_capacity(alloc, rows)?,
@@ -55,7 +57,7 @@ impl Scaling {
         self.refine(problem, Norm::Sum);
     }
 
-    /// Scales all rows and columns once, by how their entries are scaled so far.
+    /// Scales all rows and columns once more, by the norms of their entries as they are scaled so far.
     fn refine(&mut self, problem: &Problem, norm: Norm) {
         let (rows, columns) = (&problem.rows, &problem.columns);
         find_factors(&mut self.row_factors, rows, &self.rows, &self.columns, norm);
@@ -66,16 +68,18 @@ impl Scaling {
             &self.rows,
             norm,
         );
+        // Only now, so that the factors of both directions come from the same scales.
         multiply(&mut self.rows, &self.row_factors);
         multiply(&mut self.columns, &self.column_factors);
     }
 }
 
-/// Finds by how much each line is to be scaled beside its own scales and those of the other direction.
+/// Finds by how much each line is to be scaled further, from its own scale and those of the other direction.
 fn find_factors(factors: &mut Vec<f64>, lines: &Lines, own: &[f64], others: &[f64], norm: Norm) {
     factors.clear();
     for number in 0..lines.len() {
         let size = at(own, number) * measure(lines.line(number), others, norm);
+        // A square root, because each entry is scaled by its row and by its column.
         let factor = if size > 0.0 { 1.0 / size.sqrt() } else { 1.0 };
         add(factors, factor);
     }
