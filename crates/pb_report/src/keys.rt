@@ -1,4 +1,5 @@
 //! What the first word of a line says the line is.
+//! Source: [OPB]
 ghost use Rattle.std.specs.Prelude.{◌≡◌};
 ghost use Rattle.pb_report.specs.Lines.{begins_with_c, key_of};
 

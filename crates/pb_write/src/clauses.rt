@@ -1,4 +1,5 @@
 //! Clauses, and those of a piece, in the format of the instance.
+//! Source: [OPB], [DIMACS]
 ghost use Rattle.std.specs.Prelude.{◌≡◌, ◌≤◌, flat_map, map, All, OnOk};
 ghost use Rattle.pb_write.specs.Pieces.{negation, negated_clause, unit_clauses, clauses_of};
 ghost use Rattle.pb_write.specs.Written.{Adds, HaveVariables};

@@ -1,4 +1,5 @@
 //! Literals, terms and statements as OPB writes them.
+//! Source: [OPB]
 ghost use Rattle.std.specs.Prelude.{◌≡◌, OnOk};
 ghost use Rattle.pb_inst.specs.Constraints.{linear};
 ghost use Rattle.pb_write.specs.Written.{Adds};
