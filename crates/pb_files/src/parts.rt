@@ -18,7 +18,7 @@ pub struct PartReports {
     pub parts: Vec<PartReport>,
 }
 
-/// The reports of parts from the files of these names, of an instance of so many variables.
+/// The reports of parts from the files of these names, of an instance of `vars` variables.
 pub fn read_parts<'a, F: Files>(
     alloc: Global,
     format: Format,

@@ -64,7 +64,7 @@ fn refusal<'a>(file: &'a str, fault: ReadFault) -> ReportsFault<'a> {
     }
 }
 
-/// The reports from the files of these names, of an instance of so many variables.
+/// The reports from the files of these names, of an instance of `vars` variables.
 pub fn read_reports<'a, F: Files>(
     alloc: Global,
     format: Format,

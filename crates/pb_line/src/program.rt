@@ -1,4 +1,4 @@
-//! From the system's words to a program's exit status.
+//! Running a program on the system's words.
 use crate::words::{texts_of, words_of};
 use std::alloc::{Alloc, Global};
 use std::env::Env;

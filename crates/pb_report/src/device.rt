@@ -8,7 +8,7 @@ use std::io;
 use std::io::{Error, ErrorKind, Read, Write};
 use std::marker::Model;
 
-/// A reader or writer, and whether it has answered a fault.
+/// A reader or writer, and whether one of its calls has failed.
 #[derive(Drop)]
 pub struct Device<T> {
     inner: T,
@@ -47,7 +47,7 @@ impl<T> Device<T> {
         inner
     }
 
-    /// Whether a call has answered a fault.
+    /// Whether a call has failed.
     pub fn failed(&self) -> bool
         ensures { result ≡ self.now.failed }
     {

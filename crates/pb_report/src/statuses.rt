@@ -1,4 +1,4 @@
-//! What a report says, and the words of `s` lines.
+//! The status that a report gives, and the words of `s` lines.
 //! Source: [OPB]
 ghost use Rattle.std.specs.Prelude.{◌≡◌, ◌∷◌, [], IfSome, Some};
 ghost use Rattle.pb_report.specs.declared.statuses.Status.{Status};

@@ -20,7 +20,7 @@ pub fn written_format(format: Format) -> Format
     }
 }
 
-/// The header line, with the numbers of variables and of constraints.
+/// Writes the header line, with the numbers of variables and of constraints.
 pub(crate) fn put_header<W: Write>(
     out: &mut W,
     format: Format,

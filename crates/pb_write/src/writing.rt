@@ -120,7 +120,7 @@ fn put_text<W: Write>(
     put_piece(out, format, piece)
 }
 
-/// The objective, where there is one.
+/// Writes the objective, where there is one.
 fn put_objective<W: Write>(out: &mut W, instance: &Instance) -> io::Result<()>
     ensures { OnOk result (Adds W.contents out.old out.new (objective_text instance.now.objective)) }
 {

@@ -2,8 +2,7 @@
 use pb_inst::Workers;
 use pb_read::Format;
 
-/// The most tasks among which a command line may deal the pieces: the greatest number of 32 bits, since reports count tasks in
-/// 32.
+/// The most tasks among which a command line may deal the pieces: the greatest number of 32 bits, in which reports count tasks.
 pub const MAX_TASKS: u64 = 4_294_967_295;
 
 /// What the words of the command line ask for.
