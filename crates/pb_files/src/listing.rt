@@ -40,8 +40,8 @@ pub struct Named {
     pub indexes: Vec<String>,
 }
 
-/// The names of the files that the operands name: an operand that is no folder is the file of a report; of a folder the
-/// reports are its files that end in `.report`, in the order of their names, and its index is there where it has one.
+/// The names of the files that the operands name: an operand that is no folder is the file of a report; for a folder, the reports
+/// are its files that end in `.report`, in the order of their names, and its index counts where it has one.
 pub fn named_files<'a, F: Files>(
     alloc: Global,
     operands: &[&'a str],

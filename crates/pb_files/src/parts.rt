@@ -1,4 +1,4 @@
-//! The reports of parts, from their files.
+//! Reading the reports of parts from their files.
 ghost use Rattle.std.specs.Prelude.{◌≡◌, ℕ, List, length, All, IfOk};
 ghost use Rattle.pb_files.specs.Reading.{ReadsParts};
 ghost use Rattle.pb_files.specs.Texts.{texts};

@@ -1,4 +1,4 @@
-//! The files of the pieces and of the index.
+//! Writing the files of the pieces and of the index.
 ghost use Rattle.std.specs.Prelude.{◌≡◌, ◌≤◌, ◌+◌, ℕ, List, [], length, string_bytes, OnOk};
 ghost use Rattle.pb_read.specs.Format.{Spells};
 ghost use Rattle.pb_write.specs.Pieces.{piece_problem};

@@ -1,4 +1,4 @@
-//! The instance and the reports, from their files.
+//! Reading the instance and the reports from their files.
 ghost use Rattle.std.specs.Prelude.{◌≡◌, ◌<◌, ℕ, List, length, IfOk};
 ghost use Rattle.pb_files.specs.Reading.{IsReportOf, ReadsInstance, ReadsReports};
 ghost use Rattle.pb_files.specs.Texts.{texts};

@@ -36,7 +36,7 @@ pub(crate) struct ContentLines<'t> {
 }
 
 impl<'t> ContentLines<'t> {
-    /// The lines of a text of which none was passed.
+    /// All lines of the text, none of them passed yet.
     pub(crate) fn new(text: &'t [u8]) -> ContentLines<'t>
         ensures content { content_from (result.before + 1) result.rest ≡ content text.now }
         ensures lines { result.before + length (lines_from (result.before + 1) result.rest) ≡ length (clause_lines text.now) }

@@ -1,4 +1,4 @@
-//! The instance that statements of OPB make.
+//! Building an instance from statements of OPB.
 ghost use Rattle.std.specs.Prelude.{◌≡◌, ◌++◌, ◌∷◌, ◌⊎◌, [], List, true, length, IfOk, IfErr, OnOk, ◌+◌, ◌||◌, nat_lt, unsigned_abs, Some, None};
 ghost use Rattle.std.specs.List.{list_any};
 ghost use Rattle.pb_read.specs.Opb as opb;
