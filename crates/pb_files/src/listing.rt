@@ -41,7 +41,7 @@ pub struct Named {
 }
 
 /// The names of the files that the operands name: an operand that is no folder is the file of a report; for a folder, the reports
-/// are its files that end in `.report`, in the order of their names, and its index counts where it has one.
+/// are its files that end in `.report`, in the order of their names, and its index is listed where it has one.
 pub fn named_files<'a, F: Files>(
     alloc: Global,
     operands: &[&'a str],
