@@ -1,4 +1,4 @@
--- Laws of the board's rule: what it says of the next number, of the least word, and of the seats that are left where some were dropped.
+-- Laws of the board's rule: what it says of the next number, of the least word, and of the seats left after some were dropped.
 use Rattle.std.specs.Prelude.{◌≡◌, ℕ, ◌≤◌, ◌+◌, ◌*◌, ◌-◌, ◌^◌, List, [], ◌∷◌, Bool, true, false, length, All, Contains, slice_index}
 use Rattle.atomic_table.specs.Table.{State}
 use Rattle.pb_board.specs.declared.board.TheConstants.{COUNTER, LEAST}

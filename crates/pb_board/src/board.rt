@@ -29,8 +29,8 @@ const WORD_BITS: usize = 64;
 /// words for each worker.
 ///
 /// A worker steps on it with a [`Seat`], which has to be one of this board. Between any two steps, whichever seats step
-/// and in whatever order, the claimed numbers are those below the counter, each once, and the least word is the least of
-/// `u64::MAX` and all offered keys. Of rows nothing is promised between threads.
+/// and in whatever order, the claimed numbers are those below the counter, each once, and the least word is the least
+/// of `u64::MAX` and all offered keys. Nothing is promised of rows between threads.
 #[derive(Drop)]
 pub struct Board {
     table: Table<(), View, u32, Rule, Global>,
@@ -59,8 +59,8 @@ pub struct Totals {
 
 impl Board {
     /// A board with a row of `vars` bits for each worker, and its whole seat, which has as many parts as there are
-    /// workers. Nothing is claimed or offered yet, and the rows are 0. This alone takes memory; at `Memory` there is no
-    /// board.
+    /// workers. Nothing is claimed or offered yet, and the rows are 0. Only this call takes memory; at `Memory` there
+    /// is no board.
     pub fn new(alloc: Global, workers: Workers, vars: u32) -> Result<(Board, Seat), Memory>
         ensures board { IfOk result (λ made. (made.0.workers ≡ workers) × (made.0.vars ≡ vars)) }
         ensures seat { IfOk result (λ made. made.1 ≡ record { board = made.0.id; parts = workers; claimed = []; offered = []; seen = top_key }) }
@@ -110,7 +110,7 @@ impl Board {
         self.cut::<Brand>(seat, keep)
     }
 
-    // A cut names in its type, for the proof alone, how many parts stay: `K` is picked where `keep` is known.
+    // The type of a cut names, for the proof alone, the number of parts that stay: `K` is picked where `keep` is known.
     fn cut<K: Keep>(&self, seat: Seat, keep: u32) -> (Seat, Seat)
         requires board { seat.board ≡ self.now.id }
         requires parts { (0 < keep) × (keep < seat.parts) }
@@ -217,8 +217,8 @@ impl Board {
         }
     }
 
-    /// Reads a row. Asks for a row below the number of workers, and for `vars` bits. One load for each word; what comes
-    /// may be a mixture of several assignments that were written, so it is to be checked before use.
+    /// Reads a row. Asks for a row below the number of workers, and for `vars` bits. One load for each word. The bits
+    /// may be a mixture of several assignments that were written, so the caller has to check them before use.
     pub fn read_row(&self, seat: &mut Seat, row: u32, bits: &mut Assignment)
         requires board { seat.old.board ≡ self.now.id }
         requires row { row < self.now.workers }
@@ -232,7 +232,7 @@ impl Board {
         }
     }
 
-    /// Ends the board. Asks for the whole seat, which is the only one then.
+    /// Ends the board. Asks for the whole seat, which is then the only one.
     pub fn close(self, seat: Seat) -> Totals
         requires board { seat.board ≡ self.id }
         requires whole { seat.parts ≡ self.workers }

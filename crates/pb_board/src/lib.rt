@@ -1,4 +1,5 @@
-//! The shared board: numbers that workers claim, the least key that they offered, and a row of words for each.
+//! The board that workers share: numbers that they claim, the least key that they offered, and a row of words for each
+//! worker.
 #![tactic(auto)]
 
 mod board;

@@ -1,4 +1,4 @@
-//! What a worker steps on a board with.
+//! The right with which a worker steps on a board.
 
 ghost use Rattle.std.specs.Prelude.{◌≡◌, ◌<◌, ◌≤◌, [], length};
 ghost use Rattle.pb_inst.specs.declared.limits.TheConstants.{MAX_WORKERS};

@@ -20,7 +20,7 @@ abbrev pub ReadsCubes : {F : Type 0} → (F → Text → List ℕ → F → Type
 ReadsCubes reads None vars cubes digest old new = (cubes ≡ []) × (digest ≡ None) × (new ≡ old)
 ReadsCubes reads (Some name) vars cubes digest old new = (text : List ℕ) × reads old name text new × CubeText text vars cubes × (digest ≡ Some (sha256 text))
 
--- the cubes are those of the split over so many variables, and none where it is over none
+-- the cubes are those of the split over the given number of variables, and none where that is 0
 abbrev pub AreOfSplit : Problem → ℕ → List (List Literal) → Type 0
 AreOfSplit p zero cubes = cubes ≡ []
 AreOfSplit p (suc k) cubes = IsSplit p (suc k) cubes
@@ -38,7 +38,8 @@ pub record ReadsGiven {F : Type 0} (reads : F → Text → List ℕ → F → Ty
   pub together : given ≡ own ++ of_file
   pub digest_is : digest ≡ sha256 text
 
--- what is given is read, and the instance is divided by that and by the cubes of the split over so many variables, in this order
+-- what is given is read, and the instance is divided by that and by the cubes of the split over `variables` variables, in this
+-- order
 pub record ReadsDivided {F : Type 0} (reads : F → Text → List ℕ → F → Type 0) (format : Format) (file : Text) (cubes_name : Option Text) (variables : ℕ) (p : Problem) (cubes : List (List Literal)) (digest : List ℕ) (cubes_digest : Option (List ℕ)) (old new : F) : Type 0 where
   pub given : List (List Literal)
   pub of_split : List (List Literal)
@@ -48,18 +49,18 @@ pub record ReadsDivided {F : Type 0} (reads : F → Text → List ℕ → F → 
 
 -- ---- what is refused
 
--- the text of the file of this name, which is that of cubes over so many variables, has this fault
+-- the text of the file of this name, which is that of cubes over `vars` variables, has this fault
 abbrev pub ReadsFaultyCubes : {F : Type 0} → (F → Text → List ℕ → F → Type 0) → Option Text → ℕ → ReadFault → F → F → Type 0
 ReadsFaultyCubes reads None vars fault old new = ⊥
 ReadsFaultyCubes reads (Some name) vars fault old new = (text : List ℕ) × reads old name text new × (cube_refusal text vars ≡ Some fault)
 
--- so many variables of the instance's are more than can be split, or than there are
+-- `variables` variables are more than can be split, or than the instance has
 abbrev pub AreTooManyToSplit : ℕ → Problem → Type 0
 AreTooManyToSplit variables p = (MAX_SPLIT < variables) ⊎ (p.vars < variables)
 
 -- Of what is read this is refused: the text of the instance, with its fault; or that of its cubes, with its fault, where the
--- instance's has none; or the split over so many variables, where the cubes' has none; or, where the split can be made, the number
--- of all cubes.
+-- instance's has none; or the split over `variables` variables, where the cubes' has none; or, where the split can be made, the
+-- number of all cubes.
 abbrev pub ReadsRefused : {F : Type 0} → (F → Text → List ℕ → F → Type 0) → Format → Text → Option Text → ℕ → F → F → Refusal → Type 0
 ReadsRefused reads format file cubes_name variables old new (Input fault) = (text : List ℕ) × reads old file text new × (text_refusal format text ≡ Some fault)
 ReadsRefused {F} reads format file cubes_name variables old new (Cubes fault) =
@@ -73,7 +74,7 @@ ReadsRefused reads format file cubes_name variables old new TooManyCubes =
     × ReadsGiven reads format file cubes_name p given digest cubes_digest old new × (¬ AreTooManyToSplit variables p)
     × AreOfSplit p variables of_split × (MAX_CUBES < length (given ++ of_split))
 
--- where the fault is that something is refused, this holds of it
+-- where the fault is a refusal, this holds of it
 abbrev pub IfRefused : DivisionFault → (Refusal → Type 0) → Type 0
 IfRefused (CannotRead name reason) Holds = ⊤
 IfRefused (Refused name refusal) Holds = Holds refusal

@@ -26,7 +26,7 @@ last_digits text = drop (length text - suffix_len is_ascii_digit text) text
 abbrev pub IsNumberOf : Text → ℕ → Type 0
 IsNumberOf name number = IsSomeAnd (path_file_stem name) (λ stem. ParsesUnsigned {E = ParseIntError} 32 10 (last_digits stem) (Ok number))
 
--- the report is of the piece that the file's name tells, and claims what its text says of so many variables
+-- the report is of the piece that the file's name tells, and claims what its text says of `vars` variables
 pub record IsReportOf (format : Format) (vars : ℕ) (name text : Text) (report : PieceReport) : Type 0 where
   pub number : IsNumberOf name report.number
   pub claim : Claims format vars text report.claim
@@ -81,8 +81,8 @@ abbrev pub ReadsSame : {F : Type 0} → (F → Text → List ℕ → F → Type 
 ReadsSame reads text [] old new = new ≡ old
 ReadsSame {F} reads text (name ∷ names) old new = (between : F) × reads old name text between × ReadsSame reads text names between new
 
--- There are as many pieces as are asked for, where a number is; else there is an index. Each index is read, and is that of so many
--- pieces of an instance in this format, of so many variables, whose text has this digest.
+-- There are as many pieces as are asked for, where a number is; else there is an index. Each index is read, and is that of
+-- `pieces` pieces of an instance in this format, of `vars` variables, whose text has this digest.
 pub record CountsPieces {F : Type 0} (reads : F → Text → List ℕ → F → Type 0) (format : Format) (vars : ℕ) (digest : List ℕ) (asked : Option ℕ) (indexes : List Text) (pieces : ℕ) (old new : F) : Type 0 where
   pub asked_for : IfSome asked (λ n. pieces ≡ n)
   pub told : IsNone asked → indexes ≢ []

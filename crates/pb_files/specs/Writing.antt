@@ -41,7 +41,7 @@ index_lines format pieces vars digits =
 abbrev pub index_text : Format → List (List Literal) → ℕ → List ℕ → Text
 index_text format cubes vars digest = index_lines format (length cubes + 1) vars (encode_lower digest)
 
--- the folder is made where it is not there, and nothing has the index's name
+-- the folder is made where it is missing, and nothing has the index's name
 pub record MakesRoom {F : Type 0} (makes : F → Text → F → Type 0) (looks : F → Text → Bool → F → Type 0) (folder index : Text) (old new : F) : Type 0 where
   pub after_folder : F
   pub made : makes old folder after_folder

@@ -1,4 +1,4 @@
-//! How many pieces there are, by the words and by the indexes of folders.
+//! Counting the pieces, by the words and by the indexes of folders.
 ghost use Rattle.std.specs.Prelude.{◌≡◌, ◌≤◌, IfOk, IfSome, OnOk};
 ghost use Rattle.hex.specs.Hex.{encode_lower};
 ghost use Rattle.pb_files.specs.Reading.{CountsPieces};
@@ -14,8 +14,8 @@ use pb_cubes::MAX_CUBES;
 use pb_read::Format;
 use std::alloc::Global;
 
-/// The number of the instance's pieces: that which is asked for, if any, and that of these indexes, each of which has to be the
-/// index of the instance. Where neither tells a number, that is `NoNumber`.
+/// The number of the instance's pieces: the one that is asked for, if any, and that of these indexes, each of which has to be the
+/// index of the instance. Where neither gives a number, the fault is `NoNumber`.
 pub fn count_pieces<'a, F: Files>(
     alloc: Global,
     format: Format,
@@ -77,7 +77,7 @@ fn number_told(text: &[u8], known: Option<u32>) -> Result<u32, Unread>
     }
 }
 
-/// The number of pieces at its place in the first line, if there may be so many.
+/// The number of pieces at its place in the first line, if it is within the limits.
 fn first_number(text: &[u8]) -> Option<u32>
     ensures { IfSome result (λ told. 1 ≤ told) }
 {
@@ -95,7 +95,7 @@ fn first_number(text: &[u8]) -> Option<u32>
     }
 }
 
-/// Refuses a text that is not, byte for byte, that of the index of so many pieces of the instance.
+/// Refuses a text that is not, byte for byte, that of the index of `pieces` pieces of the instance.
 fn check_index(
     alloc: Global,
     format: Format,

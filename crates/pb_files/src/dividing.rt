@@ -1,4 +1,5 @@
-//! From the files to an instance and its pieces.
+//! Reading an instance and its pieces from files.
+//! Source: [H11]
 ghost use Rattle.std.specs.Prelude.{◌≡◌, ◌<◌, ℕ, length, option_map, IfErr, IfOk};
 ghost use Rattle.pb_inst.specs.declared.limits.TheConstants.{MAX_CUBES};
 ghost use Rattle.pb_cubes.specs.Pieces.{AreWithin};
@@ -33,9 +34,9 @@ struct CubeFile {
 }
 
 /// Reads the instance in this format from the file of this name, and then the cubes from theirs, where there is one. Divides the
-/// instance by its own cubes, those of the file and those of a split of so many variables, in this order. What is refused is the
-/// first of the instance, the cubes of the file, the split and the number of all cubes; the file of cubes is not read where the
-/// instance is refused.
+/// instance by its own cubes, those of the file and those of a split over `split` variables, in this order. It checks the
+/// instance, the cubes of the file, the split and the number of all cubes, in this order, and refuses the first that fails; the
+/// file of cubes is not read where the instance is refused.
 pub fn prepare<'a, F: Folders>(
     alloc: Global,
     folders: &mut F,
@@ -108,7 +109,7 @@ fn read_file<'a, F: Folders>(folders: &mut F, name: &'a str) -> Result<Vec<u8>, 
     }
 }
 
-/// The cubes of the file of this name, over so many variables. Without a name there are none.
+/// The cubes of the file of this name, over `vars` variables. Without a name there are none.
 fn cubes_of_file<'a, F: Folders>(
     alloc: Global,
     folders: &mut F,
@@ -136,7 +137,7 @@ fn cubes_of_file<'a, F: Folders>(
     }
 }
 
-/// The cubes of the split over so many variables. Over none there are none, since one empty cube would divide nothing.
+/// The cubes of the split over `variables` variables. Over none there are none, since one empty cube would divide nothing.
 fn cubes_of_split<'a>(
     alloc: Global,
     file: &'a str,

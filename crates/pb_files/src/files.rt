@@ -1,4 +1,4 @@
-//! Where the files of an instance and of reports come from.
+//! The files that an instance and reports come from.
 ghost use Rattle.std.specs.Prelude.{ℕ, List, Option, IfOk};
 ghost use Rattle.pb_files.specs.Texts.{Text, texts_found};
 

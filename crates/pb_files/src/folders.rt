@@ -1,4 +1,4 @@
-//! Where the texts of an instance and of its pieces come from and go to.
+//! The files that the texts of an instance and of its pieces come from and go to.
 ghost use Rattle.std.specs.Prelude.{ℕ, Bool, List, IfOk, OnOk};
 ghost use Rattle.pb_files.specs.Texts.{Text};
 
@@ -22,7 +22,7 @@ pub trait Folders {
     fn read(&mut self, name: &str) -> io::Result<Vec<u8>>
         ensures { IfOk result (λ text. reads self.old name.now text.items self.new) };
 
-    /// Makes the folder of this name, and those that it lies in, where they are not there.
+    /// Makes the folder of this name, and those that it lies in, where they are missing.
     fn make_folder(&mut self, name: &str) -> io::Result<()>
         ensures { OnOk result (makes self.old name.now self.new) };
 
@@ -30,8 +30,8 @@ pub trait Folders {
     fn exists(&mut self, name: &str) -> io::Result<bool>
         ensures { IfOk result (λ there. looks self.old name.now there self.new) };
 
-    /// Makes a file of this name that has these bytes. Fails where there is one, and leaves it as it is. Where a write fails, the
-    /// new file may have a part of them.
+    /// Makes a file of this name that has these bytes. Fails where there is such a file, and leaves it as it is. Where a write
+    /// fails, the new file may have a part of the bytes.
     fn write_new(&mut self, name: &str, text: &[u8]) -> io::Result<()>
         ensures { OnOk result (writes self.old name.now text.now self.new) };
 }

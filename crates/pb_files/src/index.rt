@@ -14,7 +14,7 @@ use std::io::{self, Write};
 /// What the index tells of all pieces.
 #[derive(Clone, Copy)]
 struct Index<'a> {
-    /// How the instance was written.
+    /// The format in which the instance was written.
     format: Format,
     /// The number of pieces, at least 1.
     pieces: u32,
@@ -24,8 +24,8 @@ struct Index<'a> {
     digest: &'a str,
 }
 
-/// The text of the index of so many pieces of an instance in this format, of so many variables, whose text has this digest.
-/// Fails for want of memory alone.
+/// The text of the index of `pieces` pieces of an instance in this format, of `vars` variables, whose text has this digest. Fails
+/// only where memory runs out.
 pub fn index_of(
     alloc: Global,
     format: Format,
@@ -59,7 +59,7 @@ fn write_index<W: Write>(alloc: Global, out: &mut W, index: &Index<'_>) -> io::R
     write_names(alloc, out, index.format, index.pieces)
 }
 
-/// Writes the names of so many pieces in order, each on a line.
+/// Writes the names of the pieces in order, each on a line.
 fn write_names<W: Write>(alloc: Global, out: &mut W, format: Format, pieces: u32) -> io::Result<()>
     ensures { OnOk result (Appends (W.contents out.old) (W.contents out.new) (name_lines format (pieces - 1) pieces)) }
 {

@@ -1,5 +1,5 @@
-//! An instance and its pieces from files (`dividing`), pieces in files, with an index (`pieces`), and reports of pieces (`reports`) and
-//! of parts (`parts`) in files.
+//! Reads an instance and its pieces from files (`dividing`), writes pieces to files, with an index (`pieces`), and reads the
+//! reports of pieces (`reports`) and of parts (`parts`) from files.
 #![tactic(auto)]
 
 mod counting;

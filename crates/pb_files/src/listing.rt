@@ -20,7 +20,7 @@ pub fn piece_number(name: &str) -> Option<u32>
     digits.parse::<u32>().ok()
 }
 
-/// Where the digits begin that end the text.
+/// The place where the digits at the end of the text begin.
 fn digits_start(text: &[u8]) -> usize
     ensures { result ≡ length text.now - suffix_len is_ascii_digit text.now }
 {
@@ -31,7 +31,7 @@ fn digits_start(text: &[u8]) -> usize
     start
 }
 
-/// The names of files that operands name.
+/// The names of the files that operands name.
 #[derive(Drop)]
 pub struct Named {
     /// Those of reports.
@@ -40,8 +40,8 @@ pub struct Named {
     pub indexes: Vec<String>,
 }
 
-/// The names of the files that the operands name: an operand that is no folder is the file of a report; of a folder the
-/// reports are its files that end in `.report`, in the order of their names, and its index is there where it has one.
+/// The names of the files that the operands name: an operand that is no folder is the file of a report; for a folder, the reports
+/// are its files that end in `.report`, in the order of their names, and its index is listed where it has one.
 pub fn named_files<'a, F: Files>(
     alloc: Global,
     operands: &[&'a str],

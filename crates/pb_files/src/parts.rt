@@ -1,4 +1,4 @@
-//! The reports of parts, from their files.
+//! Reading the reports of parts from their files.
 ghost use Rattle.std.specs.Prelude.{◌≡◌, ℕ, List, length, All, IfOk};
 ghost use Rattle.pb_files.specs.Reading.{ReadsParts};
 ghost use Rattle.pb_files.specs.Texts.{texts};
@@ -18,7 +18,7 @@ pub struct PartReports {
     pub parts: Vec<PartReport>,
 }
 
-/// The reports of parts from the files of these names, of an instance of so many variables.
+/// The reports of parts from the files of these names, of an instance of `vars` variables.
 pub fn read_parts<'a, F: Files>(
     alloc: Global,
     format: Format,

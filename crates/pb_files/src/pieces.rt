@@ -1,4 +1,4 @@
-//! The files of the pieces and of the index.
+//! Writing the files of the pieces and of the index.
 ghost use Rattle.std.specs.Prelude.{◌≡◌, ◌≤◌, ◌+◌, ℕ, List, [], length, string_bytes, OnOk};
 ghost use Rattle.pb_read.specs.Format.{Spells};
 ghost use Rattle.pb_write.specs.Pieces.{piece_problem};
@@ -32,7 +32,7 @@ pub fn write_pieces<'a, F: Folders>(
     put_index(alloc, folders, index, format, prepared)
 }
 
-/// Makes the folder where it is not there, and refuses it where it holds an index.
+/// Makes the folder where it is missing, and refuses it where it holds an index.
 fn make_room<'a, F: Folders>(
     folders: &mut F,
     folder: &'a str,
@@ -70,7 +70,7 @@ fn write_each<'a, F: Folders>(
     Ok(())
 }
 
-/// Writes one piece to the file of this name. Its text is made in memory first, so where that fails no file is made.
+/// Writes one piece to the file of this name. Its text is made in memory first, so that no file is made where that fails.
 fn write_one<'a, F: Folders>(
     alloc: Global,
     folders: &mut F,

@@ -7,7 +7,7 @@ use std::alloc::AllocError;
 use std::io;
 use thiserror::Error;
 
-/// What keeps pieces from being written, with the name of the file that it was met at.
+/// What keeps pieces from being written, with the name of the file where it was met.
 #[derive(Debug, Drop, Error)]
 pub enum PiecesFault<'a> {
     /// The file cannot be opened or read, for this reason.

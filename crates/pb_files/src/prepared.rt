@@ -11,7 +11,7 @@ pub struct Prepared {
     pub cubes_digest: Option<[u8; 32]>,
 }
 
-// By hand, so that letting go of it is a call wherever it is done.
+// Written by hand, so that each drop of it is one call.
 impl Drop for Prepared {
     fn drop(self) {
         let Prepared {

@@ -1,4 +1,4 @@
-//! The instance and the reports, from their files.
+//! Reading the instance and the reports from their files.
 ghost use Rattle.std.specs.Prelude.{◌≡◌, ◌<◌, ℕ, List, length, IfOk};
 ghost use Rattle.pb_files.specs.Reading.{IsReportOf, ReadsInstance, ReadsReports};
 ghost use Rattle.pb_files.specs.Texts.{texts};
@@ -64,7 +64,7 @@ fn refusal<'a>(file: &'a str, fault: ReadFault) -> ReportsFault<'a> {
     }
 }
 
-/// The reports from the files of these names, of an instance of so many variables.
+/// The reports from the files of these names, of an instance of `vars` variables.
 pub fn read_reports<'a, F: Files>(
     alloc: Global,
     format: Format,

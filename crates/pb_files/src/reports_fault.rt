@@ -10,7 +10,7 @@ use thiserror::Error;
 /// Why an index is not that of the instance.
 #[derive(Clone, Copy, Debug, PartialEq, Eq, Error)]
 pub enum IndexFault {
-    /// Its first line tells no number of pieces that there may be.
+    /// Its first line tells no number of pieces within the limits.
     #[error("line 1 tells no number of pieces")]
     NoNumber,
     /// It tells the first of these numbers of pieces, and the words or another index tell the second.
@@ -50,7 +50,7 @@ pub enum Refusal {
     Index(IndexFault),
 }
 
-/// What keeps reports from being joined, with the name of the file that it was met at.
+/// What keeps reports from being joined, with the name of the file where it was met.
 #[derive(Debug, Drop, Error)]
 pub enum ReportsFault<'a> {
     /// The instance cannot be opened or read, or the folder of reports, for this reason.

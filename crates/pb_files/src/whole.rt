@@ -7,7 +7,7 @@ pub struct Whole {
     pub digest: [u8; 32],
 }
 
-// By hand, so that letting go of it is a call wherever it is done.
+// Written by hand, so that each drop of it is one call.
 impl Drop for Whole {
     fn drop(self) {
         let Whole {

@@ -6,8 +6,8 @@ use Rattle.pb_hint.specs.declared.places.Place.{Place}
 abbrev pub is_line_feed : ℕ → Bool
 is_line_feed b = b == 10
 
--- what follows these bytes of a text has this line and this column: so many whole lines stand above it, and so many bytes to the
--- left of it on its own
+-- what follows these bytes of a text has this line and this column: one more than the whole lines above it, and one more than the
+-- bytes to the left of it on its own line
 pub record IsPosition (before : List ℕ) (line_number column_number : ℕ) : Type 0 where
   pub above : List ℕ
   pub left : List ℕ
@@ -17,7 +17,7 @@ pub record IsPosition (before : List ℕ) (line_number column_number : ℕ) : Ty
   pub line : line_number ≡ count_by is_line_feed above + 1
   pub column : column_number ≡ length left + 1
 
--- the word of the place, which has a byte at least, stands in the text after so many bytes, at the place's line and column
+-- the word of the place, which has at least one byte, stands in the text after `start` bytes, at the place's line and column
 pub record StandsAfter (text : List ℕ) (start : ℕ) (place : Place) : Type 0 where
   pub after : List ℕ
   pub parts : text ≡ take start text ++ (place.word.now ++ after)

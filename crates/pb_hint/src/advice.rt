@@ -13,7 +13,7 @@ pub enum Advice {
     /// A term has a second literal.
     #[error("no product is read: write a variable of its own for it")]
     Linearise,
-    /// A variable has a number that none has.
+    /// A variable has a number out of range.
     #[error("variables are numbered from 1 to {0}")]
     Renumber(u64),
 }

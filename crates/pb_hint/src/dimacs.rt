@@ -1,11 +1,12 @@
-//! The first word of a formula or of cubes that is no literal.
+//! Finding the first word of a formula or of cubes that cannot stand there.
+//! Source: [DIMACS], [ICNF]
 use crate::opb::are_digits;
 use crate::places::moved;
 use bstr::ByteSlice;
 use std::ops::Range;
 
-/// The first word that is neither a literal nor a 0. Where there are cubes, the `a` in front of one passes. A line with `%` ends
-/// the text.
+/// The first word that is neither a literal nor a 0. Where there are cubes, an `a` at the start of a line passes. A line that
+/// begins with `%` ends the text.
 pub fn misplaced(text: &[u8], has_cubes: bool) -> Option<Range<usize>> {
     let mut start: usize = 0;
     for line in text.lines_with_terminator() {

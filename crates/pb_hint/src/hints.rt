@@ -26,8 +26,8 @@ pub enum Hint<'t> {
     Mend(Place<'t>, Advice),
 }
 
-/// A hint on a text that was refused in this format, for this fault, if there is one to give. It tells of another format than
-/// this one, or of a word that stands in the text where it says; that the word is the one to mend is no more than likely.
+/// A hint on a text that was refused in this format, for this fault, if there is one to give. It names another format than this
+/// one, or a word that stands in the text where it says. The word is likely the one to mend, but need not be.
 pub fn hint_on<'t>(format: Format, text: &'t [u8], fault: ReadFault) -> Option<Hint<'t>>
     ensures another_format { (begins : _) → result ≡ Some (Hint.Begins begins) → is_of begins format ≡ false }
     ensures place { (place : _) → result ≡ Some (Hint.At place) → StandsIn text.now place }
@@ -45,7 +45,7 @@ pub fn hint_on<'t>(format: Format, text: &'t [u8], fault: ReadFault) -> Option<H
     }
 }
 
-/// The bounds of the word that the fault is likely to be of.
+/// The bounds of the word that is likely to have caused the fault.
 fn word_at_fault(format: Format, text: &[u8], fault: ReadFault) -> Option<Range<usize>> {
     let start = start_of_line(text, fault.line);
     let rest = text.get(start..)?;
@@ -70,7 +70,7 @@ fn greatest(format: Format, text: &[u8]) -> Option<u64> {
     }
 }
 
-/// What to write in place of the word that a fault is of, where that is known.
+/// What to write in place of the word that caused the fault, where that is known.
 fn advice_on(format: Format, text: &[u8], kind: ReadKind, word: &[u8]) -> Option<Advice> {
     match kind {
         ReadKind::NonLinear => Some(Advice::Linearise),

@@ -1,4 +1,4 @@
-//! What may help whoever gave a text that was refused. Nothing rests on it: a hint that is wrong or missing changes no answer.
+//! Hints for the author of a text that was refused. No answer rests on them: a wrong or missing hint changes none.
 #![tactic(auto)]
 
 mod advice;

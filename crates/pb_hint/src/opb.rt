@@ -1,9 +1,10 @@
-//! The first token of OPB that cannot stand where it does.
+//! Finding the first token of OPB that cannot stand where it does.
+//! Source: [OPB]
 use crate::places::moved;
 use bstr::ByteSlice;
 use std::ops::Range;
 
-/// What a token may be, after those before it.
+/// What the next token may be, after those before it.
 #[derive(Clone, Copy, PartialEq, Eq)]
 enum Expected {
     /// The first token of a statement.
@@ -20,7 +21,7 @@ enum Expected {
     End,
 }
 
-/// The first token that no statement has at its place. Products pass, as they are a fault of their own.
+/// The first token that no statement can have at its place. Products pass, since they are a fault of their own.
 pub fn misplaced(text: &[u8]) -> Option<Range<usize>> {
     let mut expected = Expected::Start;
     let mut start: usize = 0;
@@ -134,7 +135,7 @@ pub fn variable(word: &[u8]) -> Option<&[u8]> {
     word.strip_prefix(b"~").unwrap_or(word).strip_prefix(b"x")
 }
 
-/// Whether there are digits alone, one at least.
+/// Whether the word is one or more digits.
 pub fn are_digits(word: &[u8]) -> bool {
     !word.is_empty() && word.iter().all(|byte| byte.is_ascii_digit())
 }

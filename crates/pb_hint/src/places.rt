@@ -6,8 +6,8 @@ use bstr::ByteSlice;
 use std::ops::Range;
 use thiserror::Error;
 
-/// A word, and where it stands: its line, from 1, and its column in bytes, from 1. Of a long word its first bytes. It is shown
-/// with escapes for bytes that do not print or are not ASCII.
+/// A word, and where it stands: its line, from 1, and its column in bytes, from 1. Of a long word it keeps the first bytes. It is
+/// shown with escapes for bytes that do not print or are not ASCII.
 #[derive(Clone, Copy, Debug, PartialEq, Eq, Error)]
 #[error("line {line}, column {column}: '{}'", self.word.escape_ascii())]
 pub struct Place<'t> {
@@ -16,10 +16,10 @@ pub struct Place<'t> {
     pub word: &'t [u8],
 }
 
-/// The most bytes of a word that a place shows.
+/// The most bytes of a word that a place shows. Chosen by hand, so that a hint stays short.
 const LONGEST: usize = 40;
 
-/// The place of the word between these bounds, whoever proposes them: none only where they are no bounds of a word in the text.
+/// The place of the word between these bounds, wherever they come from: none only where they are no bounds of a word in the text.
 pub fn locate<'t>(text: &'t [u8], bounds: Range<usize>) -> Option<Place<'t>>
     ensures place { IfSome result (StandsAfter text.now bounds.start) }
     ensures none { IfNone result ((bounds.end ≤ bounds.start) ⊎ (length text.now < bounds.end)) }
@@ -64,7 +64,7 @@ pub fn start_of_line(text: &[u8], line: u64) -> usize {
     start
 }
 
-/// The bounds, so many bytes further on.
+/// The bounds, moved on by `by` bytes.
 pub fn moved(bounds: Range<usize>, by: usize) -> Range<usize> {
     bounds.start.saturating_add(by)..bounds.end.saturating_add(by)
 }

@@ -1,4 +1,5 @@
-//! The first product of OPB.
+//! Finding the first product in OPB.
+//! Source: [OPB]
 use crate::opb::{ends_word, is_literal};
 use crate::places::moved;
 use bstr::ByteSlice;
@@ -20,8 +21,8 @@ pub fn second_literal(text: &[u8]) -> Option<Range<usize>> {
     None
 }
 
-/// Whether a line ends behind a literal, or where on it the first literal behind another one stands. `is_behind` tells whether the
-/// line begins behind one.
+/// Whether the line ends right behind a literal, or the place on it of the first literal right behind another one. `is_behind`
+/// tells whether the line begins behind a literal.
 fn second_literal_on(line: &[u8], is_behind: bool) -> Result<bool, Range<usize>> {
     let mut is_behind = is_behind;
     let mut start: usize = 0;

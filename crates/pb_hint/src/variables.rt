@@ -1,4 +1,4 @@
-//! The first variable whose number is out of range.
+//! Finding the first variable whose number is out of range.
 use crate::opb::{are_digits, ends_word, variable};
 use crate::places::moved;
 use bstr::ByteSlice;
@@ -17,7 +17,7 @@ pub fn told(text: &[u8]) -> Option<u64> {
     None
 }
 
-/// The first literal whose variable is over the greatest number, or 0 where that ends no list.
+/// The first literal whose variable is over the greatest number, or is 0 in a format where 0 ends no list.
 pub fn misnumbered(format: Format, text: &[u8], greatest: u64) -> Option<Range<usize>> {
     let comment = if format.is_clausal() { b"c" } else { b"*" };
     let mut start: usize = 0;
@@ -55,7 +55,7 @@ fn is_misnumbered(format: Format, word: &[u8], greatest: u64) -> bool {
     }
 }
 
-/// The number that these digits spell, or the greatest that there is where it has no room.
+/// The number that these digits spell, or the greatest of 64 bits where it is larger; none where they are not digits.
 fn number_of(digits: &[u8]) -> Option<u64> {
     if !are_digits(digits) {
         return None;

@@ -32,7 +32,7 @@ abbrev pub IsLeastOfPiece : Problem → List (List Literal) → PieceReport → 
 IsLeastOfPiece p cubes report = is_final (is_some p.objective) report.claim ≡ true
     → (q : Problem) × IsPieceInstance p cubes report.number q × IsLeastCost q (outcome_of p (found_in p report.claim))
 
--- so many pieces are those of the cubes, and each report that claims to be the answer on its piece has the least cost there
+-- there are `pieces` pieces by the cubes, and each report that claims to be the answer on its piece has the least cost there
 pub record AreLeastOfPieces (p : Problem) (pieces : ℕ) (reports : List PieceReport) (cubes : List (List Literal)) : Type 0 where
   pub count : length cubes + 1 ≡ pieces
   pub each : All (λ report. IsLeastOfPiece p cubes report) reports

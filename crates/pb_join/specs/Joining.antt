@@ -21,13 +21,13 @@ use Rattle.pb_join.specs.declared.faults.JoinFault.TheVariants.{Report, Memory, 
 use Rattle.pb_join.specs.declared.states.PieceState.{PieceState}
 use Rattle.pb_join.specs.declared.states.PieceState.TheVariants.{Missing, Cut, Done}
 
--- the assignment is one to the instance's variables, is feasible, and a cost that is told is its own
+-- the assignment is to the instance's variables, it is feasible, and a cost that is told is its own
 pub record IsWitness (p : Problem) (w : Witness) : Type 0 where
   pub for_all_variables : length w.values ≡ p.vars
   pub feasible : IsFeasible p w.values
   pub cost_is : IfSome w.cost (λ z. z ≡ cost p w.values)
 
--- Every report is of one of so many pieces, no two are of the same, and what they have for an assignment is one.
+-- Every report is of one of `pieces` pieces, no two are of the same, and the instance accepts each assignment that they have.
 pub record AreFit (p : Problem) (pieces : ℕ) (reports : List PieceReport) : Type 0 where
   pub numbers : All (λ r. r.number < pieces) reports
   pub once : AllPairs (λ r s. r.number ≢ s.number) reports
@@ -43,7 +43,7 @@ IsStateOf p reports i Missing = All (λ r. r.number ≢ i) reports
 IsStateOf p reports i Cut = IsReported p reports i false
 IsStateOf p reports i Done = IsReported p reports i true
 
--- what became of each of so many pieces, in order
+-- what became of each of the pieces, in order
 pub record AreStates (p : Problem) (pieces : ℕ) (reports : List PieceReport) (states : List PieceState) : Type 0 where
   pub count : length states ≡ pieces
   pub each : (i : ℕ) → i < pieces → IsStateOf p reports i (slice_index_or states i Missing)

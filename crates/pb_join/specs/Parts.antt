@@ -44,14 +44,14 @@ abbrev pub first_division : List PartReport → Option Division
 first_division [] = None
 first_division (part ∷ rest) = Some part.heading.division
 
--- the division is of this instance into some pieces and among so many tasks, and is the first one, if there is a first
+-- the division is of this instance into some pieces and among `tasks` tasks, and is the first one, if there is a first
 pub record IsSameDivision (digest : List ℕ) (tasks : ℕ) (first : Option Division) (division : Division) : Type 0 where
   pub same_instance : division.instance ≡ digest
   pub some_pieces : division.pieces ≢ 0
   pub same_tasks : division.tasks ≡ tasks
   pub same_division : IfSome first (λ d. d ≡ division)
 
--- it can be claimed of a part: an assignment, or nothing
+-- a part can claim it: an assignment, or nothing
 abbrev pub IsPartClaim : Claim → Type 0
 IsPartClaim (Optimum w) = ⊥
 IsPartClaim (Satisfiable w) = ⊤
@@ -59,8 +59,8 @@ IsPartClaim Unsatisfiable = ⊥
 IsPartClaim Unknown = ⊤
 IsPartClaim Unsupported = ⊥
 
--- Every report is of the same division of this instance among so many tasks, no two are of the same task, each claims what can be
--- claimed of a part, and what they have for an assignment is one.
+-- Every report is of the same division of this instance among `tasks` tasks, no two are of the same task, each claims what can be
+-- claimed of a part, and the instance accepts each assignment that they have.
 pub record AreFitParts (p : Problem) (digest : List ℕ) (tasks : ℕ) (parts : List PartReport) : Type 0 where
   pub divisions : All (λ part. IsSameDivision digest tasks (first_division parts) part.heading.division) parts
   pub once : AllPairs (λ part other. part.heading.task ≢ other.heading.task) parts
@@ -85,12 +85,13 @@ IsTaskState parts task Missing = All (λ part. part.heading.task ≢ task) parts
 IsTaskState parts task Unfinished = Any (λ part. (part.heading.task ≡ task) × IsStateBy part.heading Unfinished) parts
 IsTaskState parts task Finished = Any (λ part. (part.heading.task ≡ task) × IsStateBy part.heading Finished) parts
 
--- what became of each of so many tasks, in order
+-- what became of each of the tasks, in order
 pub record AreTaskStates (tasks : ℕ) (parts : List PartReport) (states : List TaskState) : Type 0 where
   pub count : length states ≡ tasks
   pub each : (task : ℕ) → task < tasks → IsTaskState parts task (slice_index_or states task Missing)
 
--- Each task that has a piece is finished: as pieces are dealt in turn, those are the first so many. No division tells no pieces.
+-- Each task that has a piece is finished. As pieces are dealt in turn, those are the first tasks, one for each piece. Without a
+-- division there are no pieces.
 abbrev pub IsWhole : Option Division → List TaskState → Type 0
 IsWhole None states = ⊥
 IsWhole (Some division) states = All (λ state. state ≡ Finished) (take division.pieces states)

@@ -32,7 +32,7 @@ abbrev pub IsOfPiece : Problem → List (List Literal) → PieceReport → Type 
 IsOfPiece p cubes report = is_final (is_some p.objective) report.claim ≡ true
     → (q : Problem) × IsPieceInstance p cubes report.number q × IsAnswer q (outcome_of p (found_in p report.claim))
 
--- so many pieces are those of the cubes, and each report that claims to be the answer on its piece is
+-- there are `pieces` pieces by the cubes, and each report that claims to be the answer on its piece is
 pub record AreOfPieces (p : Problem) (pieces : ℕ) (reports : List PieceReport) (cubes : List (List Literal)) : Type 0 where
   pub count : length cubes + 1 ≡ pieces
   pub each : All (λ report. IsOfPiece p cubes report) reports

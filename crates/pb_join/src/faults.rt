@@ -28,7 +28,7 @@ pub enum Rejection {
 /// Why reports were not joined.
 #[derive(Clone, Copy, Debug, PartialEq, Eq, Error)]
 pub enum JoinFault {
-    /// The report at this place of the list, from 0, is the first that is rejected, for this.
+    /// The report at this place of the list, from 0, is the first that is rejected, for this reason.
     #[error("report {place}: {why}")]
     Report { place: usize, why: Rejection },
     /// The memory that the call needs was refused.

@@ -22,7 +22,7 @@ pub(crate) struct Gathered<'i> {
     pub(crate) states: Vec<PieceState>,
 }
 
-/// What all reports tell together, of an instance that is divided into so many pieces.
+/// What all reports tell together of an instance that is divided into `pieces` pieces.
 pub(crate) fn gather<'i>(
     alloc: Global,
     instance: &'i Instance,
@@ -92,7 +92,8 @@ fn state_of(claim: &Claim, has_objective: bool) -> PieceState
     }
 }
 
-/// Holds the first of what is held and what is claimed, unless the instance does not accept it.
+/// Keeps the first, in the order of assignments, of what is held and what is claimed, unless the instance does not accept the
+/// claim.
 pub(crate) fn take_claim(
     best: &mut Best<'_>,
     instance: &Instance,
@@ -111,7 +112,7 @@ pub(crate) fn take_claim(
     }
 }
 
-/// Holds the first of what is held and an assignment, unless the instance does not accept it.
+/// Keeps the first, in the order of assignments, of what is held and this one, unless the instance does not accept this one.
 fn take_witness(
     best: &mut Best<'_>,
     instance: &Instance,

@@ -1,4 +1,4 @@
-//! One report of the reports of all pieces.
+//! Joining the reports of all pieces into one.
 ghost use Rattle.std.specs.Prelude.{◌≡◌, ◌≢◌, ◌≤◌, ◌↔◌, List, IfOk, IfErr, IsErrOf, IsTrue, All, false, true};
 ghost use Rattle.pb_inst.specs.Literal.{Literal};
 ghost use Rattle.pb_report.specs.Outcome.{Answers};
@@ -28,18 +28,18 @@ pub struct Joined {
     pub states: Vec<PieceState>,
 }
 
-/// Joins the reports of the pieces of an instance, of which there are so many, 1 or more, and writes the report of the whole,
-/// which is flushed. Each piece was solved somewhere as an instance of its own.
+/// Joins the reports of the pieces of an instance, of which there are `pieces`, 1 or more, and writes and flushes the report of
+/// the whole. Each piece was solved somewhere as an instance of its own.
 ///
-/// Where every piece has one report that claims to be its answer, the least assignment of them all is written as the answer:
-/// with `s OPTIMUM FOUND`, or `s SATISFIABLE` where there is no objective; `s UNSATISFIABLE` where no report has one. Where
-/// each claim is right this is, byte for byte, the report of the whole instance; where each has the least cost of its piece, but
-/// perhaps not the first assignment of that cost, the cost is that of the whole. Where a piece has no report, or one that does
-/// not claim to be its answer, the best assignment is written with `s SATISFIABLE` and its cost, or `s UNKNOWN` alone.
-/// Whatever is claimed, an assignment that is written is feasible, and its cost is its own.
+/// Where every piece has one report that claims to be its answer, the least assignment of them all is written as the answer: with
+/// `s OPTIMUM FOUND`, or `s SATISFIABLE` where there is no objective; `s UNSATISFIABLE` where no report has one. Where each claim
+/// is right, this is the report of the whole instance byte for byte. Where each has the least cost of its piece, but perhaps not
+/// the first assignment of that cost, the cost is that of the whole. Where a piece has no report, or one that does not claim to
+/// be its answer, the best assignment is written with `s SATISFIABLE` and its cost, or `s UNKNOWN` alone. Whatever is claimed, an
+/// assignment that is written is feasible, and its cost is its own.
 ///
-/// The first report that no piece can have is rejected, and then nothing is written; nor is it where memory is refused. After
-/// `Write`, which comes exactly where the device has failed, it is not said what was written.
+/// The first report that no piece can have is rejected, and then nothing is written; nor is anything where memory is refused.
+/// After `Write`, which comes exactly where the device has failed, any part of the report may have been written.
 pub fn join<W: Write>(
     alloc: Global,
     format: Format,

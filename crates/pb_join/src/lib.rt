@@ -1,5 +1,5 @@
-//! The reports of an instance's pieces, each solved somewhere as an instance of its own, or of its parts, each searched somewhere by
-//! a task; and the one report that they make.
+//! Joins the reports of an instance's pieces, each solved somewhere as an instance of its own, or of its parts, each searched
+//! somewhere by a task, into one report.
 #![tactic(auto)]
 
 mod faults;

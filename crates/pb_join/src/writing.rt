@@ -1,4 +1,4 @@
-//! The report of what was joined.
+//! Writing the report of what was joined.
 ghost use Rattle.std.specs.Prelude.{◌≡◌, is_err, IfOk, IfErr, OnOk};
 ghost use Rattle.std.specs.Io.KnownBytes.{Appends};
 ghost use Rattle.pb_join.specs.Joining.{joined_report, joined_status};

@@ -8,7 +8,7 @@ use Rattle.clap.specs.Matches.{ReadsOne, TriesOne}
 use Rattle.clap.specs.Words.{Text}
 use Rattle.pb_line.specs.Values.{Spells, SpellsIfGiven}
 
--- what `parse` makes of a text at an unsigned type of so many bits
+-- what `parse` makes of a text at an unsigned type of `bits` bits
 abbrev Reads : ℕ → Text → Result ℕ ParseIntError → Type 0
 Reads bits text r = ParsesUnsigned bits 10 text r × ExplainsUnsignedError 10 text r × HasUnsignedDigitsIfOk text r
 

@@ -31,7 +31,7 @@ EndsTold kind status =
     (IsShown kind × ((status ≡ 0) ⊎ (status ≡ 1)))
     ⊎ ((kind ≢ OutOfMemory) × (IsShown kind → ⊥) × (status ≡ 2))
 
--- the status where the words have a fault of this kind: for want of memory as the program ends then, and else that of a fault
+-- the status where the words have a fault of this kind: where memory ran out as the program ends then, and else that of a fault
 -- that was told
 abbrev pub EndsBy : (ℕ → Type 0) → ErrorKind → ℕ → Type 0
 EndsBy EndsWithoutMemory kind status = ((kind ≡ OutOfMemory) × EndsWithoutMemory status) ⊎ EndsTold kind status

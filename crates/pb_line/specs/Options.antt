@@ -1,4 +1,4 @@
--- The options and the operand that the programs have in common.
+-- The options and the operand that the programs share.
 use Rattle.std.specs.Prelude.{[], ◌∷◌, Some, codes, true}
 use Rattle.clap.specs.Simple.{on_top}
 use Rattle.clap.specs.Words.{App, Rule, Text, new_app, new_rule}

@@ -5,8 +5,8 @@ ghost use Rattle.std.specs.IoError.{error_kind};
 use std::fmt::Display;
 use std::io::{Error, ErrorKind, Write};
 
-/// One line to the standard error, unless whoever read the output wants no more: the program's name, what it could not do, and
-/// the system's reason, where it is known. Faults of the standard error are ignored.
+/// Writes one line to the standard error, unless the reader of the output has closed it: the program's name, what it could not
+/// do, and the system's reason, where it is known. Faults of the standard error are ignored.
 pub fn tell_failure<F: Display + Drop, E: Write>(
     program: &str,
     failure: F,

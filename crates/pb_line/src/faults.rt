@@ -9,7 +9,7 @@ use clap::Error;
 use clap::error::ErrorKind;
 use std::io::{self, Write};
 
-/// Why what the words ask for was not told.
+/// Why a fault was not told.
 #[derive(Drop)]
 pub enum Untold {
     /// Memory ran out while the words were read. Nothing was written.
@@ -38,8 +38,8 @@ pub fn tell_fault<W: Write, E: Write>(fault: &Error, out: &mut W, err: &mut E) -
     }
 }
 
-/// The same, and where the output does not take help or the version, tells so with the system's reason and answers 1. Where memory
-/// ran out there is no status, and nothing was written.
+/// Does what `tell_fault` does. Where the output does not take help or the version, it tells so with the system's reason and
+/// answers 1. Where memory ran out there is no status, and nothing was written.
 pub fn end_at_line<W: Write, E: Write>(
     program: &str,
     fault: &Error,

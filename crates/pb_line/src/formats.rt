@@ -4,7 +4,7 @@ ghost use Rattle.pb_read.specs.Format.{format_name};
 
 use pb_read::Format;
 
-/// The format of this name, where it is one's: `opb`, `cnf` and `icnf`.
+/// The format of this name, if a format has it: `opb`, `cnf` or `icnf`.
 pub fn format_of(name: &str) -> Option<Format>
     ensures some { IfSome result (λ format. name.now ≡ format_name format) }
     ensures none { IsNone result → (format : Format) → name.now ≢ format_name format }

@@ -1,4 +1,4 @@
-//! Why a call to the system failed, for the line that tells of it.
+//! Keeping the reason why a call to the system failed, for the line that tells of it.
 ghost use Rattle.std.specs.Prelude.{◌≡◌};
 
 use std::cell::Cell;
@@ -11,7 +11,7 @@ pub struct LastFault {
 }
 
 impl LastFault {
-    /// No fault yet.
+    /// A place where no fault was noted yet.
     pub fn new() -> LastFault {
         LastFault {
             fault: Cell::new(None),

@@ -1,4 +1,4 @@
-//! The command lines of the programs: of each its one command and what the words ask for, and what they have in common.
+//! The command lines of the programs: for each its one command and what the words ask for, and what all of them share.
 #![tactic(auto)]
 
 pub mod dividing;

@@ -1,4 +1,4 @@
-//! The values of the matches.
+//! Reading values from the matches of a command line.
 ghost use Rattle.std.specs.Prelude.{◌≡◌, ◌≢◌, ◌≤◌, ℕ, Option, Some, codes, option_map, IfSome, IsNone, IsSomeAnd, SomeIff};
 ghost use Rattle.clap.specs.Words.{first_of, found_of, one_of, rows_of};
 ghost use Rattle.pb_inst.specs.declared.limits.TheConstants.{MAX_WORKERS};
@@ -33,7 +33,7 @@ pub fn number_of(matches: &ArgMatches<'_>, name: &str) -> Option<u32>
     matches.get_one::<u32>(name)
 }
 
-/// The number of this name, if there is one; or nothing where its text spells none of 32 bits.
+/// The number of this name, if the line gives one; none at all where its text spells no number of 32 bits.
 pub(crate) fn count_if_given(matches: &ArgMatches<'_>, name: &str) -> Option<Option<u32>>
     ensures some { IfSome result (SpellsIfGiven 32 (one_of name.now (rows_of (found_of matches.now)))) }
     ensures none { IsNone result → (number : Option ℕ) → SpellsIfGiven 32 (one_of name.now (rows_of (found_of matches.now))) number → ⊥ }
@@ -41,7 +41,7 @@ pub(crate) fn count_if_given(matches: &ArgMatches<'_>, name: &str) -> Option<Opt
     matches.try_get_one::<u32>(name).ok()
 }
 
-/// The number of this name, if there is one; or nothing where its text spells none of 64 bits.
+/// The number of this name, if the line gives one; none at all where its text spells no number of 64 bits.
 pub fn number_if_given(matches: &ArgMatches<'_>, name: &str) -> Option<Option<u64>>
     ensures some { IfSome result (SpellsIfGiven 64 (one_of name.now (rows_of (found_of matches.now)))) }
     ensures none { IsNone result → (number : Option ℕ) → SpellsIfGiven 64 (one_of name.now (rows_of (found_of matches.now))) number → ⊥ }
@@ -49,7 +49,7 @@ pub fn number_if_given(matches: &ArgMatches<'_>, name: &str) -> Option<Option<u6
     matches.try_get_one::<u64>(name).ok()
 }
 
-/// So many workers, from 1 to `MAX_WORKERS`.
+/// `count` workers, where `count` is from 1 to `MAX_WORKERS`.
 pub fn workers_of(count: u32) -> Option<Workers>
     ensures { SomeIff result ((1 ≤ count) × (count ≤ MAX_WORKERS)) count }
 {

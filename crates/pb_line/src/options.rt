@@ -1,4 +1,4 @@
-//! The options and the operand that the programs have in common. What help says of each is the program's own.
+//! The options and the operand that the programs share. Each program has its own help for them.
 ghost use Rattle.std.specs.Prelude.{◌≡◌, false};
 ghost use Rattle.clap.specs.Words.{app_of, rule_of};
 ghost use Rattle.pb_line.specs.Options.{format, workers, split, cubes, nodes, file, with_version};
@@ -9,11 +9,11 @@ use clap::{Arg, Command};
 use pb_inst::{MAX_SPLIT, MAX_WORKERS};
 use std::alloc::Global;
 
-/// The most decisions in each piece that a command line may allow.
+/// The most decisions in each piece that a command line may allow. Chosen by hand.
 pub const MAX_NODES: u64 = 1_000_000_000;
 
-/// A command of this name that tells the version and has no other options, and what help says around them: of what it
-/// does, in short and at length, and at the end.
+/// A command of this name whose one option tells the version, with the texts that help shows: what it does, in short and at
+/// length, and what stands at the end.
 pub fn named<'a>(
     alloc: Global,
     name: &'a str,

@@ -23,14 +23,14 @@ pub trait CommandLine<'a> {
         ensures app { IfOk result (λ command. app_of command ≡ app) }
         ensures simple { is_simple_and_free app ≡ true };
 
-    /// What the matches ask for, unless a value is missing or the format has another name.
+    /// What the matches ask for, unless a value is missing or no format has the name given.
     fn line_of(alloc: Global, matches: &ArgMatches<'a>) -> Result<Option<Self>, AllocError>
         ensures some { IfOk result (λ line. IfSome line (has (rows_of (found_of matches.now)))) }
         ensures none { IfOk result (λ line. IsNone line → has_no_line (rows_of (found_of matches.now))) };
 }
 
-/// Reads the words, the program's name first. Fails where clap refuses them, where they ask for help or the version, where the
-/// format has another name, and for want of memory, with the kind that says which.
+/// Reads the words, the program's name first. Fails where clap refuses them, where they ask for help or the version, where no
+/// format has the name given, and where memory runs out; the kind of the fault says which.
 pub fn parse<'a, L: CommandLine<'a>>(alloc: Global, words: &'a [&'a str]) -> Result<L, Error>
     ensures line { IfOk result (L.has (matches_of L.app (map (λ word. word.now) words.now))) }
     ensures accepted { IfOk result (λ line. fault_of L.app (map (λ word. word.now) words.now) ≡ []) }

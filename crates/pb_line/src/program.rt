@@ -1,4 +1,4 @@
-//! From the system's words to a program's exit status.
+//! Running a program on the system's words.
 use crate::words::{texts_of, words_of};
 use std::alloc::{Alloc, Global};
 use std::env::Env;
@@ -10,11 +10,11 @@ pub trait Program {
     /// Runs on its words, its own name first, and answers its exit status.
     fn run(&self, words: &[&str]) -> u8;
 
-    /// The end where the words found no memory.
+    /// Ends the program where there was no memory for the words, and answers its exit status.
     fn end_without_memory(&self) -> u8;
 }
 
-/// Runs the program on the system's words. Words that are no text end with status 2.
+/// Runs the program on the system's words. Where a word is no text it ends with status 2.
 pub fn main_with<R: Env + Alloc<A = Global>, P: Program>(rt: &R, program: &P) -> ExitCode {
     let status = match texts_of(rt) {
         Ok(texts) => run_on(rt.alloc(), program, &texts),

@@ -5,7 +5,8 @@ use std::alloc::{Alloc, AllocError, Global};
 use std::env::{self, Env};
 use std::io;
 
-/// The words that the system has. Fails with the kind `OutOfMemory` for want of memory, else where a word is no UTF-8.
+/// The words that the system gives. Fails with the kind `OutOfMemory` where memory runs out, and with another kind where a word
+/// is not UTF-8.
 pub fn texts_of<R: Env + Alloc<A = Global>>(rt: &R) -> io::Result<Vec<String>> {
     let mut texts = Vec::new(rt.alloc());
     for text in env::args(rt)? {
@@ -14,7 +15,7 @@ pub fn texts_of<R: Env + Alloc<A = Global>>(rt: &R) -> io::Result<Vec<String>> {
     Ok(texts)
 }
 
-/// The same words, borrowed.
+/// The words, borrowed from their texts.
 pub fn words_of<'a>(alloc: Global, texts: &'a [String]) -> Result<Vec<&'a str>, AllocError>
     ensures { IfOk result (λ words. map (λ word. word.now) words.items ≡ map (λ text. string_bytes text) texts.now) }
 {

@@ -9,15 +9,16 @@ use std::alloc::Global;
 use std::io;
 use std::marker::Model;
 
-/// Each look comes at most so many calls of `borrow` after the one before it.
+/// The most calls of `borrow` from one look to the next. Chosen by hand.
 const MOST_APART: u32 = 8;
 
-/// So many variables pass in the calls of `borrow` from one look to the next.
+/// About the number of variables times the calls of `borrow` from one look to the next, so that large instances look at each
+/// call: on one of them, four tasks took half as long again with looks 2,048 decisions apart as with looks 256 apart.
 const VARIABLES_OF_A_LOOK: u32 = 8192;
 
-/// Each look comes so many calls of `borrow` after the one before it, where no piece begins in between. The calls come after
-/// equally many decisions, and a decision takes the longer the more variables there are. So the more variables, the fewer calls
-/// there are from one look to the next: one from 4,097 variables on.
+/// The number of calls of `borrow` from one look to the next, where no piece begins in between. Successive calls are the same
+/// number of decisions apart, and a decision takes longer where there are more variables. So the more variables there are, the
+/// fewer calls lie between two looks: from 4,097 variables on each call looks.
 pub fn looks_apart(vars: u32) -> u32
     ensures in_range { (1 ≤ result) × (result ≤ 8) }
 {
@@ -33,13 +34,13 @@ enum Look {
     Declined,
     /// There is one, and it was lent.
     Lent,
-    /// The place has a fault, which was told.
+    /// The place has a fault, which was reported.
     Fault,
 }
 
-/// What a worker of a task exchanges with other tasks: it writes the best assignments of its search as the task's note, and
-/// lends the search those of other notes. All its memory is taken at the start. A fault of the place is told and then passed
-/// over: the next look tries again. Contracts see the number of variables.
+/// What a worker of a task exchanges with other tasks: it writes the best assignments of its search as the task's note, and lends
+/// the search those of other notes. It takes all its memory at the start. It reports a fault of the place and goes on: the next
+/// look tries again. Contracts see the number of variables.
 #[derive(Drop)]
 pub struct Exchange<'n, N> {
     notes: &'n N,
@@ -47,20 +48,20 @@ pub struct Exchange<'n, N> {
     task: u32,
     tasks: u32,
     worker: u32,
-    /// What is to be written, where something is, or what was lent.
+    /// The assignment that is to be written, if one is, or else the last one that was lent from another task's note.
     values: Assignment,
     /// The cost of what is to be written.
     due: Option<Number>,
-    /// The cost that was told of what was lent. The next call shows whether the search took it over.
+    /// The cost that the note told of the assignment that was lent. The next call shows whether the search took it over.
     lent: Option<Number>,
     /// The least cost that the task's note is known to tell.
     written: Option<Number>,
-    /// Whether the task's own note, when it was looked at, was not what it told.
+    /// Whether the task's own note was looked at and its assignment was not what it told.
     own_was_wrong: bool,
     /// The task whose note was looked at last.
     last: u32,
     has_looked: bool,
-    /// How many calls pass before the next look.
+    /// The number of calls that pass before the next look.
     pause: u32,
     text: Vec<u8>,
     /// Room for a note that is read, and one byte more.
@@ -78,7 +79,7 @@ impl<'n, N> Model for Exchange<'n, N> {
 }
 
 impl<'n, N: Notes> Exchange<'n, N> {
-    /// The side of this worker of this task, of so many tasks that number from 0 on. The digest is the SHA-256 of the
+    /// The side of this worker of this task, of `tasks` tasks with the numbers from 0 on. The digest is the SHA-256 of the
     /// instance's text, and `vars` its number of variables. Fails where memory is refused.
     pub fn new(
         alloc: Global,
@@ -120,8 +121,8 @@ impl<'n, N: Notes> Exchange<'n, N> {
         self.pause = 0;
     }
 
-    /// Keeps an assignment of the search to be written at the next look, where it costs less than what is written or to be
-    /// written. One of another number of variables is passed over. No file is touched.
+    /// Keeps an assignment of the search, to be written at the next look, where it costs less than what is written or to be
+    /// written. An assignment to another number of variables is ignored. No file is touched.
     pub fn offer(&mut self, cost: Number, assignment: &Assignment)
         ensures { self.new ≡ self.old }
     {
@@ -137,13 +138,14 @@ impl<'n, N: Notes> Exchange<'n, N> {
         is_below(cost, self.written) && is_below(cost, self.due)
     }
 
-    /// Looks, at the first call after `begin` and then at each `looks_apart`-th one: writes what is to be written, and reads one note, at the
-    /// first look the task's own, or, where there is none, that of the next task that has one, and later that of the next other
-    /// task in turn. Where the task's own note turns out to tell less than what is to be written, that one is read.
+    /// Looks, at the first call after `begin` and then at each `looks_apart`-th one: writes what is to be written, and reads one
+    /// note. At the first look that is the task's own, or, where it has none, that of the next task that has one; at a later look
+    /// it is that of the next other task in turn. Where the task's own note turns out to tell less than what is to be written,
+    /// that one is read.
     ///
     /// Where the note tells a cost below the given one, which is that of the best assignment of the search, answers true and
-    /// copies its values into the assignment. Nothing says that they cost what the note tells, or are feasible. Where the search
-    /// takes them over, which the next call's cost shows, they are to be written as the task's own note, so that news spreads.
+    /// copies its values into the assignment. They need not cost what the note tells, nor be feasible. Where the search takes
+    /// them over, which the next call's cost shows, they are to be written as the task's own note, so that news spreads.
     ///
     /// For an assignment of another number of variables it does nothing.
     pub fn borrow(&mut self, below: Number, into: &mut Assignment) -> bool
@@ -163,9 +165,9 @@ impl<'n, N: Notes> Exchange<'n, N> {
         }
     }
 
-    /// What was lent is to be written where the search took it over and has found nothing since: its best assignment then costs
-    /// no more. A note that was not what it told goes no further, and the task's own note is written already. What is dearer than
-    /// the best assignment is not to be written any more.
+    /// Settles what becomes of the assignment that was lent. It is to be written where the search took it over, so that its best
+    /// assignment costs no more, and has offered none since. An assignment that was not what its note told goes no further, and
+    /// one of the task's own note is written already. An assignment that costs more than the best one is no longer to be written.
     fn settle(&mut self, best: Number)
         ensures { self.new ≡ self.old }
     {
@@ -178,7 +180,7 @@ impl<'n, N: Notes> Exchange<'n, N> {
         }
     }
 
-    /// The same of a note that told this cost.
+    /// Settles what becomes of a lent assignment, whose note told this cost, where the best assignment costs `best`.
     fn settle_lent(&mut self, cost: Number, best: Number)
         ensures { self.new ≡ self.old }
     {
@@ -202,8 +204,8 @@ impl<'n, N: Notes> Exchange<'n, N> {
         true
     }
 
-    /// Writes what is to be written as the task's note. One that tells less stays there until it was looked at, which is next:
-    /// another worker of the task may have written it, or the task before it was started again, or it is wrong.
+    /// Writes what is to be written as the task's note. A note there that tells less stays until it is looked at, which comes
+    /// next: another worker of the task may have written it, or the task in an earlier run, or it is wrong.
     fn write_due(&mut self)
         ensures { self.new ≡ self.old }
     {
@@ -231,7 +233,7 @@ impl<'n, N: Notes> Exchange<'n, N> {
         }
     }
 
-    /// The task's note tells this cost.
+    /// Records that the task's note tells this cost.
     fn is_written(&mut self, cost: Number)
         ensures { self.new ≡ self.old }
     {
@@ -240,7 +242,7 @@ impl<'n, N: Notes> Exchange<'n, N> {
         self.own_was_wrong = false;
     }
 
-    /// The cost that the task's own note tells, if there is one that can be relied on.
+    /// The cost that the task's own note tells, if there is one and it was not found wrong.
     fn own_cost(&mut self) -> Option<Number>
         ensures { self.new ≡ self.old }
     {
@@ -257,7 +259,7 @@ impl<'n, N: Notes> Exchange<'n, N> {
         }
     }
 
-    /// The first look: goes through the tasks, from its own on, to the first one that has a note.
+    /// The first look: goes through the tasks, from its own on, to the first that has a note.
     fn look_at_first(&mut self, below: Number, into: &mut Assignment) -> bool
         requires { length into.old ≡ self.old }
         ensures same { self.new ≡ self.old }

@@ -9,8 +9,8 @@ use std::io::{self, Error, ErrorKind, Read, Write};
 use std::rt::Files;
 use std::sync::atomic::{AtomicBool, Ordering};
 
-/// A folder of notes. That of task 3 is the file `3.note`. Worker 2 writes it whole to `3.2.new` first, which then gets its
-/// name.
+/// A folder of notes. The note of task 3 is the file `3.note`. Worker 2 first writes it whole to `3.2.new` and then renames that
+/// file, so that no reader sees half a note.
 #[derive(Drop)]
 pub struct Folder<'a, R> {
     rt: &'a R,
@@ -24,8 +24,8 @@ pub struct Folder<'a, R> {
 }
 
 impl<'a, R: Files> Folder<'a, R> {
-    /// The notes in the folder of this name, of so many tasks that number from 0 on, for the workers of one of them. No file is
-    /// touched. Fails where memory is refused.
+    /// The notes in the folder of this name, of `tasks` tasks with the numbers from 0 on, for the workers of one of them. No file
+    /// is touched. Fails where memory is refused.
     pub fn new(
         alloc: Global,
         rt: &'a R,
@@ -53,14 +53,14 @@ impl<'a, R: Files> Folder<'a, R> {
         })
     }
 
-    /// Makes the folder, and those that it lies in, where they are not there.
+    /// Makes the folder, and those that it lies in, where they are missing.
     pub fn make(&self) -> io::Result<()> {
         fs::create_dir_all(self.rt, self.folder.as_str())
     }
 }
 
 impl<R: Files + Eprint> Notes for Folder<'_, R> {
-    // What is no file is a fault: reading a pipe might wait for ever.
+    // What is not a file is a fault, since reading a pipe might wait for ever.
     fn read(&self, task: u32, room: &mut [u8]) -> io::Result<Option<usize>> {
         let Some(path) = self.notes.get(task as usize) else {
             return Ok(None);
@@ -92,7 +92,7 @@ impl<R: Files + Eprint> Notes for Folder<'_, R> {
         fs::rename(self.rt, draft.as_str(), note.as_str())
     }
 
-    // One line to the standard error, whose own faults are ignored.
+    // Writes one line to the standard error, whose own faults are ignored.
     fn tell(&self, fault: &io::Error) {
         if !self.has_told.swap(true, Ordering::SeqCst) {
             let folder = &self.folder;
@@ -101,8 +101,8 @@ impl<R: Files + Eprint> Notes for Folder<'_, R> {
     }
 }
 
-/// Makes a file of this name. What has the name already, as a draft that was left there, is taken away and never opened: a pipe
-/// might wait for ever, and a link lead to another file.
+/// Makes a file of this name. What has the name already, such as a draft that was left there, is removed and never opened, since
+/// a pipe might wait for ever and a link might lead to another file.
 fn create_anew<R: Files>(rt: &R, path: &str) -> io::Result<R::File> {
     match File::create_new(rt, path) {
         Err(fault) if fault.kind() == ErrorKind::AlreadyExists => {
@@ -113,7 +113,7 @@ fn create_anew<R: Files>(rt: &R, path: &str) -> io::Result<R::File> {
     }
 }
 
-/// No note where the file is not there, and else the fault.
+/// No note where the file is missing, and else the fault.
 fn none_where_missing(fault: io::Error) -> io::Result<Option<usize>>
     ensures { IfOk result (λ found. IfSome found (λ n. n ≤ 0)) }
 {

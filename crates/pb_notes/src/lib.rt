@@ -1,5 +1,4 @@
-//! What tasks on many machines tell each other through a folder: their best assignments, as notes. Nothing that is read is
-//! believed.
+//! Tasks on many machines tell each other their best assignments as notes in a folder. Nothing that is read is trusted.
 #![tactic(auto)]
 
 mod exchange;

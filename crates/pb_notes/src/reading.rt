@@ -1,4 +1,4 @@
-//! How a note is read.
+//! Reading a note.
 ghost use Rattle.std.specs.Prelude.{◌≡◌, ◌++◌, length, map, slice_index, EachIndex, IfSome, IsTrue};
 ghost use Rattle.std.specs.Fmt.{signed_decimal};
 ghost use Rattle.pb_notes.specs.Notes.{cost_line, instance_line, is_one, note_text, IsDigit, values_line};
@@ -36,7 +36,7 @@ impl Note<'_> {
         self.cost
     }
 
-    /// Copies the values into an assignment of as many variables.
+    /// Copies the values into an assignment of the same number of variables.
     pub fn copy_into(&self, into: &mut Assignment)
         requires { length into.old ≡ length self.now.values }
         ensures { into.new ≡ self.now.values }
@@ -48,8 +48,7 @@ impl Note<'_> {
     }
 }
 
-/// What the text tells, where it is a note of the instance with this digest, of so many variables; none where it is anything
-/// else.
+/// What the text tells, where it is a note of the instance with this digest, of `vars` variables; none where it is anything else.
 pub fn read_note<'t>(digest: &[u8; 32], vars: u32, text: &'t [u8]) -> Option<Note<'t>>
     ensures count { IfSome result (λ note. length note.values ≡ vars) }
     ensures told { IfSome result (λ note. text.now ≡ note_text digest.now note.cost note.values) }
@@ -109,7 +108,7 @@ fn cost_of(digits: &[u8]) -> Option<Number>
     }
 }
 
-/// The digits of the line of the values, where they are of so many variables and nothing comes after it.
+/// The digits of the line of the values, where they are `vars` digits and nothing comes after the line.
 fn told_digits(vars: u32, text: &[u8]) -> Option<&[u8]>
     ensures count { IfSome result (λ digits. length digits.now ≡ vars) }
     ensures told { IfSome result (λ digits. text.now ≡ values_line (map is_one digits.now)) }

@@ -1,4 +1,4 @@
-//! How a note is written.
+//! Writing a note.
 ghost use Rattle.std.specs.Prelude.{◌≡◌, ◌+◌, ◌≤◌, ◌++◌, ◌∷◌, [], length, map, vec_len, vec_capacity};
 ghost use Rattle.hex.specs.Hex.{encode_lower};
 ghost use Rattle.pb_notes.specs.Notes.{cost_line, digit_of, instance_line, note_text, values_line};
@@ -15,18 +15,18 @@ pub(crate) const COST: &[u8] = b"cost ";
 /// How the third line begins.
 pub(crate) const VALUES: &[u8] = b"values ";
 
-/// The bytes of the longest note without the digits of its values.
+/// The most bytes of a note beside the digits of its values: 89 of the first line, 46 of the second and 8 of the third.
 const LONGEST_FRAME: usize = 143;
 
-/// The number of bytes that a note of an assignment of so many variables has at most.
+/// The most bytes that a note of an assignment of `vars` variables can have.
 pub fn note_room(vars: u32) -> usize
     ensures { result ≡ 143 + vars }
 {
     LONGEST_FRAME + vars as usize
 }
 
-/// Puts the note of an assignment and its cost in the place of what the buffer holds. The digest is the SHA-256 of the
-/// instance's text. The buffer has room for it, so no memory is taken.
+/// Replaces what the buffer holds by the note of an assignment and its cost. The digest is the SHA-256 of the instance's text.
+/// The buffer has room for it, so no memory is taken.
 pub fn write_note(text: &mut Vec<u8>, digest: &[u8; 32], cost: Number, values: &Assignment)
     requires { 143 + length values.now ≤ vec_capacity text.old }
     ensures written { text.new.items ≡ note_text digest.now cost values.now }
@@ -43,12 +43,12 @@ pub(crate) fn digits_of(digest: &[u8; 32]) -> [u8; 64]
     ensures { result ≡ encode_lower digest.now }
 {
     let mut digits = [0; 64];
-    // It fails only where the lengths differ.
+    // This fails only where the lengths differ.
     let _ = hex::encode_to_slice(digest.as_slice(), &mut digits);
     digits
 }
 
-/// The line of the instance.
+/// Adds the line of the instance.
 fn put_instance(text: &mut Vec<u8>, digest: &[u8; 32])
     requires { vec_len text.old + 89 ≤ vec_capacity text.old }
     ensures written { text.new.items ≡ text.old.items ++ instance_line digest.now }
@@ -61,7 +61,7 @@ fn put_instance(text: &mut Vec<u8>, digest: &[u8; 32])
     put(text, b"\n");
 }
 
-/// The line of the cost.
+/// Adds the line of the cost.
 fn put_cost(text: &mut Vec<u8>, cost: Number)
     requires { vec_len text.old + 46 ≤ vec_capacity text.old }
     ensures written { text.new.items ≡ text.old.items ++ cost_line cost }
@@ -74,7 +74,7 @@ fn put_cost(text: &mut Vec<u8>, cost: Number)
     put(text, b"\n");
 }
 
-/// The line of the values.
+/// Adds the line of the values.
 fn put_values(text: &mut Vec<u8>, values: &Assignment)
     requires { vec_len text.old + 8 + length values.now ≤ vec_capacity text.old }
     ensures written { text.new.items ≡ text.old.items ++ values_line values.now }
@@ -85,7 +85,7 @@ fn put_values(text: &mut Vec<u8>, values: &Assignment)
     put(text, b"\n");
 }
 
-/// A digit for each variable.
+/// Adds a digit for each variable.
 fn put_digits(text: &mut Vec<u8>, values: &Assignment)
     requires { vec_len text.old + length values.now ≤ vec_capacity text.old }
     ensures written { text.new.items ≡ text.old.items ++ map digit_of values.now }
@@ -111,6 +111,6 @@ fn put(text: &mut Vec<u8>, bytes: &[u8])
     ensures len { vec_len text.new ≡ vec_len text.old + length bytes.now }
     ensures room { vec_capacity text.old ≤ vec_capacity text.new }
 {
-    // It fails only where there is no room.
+    // This fails only where there is no room.
     let _ = text.extend_from_slice(bytes);
 }

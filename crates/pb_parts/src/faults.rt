@@ -18,7 +18,7 @@ pub enum PartKind {
     /// The number of a piece is not below the number of pieces.
     #[error("NoSuchPiece")]
     NoSuchPiece,
-    /// A piece is of another task.
+    /// A piece belongs to another task.
     #[error("OtherTask")]
     OtherTask,
     /// The number of a piece is not above the one before it.
@@ -51,8 +51,8 @@ impl<T: Drop> From<AllocFailed<T>> for PartKind {
     }
 }
 
-/// The first fault of a part's report, and its line, from 1. `Report` has the line that the fault of the report has, counted from
-/// the first line of the heading. `Memory` has line 0.
+/// The first fault of a part's report, and its line, from 1. `Report` has the line of the report's fault, counted from the first
+/// line of the heading. `Memory` has line 0.
 #[derive(Clone, Copy, Debug, PartialEq, Eq, Error)]
 #[error("{kind} at line {line}")]
 pub struct PartFault {

@@ -1,4 +1,4 @@
-//! Whether the numbers of a heading are such as a part can have.
+//! Whether a part can have the numbers of a heading.
 ghost use Rattle.std.specs.Prelude.{◌≡◌, ◌<◌, ◌↔◌, Contains, IsOk, IsTrue, OnOk};
 ghost use Rattle.std.specs.List.Sorted.{IsStrictlyIncreasing};
 ghost use Rattle.pb_parts.specs.Parts.{AreApart, ArePiecesOf, IsPieceOf};
@@ -6,7 +6,7 @@ ghost use Rattle.pb_parts.specs.Parts.{AreApart, ArePiecesOf, IsPieceOf};
 use crate::faults::PartKind;
 use crate::parts::Division;
 
-/// Refuses numbers that are not of pieces of the task, or do not rise.
+/// Refuses numbers that are not those of the task's pieces, or do not rise.
 pub(crate) fn check_numbers(numbers: &[u32], division: &Division, task: u32) -> Result<(), PartKind>
     requires { task < division.now.tasks }
     ensures { OnOk result (ArePiecesOf division.now task numbers.now) }
@@ -20,7 +20,7 @@ pub(crate) fn check_numbers(numbers: &[u32], division: &Division, task: u32) -> 
     Ok(())
 }
 
-/// Refuses a number that is not of a piece of the task.
+/// Refuses a number that is not that of one of the task's pieces.
 fn check_piece(number: u32, division: &Division, task: u32) -> Result<(), PartKind>
     requires { task < division.now.tasks }
     ensures { IsOk result ↔ IsPieceOf division.now task number }
@@ -46,7 +46,7 @@ fn are_rising(numbers: &[u32]) -> bool
     true
 }
 
-/// Whether no number is both done and cut. What is done rises.
+/// Whether no number is both done and cut. The numbers in `done` rise.
 pub(crate) fn are_apart(done: &[u32], cut: &[u32]) -> bool
     requires { IsStrictlyIncreasing done.now }
     ensures { IsTrue result ↔ AreApart done.now cut.now }
@@ -59,7 +59,7 @@ pub(crate) fn are_apart(done: &[u32], cut: &[u32]) -> bool
     true
 }
 
-/// Whether the number is one of these, which rise.
+/// Whether the number is among these numbers, which rise.
 pub fn is_among(numbers: &[u32], number: u32) -> bool
     requires { IsStrictlyIncreasing numbers.now }
     ensures { IsTrue result ↔ Contains numbers.now number }

@@ -3,14 +3,14 @@ ghost use Rattle.std.specs.Prelude.{◌≡◌};
 
 use pb_report::Claim;
 
-/// How an instance was divided among tasks. Piece number n, from 0, is of the task n modulo the number of tasks.
+/// How an instance was divided among tasks. Piece n, from 0, goes to the task n modulo the number of tasks.
 #[derive(Clone, Copy, Debug, PartialEq, Eq)]
 pub struct Division {
     /// The SHA-256 of the instance's bytes.
     pub instance: [u8; 32],
     /// The number of pieces.
     pub pieces: u32,
-    /// On how many variables the instance was split.
+    /// The number of variables that the instance was split over.
     pub split: u32,
     /// The SHA-256 of the cube file's bytes, if there was a cube file.
     pub cubes: Option<[u8; 32]>,

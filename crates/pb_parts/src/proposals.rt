@@ -1,4 +1,4 @@
-//! What the lines of a heading seem to say. Nothing is promised of it: the reader writes each line anew, and compares.
+//! What the lines of a heading seem to say. Nothing here is proved, since the reader writes each line again and compares.
 ghost use Rattle.std.specs.Prelude.{◌≡◌};
 
 use crate::faults::PartKind;
@@ -54,7 +54,7 @@ pub(crate) fn propose_numbers(alloc: Global, text: &[u8]) -> Result<Vec<u32>, Pa
     Ok(numbers)
 }
 
-/// The number that digits write, where it has 32 bits.
+/// The number that digits write, where it fits 32 bits.
 fn number_of(word: &[u8]) -> Option<u32> {
     str::from_utf8(word).ok()?.parse().ok()
 }

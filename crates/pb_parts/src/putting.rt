@@ -44,7 +44,7 @@ pub(crate) fn put_pieces<W: Write>(
     put(out, b"\n")
 }
 
-/// A text, and the numbers after it, each after a space.
+/// Writes a text, and the numbers after it, each after a space.
 pub(crate) fn put_numbers<W: Write>(
     out: &mut Device<W>,
     text: &[u8],
@@ -61,7 +61,7 @@ pub(crate) fn put_numbers<W: Write>(
     put(out, b"\n")
 }
 
-/// The digest of the cube file, or that there was none.
+/// Writes the digest of the cube file, or `none`.
 fn put_cubes<W: Write>(out: &mut Device<W>, cubes: &Option<[u8; 32]>) -> Result<(), RunFault>
     ensures written { OnOk result (Appends (W.contents out.old.held) (W.contents out.new.held) (cubes_text cubes.now)) }
     ensures fault { IfErr result (λ fault. fault ≡ RunFault.Write) }
@@ -73,19 +73,19 @@ fn put_cubes<W: Write>(out: &mut Device<W>, cubes: &Option<[u8; 32]>) -> Result<
     }
 }
 
-/// A digest in hex digits.
+/// Writes a digest in hex digits.
 fn put_digest<W: Write>(out: &mut Device<W>, digest: &[u8; 32]) -> Result<(), RunFault>
     ensures written { OnOk result (Appends (W.contents out.old.held) (W.contents out.new.held) (encode_lower digest.now)) }
     ensures fault { IfErr result (λ fault. fault ≡ RunFault.Write) }
     ensures failed { out.new.failed ≡ is_err result }
 {
     let mut digits = [0; 64];
-    // There is room for two digits of each byte, so this is no error.
+    // There is room for two digits of each byte, so this cannot fail.
     let _ = hex::encode_to_slice(digest.as_slice(), &mut digits);
     put(out, &digits)
 }
 
-/// A text, and a number after it.
+/// Writes a text, and a number after it.
 fn put_numbered<W: Write>(out: &mut Device<W>, text: &[u8], number: u32) -> Result<(), RunFault>
     ensures written { OnOk result (Appends (W.contents out.old.held) (W.contents out.new.held) (numbered text.now number)) }
     ensures fault { IfErr result (λ fault. fault ≡ RunFault.Write) }
@@ -95,7 +95,7 @@ fn put_numbered<W: Write>(out: &mut Device<W>, text: &[u8], number: u32) -> Resu
     put(out, Buffer::new().format(number).as_bytes())
 }
 
-/// All of the bytes. To a device that has failed nothing is written.
+/// Writes all of the bytes. To a device that has failed it writes nothing.
 fn put<W: Write>(out: &mut Device<W>, bytes: &[u8]) -> Result<(), RunFault>
     ensures written { OnOk result (Appends (W.contents out.old.held) (W.contents out.new.held) bytes.now) }
     ensures fault { IfErr result (λ fault. fault ≡ RunFault.Write) }

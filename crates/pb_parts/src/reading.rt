@@ -15,11 +15,11 @@ use std::alloc::Global;
 /// The number of lines before the claim.
 const HEADING_LINES: u64 = 4;
 
-/// What a part's report says, of an instance of so many variables.
+/// What a part's report says of an instance of `vars` variables.
 ///
 /// It begins with the heading as `report_heading` writes it: a heading that is spelled otherwise in any byte is refused, and so
-/// is one whose numbers no part can have. Then comes a report as `read_report` of `pb_report` reads it. Which claims can be made
-/// of a part is for the caller to say. Every other text is refused with its first fault.
+/// is one whose numbers no part can have. Then comes a report as `read_report` of `pb_report` reads it. The caller decides which
+/// claims a part can make. Every other text is refused with its first fault.
 pub fn read_part(
     alloc: Global,
     format: Format,
@@ -146,7 +146,7 @@ fn after_heading(fault: ReportFault) -> PartFault {
     }
 }
 
-/// The fault of a line. Want of memory is at none.
+/// The fault of this kind at a line. Where memory ran out it is at no line.
 fn fault_at(kind: PartKind, line: u64) -> PartFault {
     let line = if kind == PartKind::Memory { 0 } else { line };
     PartFault { kind, line }

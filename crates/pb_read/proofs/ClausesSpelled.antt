@@ -76,7 +76,7 @@ literals_whole [] = refl
 literals_whole (l ∷ ls) = omega (arith, sum_by-cons (λ x. cond (is_literal x) 1 0) (Lit l) (whole_words ls), literals_whole ls)
 
 module _ {X : Type 0} (words_of : X → List Word) where
-  -- statements that spell these lists of literals have so many
+  -- statements that spell these lists of literals have as many literals as the lists
   pub same_count : (xs : List X) (cs : List (List Literal)) → map words_of xs ≡ map whole_words cs → literals_in words_of xs ≡ literal_count cs
   same_count [] [] e = refl
   same_count [] (c ∷ cs) e = absurd cc

@@ -32,7 +32,7 @@ first_kept [] n some positive h = absurd (omega arith)
 first_kept (x ∷ xs) zero some positive h = absurd (omega arith)
 first_kept (x ∷ xs) (suc n) some positive h = h
 
--- bytes that are no blanks, as far as that goes, are a word
+-- the leading bytes that are no blanks are a word
 pub word_at : (xs : List ℕ) (n : ℕ) → 0 < n → n ≤ length xs → ((k : ℕ) → k < n → is_blank (get_or xs k 0) ≡ false) → (n < length xs → is_blank (get_or xs n 0) ≡ true)
     → words xs ≡ take n xs ∷ words (drop n xs)
 word_at xs n positive within each ends =

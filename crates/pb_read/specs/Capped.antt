@@ -1,4 +1,4 @@
--- Tokens as the code has them, in which a number over every bound is the greatest that is read.
+-- Tokens as the code has them, in which the greatest number that is read stands for each number above it.
 use Rattle.std.specs.Prelude.{ℕ, pos, min, Bool, unsigned_abs, int_lt, neg_ℤ, if◌then◌else◌}
 use Rattle.pb_read.specs.declared.digits.TheConstants.{GREATEST_READ, GREATEST_COUNT}
 use Rattle.pb_read.specs.declared.opb.token.Token as code

@@ -59,7 +59,7 @@ IsProperWord (variants.Literal positive var) = 0 < var
 IsProperWord variants.Zero = Unit {0}
 IsProperWord variants.Bad = Unit {0}
 
--- These cubes were read from the lines, and have so many literals.
+-- These cubes were read from the lines, and have `count` literals together.
 pub record CubesRead (n : ℕ) (cubes : List (List Literal)) (count : ℕ) (earlier : List (List ℕ)) : Type 0 where
   pub lines : CubeLines earlier n cubes
   pub counted : count ≡ literal_count cubes

@@ -1,4 +1,5 @@
 -- DIMACS CNF.
+-- Source: [DIMACS]
 use Rattle.std.specs.Prelude.{ℕ, ◌≡◌, ◌≤◌, ◌&&◌, ◌||◌, nat_lt, if◌then◌else◌, List, [], ◌∷◌, flat_map, length, codes, Option, Some, None}
 use Rattle.pb_read.specs.declared.fault.ReadKind.TheVariants.{TooMany, BadHeader, TooFewClauses}
 use Rattle.pb_read.specs.declared.fault.ReadFault.{ReadFault}

@@ -1,4 +1,5 @@
 -- Lines of cubes, and files of them.
+-- Source: [ICNF]
 use Rattle.std.specs.Prelude.{ℕ, ◌≡◌, ◌+◌, ◌≤◌, Bool, true, not, ◌||◌, nat_lt, min, List, [], ◌∷◌, ◌++◌, map, length, codes, Option, drop}
 use Rattle.std.specs.List.{AllByRecursion}
 use Rattle.pb_read.specs.declared.fault.ReadKind.{ReadKind}

@@ -1,4 +1,5 @@
 -- iCNF: clauses, and then cube lines.
+-- Source: [ICNF]
 use Rattle.std.specs.Prelude.{ℕ, ◌≡◌, ◌≤◌, Bool, true, false, not, ◌&&◌, max, if◌then◌else◌, List, [], ◌∷◌, flat_map, length, codes, Option, Some, None, take_while}
 use Rattle.pb_read.specs.declared.fault.ReadKind.TheVariants.{BadHeader, ClauseAfterCube}
 use Rattle.pb_read.specs.declared.fault.ReadFault.{ReadFault}

@@ -1,4 +1,5 @@
 -- The linear format of the Pseudo-Boolean Competition.
+-- Source: [OPB]
 use Rattle.std.specs.Prelude.{ℕ, ℤ, pos, neg_ℤ, unsigned_abs, ◌≡◌, Bool, true, false, not, ◌&&◌, ◌||◌, ◌==◌, nat_lt, if◌then◌else◌, List, [], ◌∷◌, ◌++◌, map, filter, flat_map, length, codes, max, sum_by, count_by, Option, Some, None, unwrap_or, option_map, take_while, drop}
 use Rattle.std.specs.List.{list_any, starts_with}
 use Rattle.std.specs.Prelude.{nat_eq}

@@ -6,7 +6,7 @@ use Rattle.pb_read.specs.Runs.{first_is}
 use Rattle.pb_read.specs.Text.{is_digit}
 use Rattle.pb_read.specs.Opb.{Token, End, Related, Bad, is_word_byte}
 
--- the bytes from the front on that are of a word, which ends after a `:` (58)
+-- the leading bytes that belong to a word, which ends after a `:` (58)
 abbrev pub word_front : List ℕ → List ℕ
 word_front [] = []
 word_front (b ∷ bs) = if is_word_byte b then b ∷ (if b == 58 then [] else word_front bs) else []

@@ -8,13 +8,13 @@ ghost use Rattle.pb_read.specs.TokenCuts.{value_after};
 
 use pb_inst::Magnitude;
 
-/// What every number over it is read as. It is greater than the bound on sums.
+/// Every greater number is read as this one, so that no number is too long to read. It is greater than the bound on sums.
 pub(crate) const GREATEST_READ: Magnitude = Magnitude::MAX;
 
-/// What every index or count over it is read as. It is greater than the limits on variables and constraints.
+/// Every greater index or count is read as this one. It is greater than the limits on variables and constraints.
 pub(crate) const GREATEST_COUNT: u32 = u32::MAX;
 
-/// A number below this bound has room for one more digit.
+/// A number below this bound has room for one more digit in 64 bits.
 const ROOMY: u64 = 100_000_000_000_000_000;
 
 pub(crate) fn is_digit(byte: u8) -> bool
@@ -23,7 +23,7 @@ pub(crate) fn is_digit(byte: u8) -> bool
     b'0' <= byte && byte <= b'9'
 }
 
-/// The value of the first digits, as far as plain arithmetic serves, and what stands after them.
+/// The value of the first digits, as long as 64 bits surely hold it, and what stands after those digits.
 fn short_value(bytes: &[u8]) -> (u64, &[u8])
     ensures value { value_after 0 bytes.now ≡ value_after result.0 result.1.now }
     ensures rest { skip_while is_digit bytes.now ≡ skip_while is_digit result.1.now }
@@ -50,8 +50,8 @@ fn with_digit(value: Magnitude, digit: u8) -> Magnitude
         .saturating_add(Magnitude::from(digit - b'0'))
 }
 
-/// The value of the digits at the front, after those of the start, and what stands after them. Kept out of line, since few
-/// numbers are so long.
+/// The value of the leading digits, where `start` is the value of those before them, and what stands after them. Kept out of
+/// line, since few numbers are this long.
 #[cold]
 #[inline(never)]
 fn long_value(start: Magnitude, bytes: &[u8]) -> (Magnitude, &[u8])
@@ -80,7 +80,7 @@ fn begins_with_digit(bytes: &[u8]) -> bool
     }
 }
 
-/// The value of the digits at the front, or `GREATEST_READ` where it is larger, and what stands after them.
+/// The value of the leading digits, or `GREATEST_READ` where it is larger, and what stands after them.
 pub(crate) fn leading_value(bytes: &[u8]) -> (Magnitude, &[u8])
     ensures value { result.0 ≡ cap (value_after 0 bytes.now) }
     ensures rest { result.1.now ≡ skip_while is_digit bytes.now }
@@ -108,7 +108,7 @@ fn count_with_digit(count: u32, digit: u8) -> u32
     longer.min(u64::from(GREATEST_COUNT)) as u32
 }
 
-/// The index or count that the digits at the front write, or `GREATEST_COUNT` where it is larger, and what stands after them.
+/// The index or count that the leading digits write, or `GREATEST_COUNT` where it is larger, and what stands after them.
 fn leading_count(bytes: &[u8]) -> (u32, &[u8])
     ensures value { result.0 ≡ cap_count (value_after 0 bytes.now) }
     ensures rest { result.1.now ≡ skip_while is_digit bytes.now }

@@ -1,4 +1,5 @@
-//! Reading clauses and cubes in words: DIMACS CNF, iCNF and cube files.
+//! Reading the formats that write clauses and cubes word by word: DIMACS CNF, iCNF and cube files.
+//! Source: [DIMACS], [ICNF]
 
 mod clause_reader;
 mod cnf;

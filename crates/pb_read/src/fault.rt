@@ -8,7 +8,7 @@ pub enum ReadKind {
     /// The text ends before the statement does.
     #[error("Unfinished")]
     Unfinished,
-    /// A word is none of the format, or the words are in no order that it knows.
+    /// A word is not one of the format's, or the words are in an order that the format does not have.
     #[error("Syntax")]
     Syntax,
     /// A term has more than one literal.

@@ -1,4 +1,5 @@
 //! The formats of instances, and reading a text by its format.
+//! Source: [OPB], [DIMACS], [ICNF]
 ghost use Rattle.std.specs.Prelude.{◌≡◌, ◌⊎◌, ◌≤◌, List, All, Some, IfOk, IfErr, MatchResult};
 ghost use Rattle.pb_inst.specs.Literal.{Literal};
 ghost use Rattle.pb_inst.specs.Problem.{Problem};

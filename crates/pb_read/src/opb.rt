@@ -1,4 +1,5 @@
 //! Reading OPB.
+//! Source: [OPB]
 ghost use Rattle.std.specs.Prelude.{◌≡◌, ◌⊎◌, Some, IfOk, IfErr, MatchResult};
 ghost use Rattle.pb_inst.specs.Problem.{Problem};
 ghost use Rattle.pb_read.specs.Opb.{OpbText, opb_refusal};

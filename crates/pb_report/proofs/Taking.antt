@@ -40,7 +40,7 @@ pub same_sign : (sign : Bool) → by_value sign sign ≡ 1
 same_sign true = refl
 same_sign false = refl
 
--- a variable that is seen is none that is not
+-- a variable that is seen differs from one that is not
 differs : (seen : List Bool) (v w : ℕ) → get_or seen (v - 1) false ≡ true → get_or seen (w - 1) false ≡ false → v ≢ w
 differs seen v w is isnt e = false≢true (sym isnt ∙ ap (λ n. get_or seen (n - 1) false) (sym e) ∙ is)
 

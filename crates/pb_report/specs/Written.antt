@@ -1,4 +1,5 @@
 -- The bytes of a report that is written.
+-- Source: [OPB]
 use Rattle.std.specs.Prelude.{ℕ, ◌+◌, ℤ, Bool, true, false, List, [], ◌∷◌, ◌++◌, codes, decimal}
 use Rattle.std.specs.Fmt.{signed_decimal}
 use Rattle.pb_read.specs.declared.fault.ReadFault.{ReadFault}

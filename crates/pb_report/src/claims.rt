@@ -1,4 +1,5 @@
 //! What a report claims.
+//! Source: [OPB]
 ghost use Rattle.std.specs.Prelude.{◌≡◌};
 ghost use Rattle.std.specs.Option.{option_copied};
 ghost use Rattle.pb_report.specs.Claims.{witness_of, is_final};

@@ -8,7 +8,7 @@ use std::io;
 use std::io::{Error, ErrorKind, Read, Write};
 use std::marker::Model;
 
-/// A reader or writer, and whether it has answered a fault.
+/// A reader or writer, and whether one of its calls has failed.
 #[derive(Drop)]
 pub struct Device<T> {
     inner: T,
@@ -36,7 +36,7 @@ impl<T> Device<T> {
         }
     }
 
-    /// The reader or writer.
+    /// The reader or writer itself.
     pub fn into_inner(self) -> T
         ensures { result ≡ self.held }
     {
@@ -47,7 +47,7 @@ impl<T> Device<T> {
         inner
     }
 
-    /// Whether a call has answered a fault.
+    /// Whether a call has failed.
     pub fn failed(&self) -> bool
         ensures { result ≡ self.now.failed }
     {
@@ -74,7 +74,7 @@ impl<T: Read> Read for Device<T> {
 impl<T: Write> Write for Device<T> {
     ghost contents = { λ d. T.contents d.held };
 
-    // A write that takes no byte of some bytes is answered as a fault.
+    // A write that takes none of some bytes counts as a fault, or else a caller that writes the rest would never end.
     fn write(&mut self, buf: &[u8]) -> io::Result<usize>
         ensures bound { WritesAtMost result buf.now }
         ensures bytes { WriteAppends (T.contents self.old.held) (T.contents self.new.held) result buf.now }

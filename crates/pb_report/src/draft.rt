@@ -1,4 +1,4 @@
-//! What the lines of a report said so far.
+//! What the lines of a report have said so far.
 ghost use Rattle.std.specs.Prelude.{◌≡◌, ◌≢◌, ◌∷◌, ◌++◌, [], ℕ, ℤ, List, length, IfOk, IsOk, OnOk, None, Ok, Some};
 ghost use Rattle.pb_report.specs.Claims.{status_words};
 ghost use Rattle.pb_report.specs.Draft.{Follow, IsDraft, fresh_draft};
@@ -19,7 +19,7 @@ use pb_inst::{Memory, Number};
 use pb_read::Format;
 use std::alloc::Global;
 
-/// What the lines of a report said so far.
+/// What the lines of a report have said so far.
 #[derive(Drop)]
 pub(crate) struct Draft {
     pub(crate) status: Option<Status>,
@@ -32,7 +32,7 @@ pub(crate) struct Draft {
 }
 
 impl Draft {
-    /// No line was read.
+    /// A draft that has read no line.
     pub(crate) fn new(alloc: Global, format: Format, vars: u32) -> Result<Draft, Memory>
         ensures same_length { IfOk result (λ draft. length draft.values.given ≡ length draft.values.seen) }
         ensures format { IfOk result (λ draft. draft.values.format ≡ format) }
@@ -49,7 +49,7 @@ impl Draft {
         })
     }
 
-    /// Takes a line, of this number.
+    /// Takes the line of this number.
     pub(crate) fn take_line(&mut self, line: &[u8], number: u64) -> Result<(), ReportKind>
         requires { length self.old.values.given ≡ length self.old.values.seen }
         ensures same_length { length self.new.values.given ≡ length self.new.values.seen }
@@ -94,7 +94,7 @@ impl Draft {
         }
     }
 
-    /// A claim beside which there is no `v` line.
+    /// The claim, which is refused where there is a `v` line beside it.
     fn without_values(&self, claim: Claim) -> Result<Claim, ReportFault>
         ensures claim { IfOk result (λ kept. kept ≡ claim) }
         ensures none { OnOk result (self.now.last_values ≡ None) }
@@ -126,7 +126,7 @@ impl Draft {
     }
 }
 
-/// The status that the words are, where there was none before.
+/// The status that the words spell, where there was none before.
 fn first_status(before: Option<Status>, words: Fields<'_>) -> Result<Status, ReportKind>
     ensures first { OnOk result (before ≡ None) }
     ensures status { IfOk result (λ status. words.entry ≡ status_words status) }

@@ -3,7 +3,7 @@
 use pb_read::ReadFault;
 use thiserror::Error;
 
-/// The device that failed, because of which a run has no report.
+/// The device whose failure leaves a run without a report.
 #[derive(Clone, Copy, Debug, PartialEq, Eq, Error)]
 pub enum RunFault {
     #[error("cannot read the input")]

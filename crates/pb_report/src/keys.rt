@@ -1,8 +1,9 @@
-//! What the first word of a line says the line is.
+//! The kind of a line, by its first word.
+//! Source: [OPB]
 ghost use Rattle.std.specs.Prelude.{◌≡◌};
 ghost use Rattle.pb_report.specs.Lines.{begins_with_c, key_of};
 
-/// What a line is.
+/// The kind of a line.
 #[derive(Clone, Copy, Debug, PartialEq, Eq)]
 pub(crate) enum Key {
     Cost,
@@ -12,7 +13,7 @@ pub(crate) enum Key {
     Other,
 }
 
-/// What a line is that begins with the word. A comment begins with `c`, which other letters may follow at once.
+/// The kind of a line that begins with the word. A comment begins with `c`, which other letters may follow at once.
 pub(crate) fn key_of(word: &[u8]) -> Key
     ensures { result ≡ key_of word.now }
 {

@@ -1,4 +1,5 @@
 //! Reading a report.
+//! Source: [OPB]
 ghost use Rattle.std.specs.Prelude.{◌≡◌, IfErr, IfOk};
 ghost use Rattle.pb_report.specs.Report.{AreNarrow, Claims};
 ghost use Rattle.pb_report.specs.declared.claims.Claim.{Claim};
@@ -10,13 +11,13 @@ use bstr::ByteSlice;
 use pb_read::Format;
 use std::alloc::Global;
 
-/// What a report claims of an instance of so many variables.
+/// What a report claims of an instance of `vars` variables.
 ///
-/// The report is that of a solver, as the pseudo-Boolean and SAT competitions write it: lines that begin with `o` and have a
+/// The report is that of a solver, in the form of the pseudo-Boolean and SAT competitions: lines that begin with `o` and have a
 /// number, of which the last counts; one line that begins with `s` and has the status; lines that begin with `v` and have,
 /// together, one literal of each variable, `x1` and `-x1` or `~x1` in OPB, `1` and `-1` in DIMACS CNF, where `0` ends them. Lines
-/// that begin with `c` are comments. Every other report is refused with its first fault. A report whose lines claim something
-/// is accepted, unless memory is refused; the number of an `o` line has at most 128 bits.
+/// that begin with `c` are comments. Every other report is refused with its first fault. A report whose lines claim something is
+/// accepted, unless memory is refused; the number of an `o` line has at most 128 bits.
 pub fn read_report(
     alloc: Global,
     format: Format,

@@ -1,4 +1,5 @@
-//! What a report says, and the words of `s` lines.
+//! The status that a report gives, and the words of `s` lines.
+//! Source: [OPB]
 ghost use Rattle.std.specs.Prelude.{◌≡◌, ◌∷◌, [], IfSome, Some};
 ghost use Rattle.pb_report.specs.declared.statuses.Status.{Status};
 ghost use Rattle.pb_report.specs.Claims.{status_words};
@@ -22,7 +23,7 @@ pub enum Status {
 }
 
 impl Status {
-    /// The exit status of a program whose report says so, as SAT and pseudo-Boolean solvers have it.
+    /// The exit status of a program whose report says this, as SAT and pseudo-Boolean solvers set it.
     pub fn exit_status(self) -> u8
         ensures { result ≡ exit_status self }
     {
@@ -35,7 +36,7 @@ impl Status {
     }
 }
 
-/// The status that the words are; none where they are no status.
+/// The status that the words spell; none where they spell none.
 pub(crate) fn status_of(words: Fields<'_>) -> Option<Status>
     ensures said { IfSome result (λ status. words.entry ≡ status_words status) }
     ensures accepted { (status : Status) → words.entry ≡ status_words status → result ≡ Some status }
@@ -57,7 +58,7 @@ pub(crate) fn status_of(words: Fields<'_>) -> Option<Status>
     }
 }
 
-/// The status of one word.
+/// The status that one word spells.
 fn status_of_word(word: &[u8]) -> Option<Status>
     ensures said { IfSome result (λ status. word.now ∷ [] ≡ status_words status) }
     ensures accepted { (status : Status) → word.now ∷ [] ≡ status_words status → result ≡ Some status }

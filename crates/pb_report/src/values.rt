@@ -14,15 +14,15 @@ use std::alloc::Global;
 pub(crate) struct Values {
     pub(crate) format: Format,
     pub(crate) given: Assignment,
-    /// Makes those variables true that have a value.
+    /// True for each variable that has a value already.
     pub(crate) seen: Assignment,
-    /// How many variables have no value.
+    /// The number of variables that have no value yet.
     pub(crate) left: u32,
     pub(crate) ended: bool,
 }
 
 impl Values {
-    /// No variable has a value.
+    /// Values of which no variable has one yet.
     pub(crate) fn new(alloc: Global, format: Format, vars: u32) -> Result<Values, Memory>
         ensures format { IfOk result (λ values. values.format ≡ format) }
         ensures same_length { IfOk result (λ values. length values.given ≡ length values.seen) }
@@ -40,7 +40,7 @@ impl Values {
         })
     }
 
-    /// Takes the words of a further line.
+    /// Takes the words of one more line.
     pub(crate) fn take_words(&mut self, words: Fields<'_>) -> Result<(), ReportKind>
         requires { length self.old.given ≡ length self.old.seen }
         ensures same_length { length self.new.given ≡ length self.new.seen }
@@ -85,7 +85,7 @@ impl Values {
         if var == 0 || var > self.given.len() {
             return Err(ReportKind::BadVariable);
         }
-        // Where no variable is left, one is repeated.
+        // Where each variable has a value already, this one is repeated.
         if self.left == 0 || self.seen.get(var) {
             return Err(ReportKind::RepeatedVariable);
         }
@@ -107,7 +107,7 @@ impl Values {
     }
 }
 
-/// Whether the literals of the format have an end.
+/// Whether the format writes a `0` behind its literals.
 fn has_end(format: Format) -> bool
     ensures { result ≡ has_end format }
 {

@@ -1,4 +1,5 @@
 //! The words of `v` lines.
+//! Source: [OPB], [DIMACS]
 ghost use Rattle.std.specs.Prelude.{◌≡◌, ◌<◌, ◌^◌, ℕ, true, false, IfSome, Some};
 ghost use Rattle.pb_report.specs.Values.{IsOpbWord, IsCounted, IsDimacsWord, IsDigitsOf, IsValueWord};
 ghost use Rattle.pb_report.specs.Numbers.{IsCount};

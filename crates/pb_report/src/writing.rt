@@ -1,4 +1,5 @@
 //! The reports of a run. Writing one takes no memory.
+//! Source: [OPB]
 ghost use Rattle.std.specs.Prelude.{◌≡◌, ◌++◌, false, is_err, IfOk, IfErr, OnOk};
 ghost use Rattle.std.specs.Io.KnownBytes.{Appends};
 ghost use Rattle.pb_report.specs.Written.{line, cost_line, value_line, refusal_report, memory_report, infeasible_report, unknown_report, satisfiable_report, attained_report, optimum_report};
@@ -28,9 +29,9 @@ pub fn report_refusal<W: Write>(out: &mut Device<W>, refusal: Refusal) -> Result
     report.finish(Status::Unsupported)
 }
 
-/// Reports that memory ran out before the answer was known: `c refused: Memory` and `s UNKNOWN`. Takes none itself.
+/// Reports that memory ran out before the answer was known: `c refused: Memory` and `s UNKNOWN`. Writing it takes no memory.
 ///
-/// A caller whose own work found no memory before `run` ends with it too. A fault is `Write`, where the device has failed.
+/// A caller that runs out of memory before `run` ends with this report too. A fault is `Write`, where the device has failed.
 pub fn report_memory<W: Write>(out: &mut Device<W>) -> Result<Status, RunFault>
     requires { out.old.failed ≡ false }
     ensures status { IfOk result (λ status. status ≡ Status.Unknown) }
@@ -97,8 +98,8 @@ pub fn report_optimum<W: Write>(
     )
 }
 
-/// Reports an assignment that was found, and its cost: the `o` line, `s SATISFIABLE` and the `v` line. That it is least is not
-/// said. A fault is `Write`, where the device has failed.
+/// Reports an assignment that was found, and its cost: the `o` line, `s SATISFIABLE` and the `v` line. The report does not say
+/// that the assignment is least. A fault is `Write`, where the device has failed.
 pub fn report_attained<W: Write>(
     out: &mut Device<W>,
     format: Format,

@@ -1,4 +1,5 @@
 -- The texts that are written: one spelling of each statement of OPB, and of each clause of CNF.
+-- Source: [OPB], [DIMACS]
 use Rattle.std.specs.Prelude.{ℕ, List, [], ◌++◌, length, flat_map, Option, codes, decimal, if◌then◌else◌}
 use Rattle.std.specs.Option.{option_map_or}
 use Rattle.std.specs.Fmt.{signed_decimal}

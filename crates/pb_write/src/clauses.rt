@@ -1,4 +1,5 @@
-//! Clauses, and those of a piece, in the format of the instance.
+//! Writing clauses, and those of a piece, in the format of the instance.
+//! Source: [OPB], [DIMACS]
 ghost use Rattle.std.specs.Prelude.{◌≡◌, ◌≤◌, flat_map, map, All, OnOk};
 ghost use Rattle.pb_write.specs.Pieces.{negation, negated_clause, unit_clauses, clauses_of};
 ghost use Rattle.pb_write.specs.Written.{Adds, HaveVariables};
@@ -19,7 +20,7 @@ fn put_cnf_literal<W: Write>(out: &mut W, lit: Lit) -> io::Result<()>
     put(out, b" ")
 }
 
-/// A literal of a clause.
+/// Writes a literal of a clause.
 fn put_literal<W: Write>(out: &mut W, format: Format, lit: Lit) -> io::Result<()>
     ensures written { OnOk result (Adds W.contents out.old out.new (clause_literal format lit)) }
     ensures variable { 1 ≤ lit.var }
@@ -31,7 +32,7 @@ fn put_literal<W: Write>(out: &mut W, format: Format, lit: Lit) -> io::Result<()
     }
 }
 
-/// What ends a clause.
+/// Writes what ends a clause.
 fn put_end<W: Write>(out: &mut W, format: Format) -> io::Result<()>
     ensures { OnOk result (Adds W.contents out.old out.new (clause_end format)) }
 {
@@ -42,7 +43,7 @@ fn put_end<W: Write>(out: &mut W, format: Format) -> io::Result<()>
     }
 }
 
-/// The clause of the terms' literals, on a line of its own.
+/// Writes the clause of the terms' literals on a line of its own.
 pub(crate) fn put_clause<W: Write>(out: &mut W, format: Format, terms: &Terms<'_>) -> io::Result<()>
     ensures { OnOk result (Adds W.contents out.old out.new (clause_text format (map (λ t. t.lit) terms.now))) }
 {
@@ -52,7 +53,7 @@ pub(crate) fn put_clause<W: Write>(out: &mut W, format: Format, terms: &Terms<'_
     put_end(out, format)
 }
 
-/// The clauses that an assignment meets exactly where it lies in the piece.
+/// Writes the clauses that an assignment meets exactly where it lies in the piece.
 pub(crate) fn put_piece<W: Write>(out: &mut W, format: Format, piece: Piece<'_>) -> io::Result<()>
     ensures written { OnOk result (Adds W.contents out.old out.new (flat_map (clause_text format) (clauses_of piece.entry))) }
     ensures variables { OnOk result (HaveVariables (clauses_of piece.entry)) }

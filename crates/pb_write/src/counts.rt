@@ -47,7 +47,7 @@ fn spare_terms(instance: &Instance) -> usize
     spare
 }
 
-/// Whether the clauses of the piece have at most so many literals.
+/// Whether the clauses of the piece have at most `spare` literals.
 fn has_room_for_terms(piece: Piece<'_>, spare: usize) -> bool
     ensures { IsTrue result ↔ (sum_by length (clauses_of piece.entry) ≤ spare) }
 {
@@ -57,7 +57,7 @@ fn has_room_for_terms(piece: Piece<'_>, spare: usize) -> bool
     }
 }
 
-/// Whether the cubes have at most so many literals together.
+/// Whether the cubes have at most `most` literals together.
 fn has_literals_within(cubes: &[Cube], most: usize) -> bool
     ensures { IsTrue result ↔ (sum_by length cubes.now ≤ most) }
 {

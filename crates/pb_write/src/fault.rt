@@ -3,7 +3,7 @@
 use std::io::{Error, ErrorKind};
 use thiserror::Error as ErrorText;
 
-/// Why an instance or a piece was not written whole. Where it was refused nothing was written.
+/// Why an instance or a piece was not written whole. Where it was refused, nothing was written.
 #[derive(Clone, Copy, Debug, PartialEq, Eq, ErrorText)]
 pub enum WriteFault {
     /// The format has clauses alone, and there is an objective or a constraint that is no clause.

@@ -1,4 +1,5 @@
 //! The formats that are written, and their headers.
+//! Source: [OPB], [DIMACS]
 ghost use Rattle.std.specs.Prelude.{◌≡◌, OnOk};
 ghost use Rattle.pb_write.specs.Written.{Adds, written_format as format_written};
 ghost use Rattle.pb_write.specs.Text.{header_start, header_middle, header_text};
@@ -7,8 +8,8 @@ use crate::put::{put, put_number};
 use pb_read::Format;
 use std::io::{self, Write};
 
-/// The format in which an instance of this format is written. That of iCNF is CNF: its header keeps the number of
-/// variables, for which iCNF has no place, and other solvers read it.
+/// The format in which an instance of this format is written. An instance of iCNF is written as CNF, since its header keeps the
+/// number of variables, for which iCNF has no place, and since other solvers read it.
 pub fn written_format(format: Format) -> Format
     ensures { result ≡ format_written format }
 {
@@ -19,7 +20,7 @@ pub fn written_format(format: Format) -> Format
     }
 }
 
-/// The header line, with the numbers of variables and of constraints.
+/// Writes the header line, with the numbers of variables and of constraints.
 pub(crate) fn put_header<W: Write>(
     out: &mut W,
     format: Format,

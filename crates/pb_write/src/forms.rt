@@ -1,4 +1,4 @@
-//! Whether an instance is of clauses alone.
+//! Whether an instance has clauses alone.
 ghost use Rattle.std.specs.Prelude.{◌≡◌, ◌↔◌, pos, All, IsTrue};
 ghost use Rattle.pb_inst.specs.Constraints.{linear, unit_term};
 ghost use Rattle.pb_write.specs.Written.{IsClause, AreClauses, HasText};

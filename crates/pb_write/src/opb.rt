@@ -1,4 +1,5 @@
-//! Literals, terms and statements as OPB writes them.
+//! Writing literals, terms and statements in OPB.
+//! Source: [OPB]
 ghost use Rattle.std.specs.Prelude.{◌≡◌, OnOk};
 ghost use Rattle.pb_inst.specs.Constraints.{linear};
 ghost use Rattle.pb_write.specs.Written.{Adds};
@@ -15,7 +16,7 @@ fn put_literal<W: Write>(out: &mut W, lit: Lit) -> io::Result<()>
     put_number(out, lit.var())
 }
 
-/// A coefficient and its literal, each with a space behind it.
+/// Writes a coefficient and its literal, each with a space behind it.
 pub(crate) fn put_term<W: Write>(out: &mut W, term: Term) -> io::Result<()>
     ensures { OnOk result (Adds W.contents out.old out.new (term_text term)) }
 {
@@ -44,7 +45,7 @@ fn sign_of(relation: Relation) -> &'static [u8]
     }
 }
 
-/// A constraint, on a line of its own.
+/// Writes a constraint on a line of its own.
 pub(crate) fn put_constraint<W: Write>(out: &mut W, constraint: &Constraint<'_>) -> io::Result<()>
     ensures { OnOk result (Adds W.contents out.old out.new (constraint_line (linear constraint.now))) }
 {
@@ -55,7 +56,7 @@ pub(crate) fn put_constraint<W: Write>(out: &mut W, constraint: &Constraint<'_>)
     put(out, b" ;\n")
 }
 
-/// An objective, on a line of its own.
+/// Writes an objective on a line of its own.
 pub(crate) fn put_objective<W: Write>(out: &mut W, terms: &Terms<'_>) -> io::Result<()>
     ensures { OnOk result (Adds W.contents out.old out.new (objective_line terms.now)) }
 {

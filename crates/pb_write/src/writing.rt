@@ -21,9 +21,9 @@ use std::io::{self, Error, ErrorKind, Write};
 /// Writes the instance as a text of the format, statement by statement in its order, and an instance of iCNF as CNF. The
 /// header keeps the number of variables.
 ///
-/// Fails with `NotClauses` where the format is not OPB and there is an objective or a constraint that is no clause; then
-/// nothing was written. Where the writer fails with `Memory` or `Write`, some bytes may have been written. Takes no memory
-/// itself: the writer gets many small writes, so a file is best behind a buffer, which is then to be flushed.
+/// Fails with `NotClauses` where the format is not OPB and there is an objective or a constraint that is no clause; then nothing
+/// was written. Where the writer fails with `Memory` or `Write`, some bytes may have been written. Takes no memory itself. The
+/// writer gets many small writes, so a file should stand behind a buffer, which the caller flushes.
 pub fn write_instance<W: Write>(
     out: &mut W,
     format: Format,
@@ -41,11 +41,12 @@ pub fn write_instance<W: Write>(
 }
 
 /// Writes piece `number` of the instance, from 0 and below `pieces.len()`: the instance with the clauses that say that an
-/// assignment lies in the piece. Of a cube these are its literals, of the remainder the negation of each cube. The text is
-/// otherwise as that of `write_instance`.
+/// assignment lies in the piece. For a cube these are its literals, for the remainder the negation of each cube. Otherwise the
+/// text is that of `write_instance`.
 ///
 /// Fails with `NotClauses` as `write_instance` does, else with `TooMany` where there would be more than `MAX_CONSTRAINTS`
-/// constraints or `MAX_TERMS` terms, which no reader would take; then nothing was written. Else as `write_instance`.
+/// constraints or `MAX_TERMS` terms, which no reader would take; then nothing was written. Else it fails as `write_instance`
+/// does.
 pub fn write_piece<W: Write>(
     out: &mut W,
     format: Format,
@@ -70,7 +71,7 @@ pub fn write_piece<W: Write>(
     write_text(out, format, instance, piece, constraints)
 }
 
-/// Writes the instance with the clauses of the piece, under a header that counts so many constraints.
+/// Writes the instance with the clauses of the piece, under a header that announces `constraints` constraints.
 fn write_text<W: Write>(
     out: &mut W,
     format: Format,
@@ -119,7 +120,7 @@ fn put_text<W: Write>(
     put_piece(out, format, piece)
 }
 
-/// The objective, where there is one.
+/// Writes the objective, where there is one.
 fn put_objective<W: Write>(out: &mut W, instance: &Instance) -> io::Result<()>
     ensures { OnOk result (Adds W.contents out.old out.new (objective_text instance.now.objective)) }
 {

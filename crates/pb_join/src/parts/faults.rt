@@ -24,10 +24,11 @@ pub enum PartRejection {
     /// An earlier report is of the same task.
     #[error("there are two reports of this task")]
     Doubled,
-    /// It claims what no part can: that an assignment is least, that nothing is feasible, or that the instance was not solved.
+    /// It claims what no part can claim: that an assignment is least, that nothing is feasible, or that the instance was not
+    /// solved.
     #[error("a part has no such answer")]
     NotAPart,
-    /// The instance does not accept its assignment. That it is doubled or of no piece is not said here.
+    /// The instance does not accept its assignment, for this reason. Those on the number of a piece do not occur here.
     #[error("{0}")]
     Unfit(Rejection),
 }
@@ -35,7 +36,7 @@ pub enum PartRejection {
 /// Why reports of parts were not joined.
 #[derive(Clone, Copy, Debug, PartialEq, Eq, Error)]
 pub enum PartsFault {
-    /// The report at this place of the list, from 0, is the first that is rejected, for this.
+    /// The report at this place of the list, from 0, is the first that is rejected, for this reason.
     #[error("report {place}: {why}")]
     Report { place: usize, why: PartRejection },
     /// The memory that the call needs was refused.

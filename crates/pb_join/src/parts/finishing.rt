@@ -6,7 +6,7 @@ ghost use Rattle.pb_join.specs.Parts.{IsStateBy, IsWhole, NamesAll};
 use crate::parts::states::TaskState;
 use pb_parts::{Division, Heading, is_among};
 
-/// What became of the task with a report that begins so.
+/// What became of the task whose report has this heading.
 pub(crate) fn state_of_task(heading: &Heading) -> TaskState
     requires { IsFit heading.now }
     ensures { IsStateBy heading.now result }

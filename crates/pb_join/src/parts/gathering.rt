@@ -21,7 +21,7 @@ pub(crate) struct GatheredParts<'i> {
     pub(crate) states: Vec<TaskState>,
 }
 
-/// What all reports tell together, of an instance with this digest that is divided among so many tasks.
+/// What all reports tell together of an instance with this digest that is divided among `tasks` tasks.
 pub(crate) fn gather_parts<'i>(
     alloc: Global,
     instance: &'i Instance,
@@ -95,7 +95,7 @@ fn take_part(
     Ok(())
 }
 
-/// Refuses a division that is not of this instance, or not among so many tasks, or not that of the first report, if there is one.
+/// Refuses a division that is not of this instance, or not among `tasks` tasks, or not that of the first report, if there is one.
 fn check_division(
     division: &Division,
     digest: &[u8; 32],
@@ -129,7 +129,7 @@ fn is_missing(state: TaskState) -> bool
     state == TaskState::Missing
 }
 
-/// Whether it can be claimed of a part.
+/// Whether a part can make this claim.
 fn is_part_claim(claim: &Claim) -> bool
     ensures { IsTrue result ↔ IsPartClaim claim.now }
 {

@@ -1,4 +1,4 @@
-//! One report of the reports of all parts.
+//! Joining the reports of all parts into one.
 ghost use Rattle.std.specs.Prelude.{◌≡◌, ◌≢◌, ◌↔◌, List, IfOk, IfErr, IsErrOf, IsTrue, All, false, true};
 ghost use Rattle.pb_inst.specs.Literal.{Literal};
 ghost use Rattle.pb_parts.specs.Parts.{IsFit};
@@ -18,7 +18,7 @@ use pb_report::{Device, Status};
 use std::alloc::Global;
 use std::io::Write;
 
-/// How a report that was joined of parts ended, and what became of each task.
+/// How a report that was joined from parts ended, and what became of each task.
 #[derive(Drop)]
 pub struct JoinedParts {
     /// What the written report says.
@@ -29,18 +29,18 @@ pub struct JoinedParts {
     pub states: Vec<TaskState>,
 }
 
-/// Joins the reports of the parts of an instance, whose bytes have this SHA-256, and writes the report of the whole, which is
-/// flushed. The instance's pieces were dealt among so many tasks, and each report is of one of them, as `read_part` reads it.
+/// Joins the reports of the parts of an instance, whose bytes have this SHA-256, and writes and flushes the report of the whole.
+/// The instance's pieces were dealt among `tasks` tasks, and each report is that of one task, as `read_part` reads it.
 ///
-/// Where each piece is named as done by some report, the first assignment of them all is written as the answer: with
-/// `s OPTIMUM FOUND`, or `s SATISFIABLE` where there is no objective; `s UNSATISFIABLE` where no report has one. Where each piece
-/// that a report names as done is done by its assignment this is, byte for byte, the report of the whole instance. Where a piece
-/// is missing or was cut, the best assignment is written with `s SATISFIABLE` and its cost, or `s UNKNOWN` alone; so it is where
+/// Where each piece is named as done by some report, the first assignment of them all is written as the answer: with `s OPTIMUM
+/// FOUND`, or `s SATISFIABLE` where there is no objective; `s UNSATISFIABLE` where no report has one. Where each piece that a
+/// report names as done is done by its assignment, this is the report of the whole instance byte for byte. Where a piece is
+/// missing or was cut, the best assignment is written with `s SATISFIABLE` and its cost, or `s UNKNOWN` alone; so it is where
 /// there are no reports. Whatever is claimed, an assignment that is written is feasible, and its cost is its own.
 ///
 /// The first report that is none of the parts, or that is of another division than the first one, is rejected, and then nothing
-/// is written; nor is it where memory is refused. After `Write`, which comes exactly where the device has failed, it is not said
-/// what was written.
+/// is written; nor is anything where memory is refused. After `Write`, which comes exactly where the device has failed, any part
+/// of the report may have been written.
 pub fn join_parts<W: Write>(
     alloc: Global,
     format: Format,

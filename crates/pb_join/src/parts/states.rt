@@ -1,7 +1,7 @@
 //! What became of a task.
 
 /// What became of a task: whether there is a report of it, and whether that names all of its pieces as done. A task that is not
-/// finished has to be run again, unless there is no piece for it.
+/// finished has to run again, unless there is no piece for it.
 #[derive(Clone, Copy, PartialEq, Eq)]
 pub enum TaskState {
     /// No report is of this task.

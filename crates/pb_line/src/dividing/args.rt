@@ -6,11 +6,11 @@ use pb_read::Format;
 pub struct Line<'a> {
     /// The file of the instance.
     pub file: &'a str,
-    /// How it is written.
+    /// The format in which it is written.
     pub format: Format,
     /// The file of cubes, if there is one.
     pub cubes: Option<&'a str>,
-    /// Over how many variables the split is, 0 to `MAX_SPLIT`.
+    /// The number of variables of the split, 0 to `MAX_SPLIT`.
     pub split: u32,
     /// The folder in which the pieces are written.
     pub out: &'a str,

@@ -11,8 +11,8 @@ use crate::parse::{CommandLine, parse};
 use clap::{ArgMatches, Command, Error};
 use std::alloc::{AllocError, Global};
 
-/// Reads the words, the program's name first. Fails where clap refuses them, where they ask for help or the version, where the
-/// format has another name, and for want of memory, with the kind that says which.
+/// Reads the words, the program's name first. Fails where clap refuses them, where they ask for help or the version, where no
+/// format has the name given, and where memory runs out; the kind of the fault says which.
 pub fn line<'a>(alloc: Global, words: &'a [&'a str]) -> Result<Line<'a>, Error>
     ensures line { IfOk result (IsLineOf (matches_of pbcube_pieces (map (λ word. word.now) words.now))) }
     ensures accepted { IfOk result (λ line. fault_of pbcube_pieces (map (λ word. word.now) words.now) ≡ []) }
@@ -38,7 +38,7 @@ impl<'a> CommandLine<'a> for Line<'a> {
     }
 }
 
-// What the matches ask for, unless a value is missing or the format has another name.
+// What the matches ask for, unless a value is missing or no format has the name given.
 fn line_of<'a>(matches: &ArgMatches<'a>) -> Option<Line<'a>>
     ensures some { IfSome result (IsLineOf (rows_of (found_of matches.now))) }
     ensures none { IsNone result → HasNoLine (rows_of (found_of matches.now)) }

@@ -13,11 +13,12 @@ use clap::error::ErrorKind;
 use clap::{ArgMatches, Command, Error};
 use std::alloc::{AllocError, Global};
 
-/// What is told of words that tell both numbers.
+/// The message for words that give both numbers.
 const BOTH_TOLD: &str = "--pieces and --tasks cannot be used together";
 
-/// Reads the words, the program's name first. Fails where clap refuses them, where they ask for help or the version, where the
-/// format has another name, where both a number of pieces and one of tasks is told, and for want of memory, with the kind that says which.
+/// Reads the words, the program's name first. Fails where clap refuses them, where they ask for help or the version, where no
+/// format has the name given, where both a number of pieces and one of tasks are given, and where memory runs out; the kind of
+/// the fault says which.
 pub fn line<'a>(alloc: Global, words: &'a [&'a str]) -> Result<Line<'a>, Error>
     ensures line { IfOk result (IsLineOf (matches_of pbcube_join (map (λ word. word.now) words.now))) }
     ensures accepted { IfOk result (λ line. fault_of pbcube_join (map (λ word. word.now) words.now) ≡ []) }
@@ -33,7 +34,7 @@ pub fn line<'a>(alloc: Global, words: &'a [&'a str]) -> Result<Line<'a>, Error>
     }
 }
 
-// The mistake of words that tell both numbers.
+// The mistake of words that give both numbers.
 fn both_told(alloc: Global) -> Result<Error, AllocError>
     ensures { IfOk result (λ fault. kind_of fault ≡ InvalidValue) }
 {
@@ -68,7 +69,7 @@ fn reports_of<'a>(alloc: Global, matches: &ArgMatches<'a>) -> Result<Vec<&'a str
     }
 }
 
-// What the matches ask for, unless a value is missing or the format has another name.
+// What the matches ask for, unless a value is missing or no format has the name given.
 fn line_of<'a>(matches: &ArgMatches<'a>, reports: Vec<&'a str>) -> Option<Line<'a>>
     requires { map (λ name. name.now) reports.items ≡ unwrap_or (all_of (codes "reports") (rows_of (found_of matches.now))) [] }
     ensures line { IfSome result (IsLineOf (rows_of (found_of matches.now))) }
@@ -84,7 +85,7 @@ fn line_of<'a>(matches: &ArgMatches<'a>, reports: Vec<&'a str>) -> Option<Line<'
     })
 }
 
-// So many pieces, at least one, where a number is given.
+// The number of pieces, if one is given; none at all where it is 0.
 fn pieces_of(count: Option<u32>) -> Option<Option<u32>>
     ensures { SomeIff result (IfSome count (λ n. 1 ≤ n)) count }
 {

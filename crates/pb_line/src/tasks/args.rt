@@ -2,7 +2,7 @@
 use pb_inst::Workers;
 use pb_read::Format;
 
-/// The most tasks among which a command line may deal the pieces: the greatest number of 32 bits.
+/// The most tasks among which a command line may deal the pieces: the greatest number of 32 bits, in which reports count tasks.
 pub const MAX_TASKS: u64 = 4_294_967_295;
 
 /// What the words of the command line ask for.
@@ -10,13 +10,13 @@ pub const MAX_TASKS: u64 = 4_294_967_295;
 pub struct Line<'a> {
     /// The file of the instance.
     pub file: &'a str,
-    /// How it is written.
+    /// The format in which it is written.
     pub format: Format,
     /// The file of cubes, if there is one.
     pub cubes: Option<&'a str>,
-    /// How many threads may search at the same time.
+    /// The number of threads that may search at the same time.
     pub workers: Workers,
-    /// Over how many variables the split is, 0 to `MAX_SPLIT`.
+    /// The number of variables of the split, 0 to `MAX_SPLIT`.
     pub split: u32,
     /// The most decisions in each piece, 0 to `MAX_NODES`; none sets no limit.
     pub nodes: Option<u64>,

@@ -13,11 +13,11 @@ use clap::error::ErrorKind;
 use clap::{ArgMatches, Command, Error};
 use std::alloc::{AllocError, Global};
 
-/// What is told of a task that is not one of the tasks.
+/// The message for a task number that no task has.
 const NO_SUCH_TASK: &str = "the number of --task is below that of --tasks";
 
-/// Reads the words, the program's name first. Fails where clap refuses them, where they ask for help or the version, where the
-/// format has another name, where there is no task of the number, and for want of memory, with the kind that says which.
+/// Reads the words, the program's name first. Fails where clap refuses them, where they ask for help or the version, where no
+/// format has the name given, where no task has the number given, and where memory runs out; the kind of the fault says which.
 pub fn line<'a>(alloc: Global, words: &'a [&'a str]) -> Result<Line<'a>, Error>
     ensures line { IfOk result (IsLineOf (matches_of pbcube_task (map (λ word. word.now) words.now))) }
     ensures accepted { IfOk result (λ line. fault_of pbcube_task (map (λ word. word.now) words.now) ≡ []) }
@@ -32,7 +32,7 @@ pub fn line<'a>(alloc: Global, words: &'a [&'a str]) -> Result<Line<'a>, Error>
     }
 }
 
-// The mistake of a task that is not one of the tasks.
+// The mistake of a task number that no task has.
 fn no_such_task(alloc: Global) -> Result<Error, AllocError>
     ensures { IfOk result (λ fault. kind_of fault ≡ InvalidValue) }
 {
@@ -56,7 +56,7 @@ impl<'a> CommandLine<'a> for Line<'a> {
     }
 }
 
-// What the matches ask for, unless a value is missing or the format has another name.
+// What the matches ask for, unless a value is missing or no format has the name given.
 fn line_of<'a>(matches: &ArgMatches<'a>) -> Option<Line<'a>>
     ensures some { IfSome result (IsLineOf (rows_of (found_of matches.now))) }
     ensures none { IsNone result → HasNoLine (rows_of (found_of matches.now)) }

@@ -1,4 +1,5 @@
-//! Clauses word by word.
+//! Reading clauses word by word.
+//! Source: [DIMACS]
 ghost use Rattle.std.specs.Prelude.{◌≡◌, ◌≤◌, ◌<◌, ◌+◌, ◌^◌, length, IfOk, option_map, ◌∷◌, ◌++◌, ◌⊎◌, [], List, ℕ, Option, None, Some, OnOk, IfErr, fold, map, max};
 ghost use Rattle.pb_inst.specs.declared.limits.TheConstants.{MAX_VARS};
 ghost use Rattle.pb_inst.specs.Literal.{Literal};
@@ -30,7 +31,7 @@ pub(crate) fn greatest_var(literals: &[Lit]) -> u32
 /// The clauses so far, and the words of one that has begun.
 pub(crate) struct ClauseReader {
     pub(crate) builder: InstanceBuilder,
-    /// How many clauses there are to be, where the text says so.
+    /// The number of clauses that the text announces, if it announces one.
     pub(crate) announced: Option<usize>,
     pub(crate) count: usize,
     pub(crate) literal_count: usize,
@@ -41,7 +42,7 @@ pub(crate) struct ClauseReader {
     pub(crate) begun: Option<u64>,
 }
 
-// By hand, so that letting go of a reader is a call wherever it is done, and its parts are written out here alone.
+// Written by hand, so that each drop of a reader is one call, and only this place names its parts.
 impl Drop for ClauseReader {
     fn drop(self) {
         let ClauseReader {
@@ -57,7 +58,7 @@ impl Drop for ClauseReader {
 }
 
 impl ClauseReader {
-    /// No words were taken. The clauses are over the variables up to the limit.
+    /// A reader that has taken no words. Its clauses are over the variables up to the limit.
     pub(crate) fn new(alloc: Global, announced: Option<usize>, limit: u32) -> ClauseReader
         ensures { HasTaken announced limit result [] }
     {
@@ -72,7 +73,7 @@ impl ClauseReader {
         }
     }
 
-    /// Whether no more clauses may come.
+    /// Whether all announced clauses are there, so that no more may come.
     fn is_all_there(&self) -> bool
         ensures { result ≡ all_there self.now.announced self.now.count }
     {
@@ -96,7 +97,7 @@ impl ClauseReader {
             .fault((count > MAX_CONSTRAINTS) | (total > MAX_TERMS))
     }
 
-    /// Takes the clause that has begun, whose end word is the last that was taken.
+    /// Takes the clause that has begun. The last word taken was its end word.
     fn finish_clause(&mut self, line: u64) -> Result<(), ReadFault>
         ensures same_limit { self.new.scan.limit ≡ self.old.scan.limit }
         ensures ok { (announced : Option ℕ) (n : ℕ) (earlier : List (List Literal)) (begun : List (Placed clauses.Word)) → Holds announced n self.old earlier begun
@@ -213,7 +214,7 @@ impl ClauseReader {
         builder
     }
 
-    /// Looks for a clause that has begun where no more words come.
+    /// Refuses a clause that has begun and has a fault, where no more words come.
     pub(crate) fn end(&self) -> Result<(), ReadFault>
         ensures ok { (announced : Option ℕ) (n : ℕ) (taken : List (Placed clauses.Word)) → HasTaken announced n self.now taken
             → OnOk result (IsWhole announced n self.now taken) }

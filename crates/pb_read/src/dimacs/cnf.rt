@@ -1,4 +1,5 @@
 //! Reading DIMACS CNF.
+//! Source: [DIMACS]
 ghost use Rattle.std.specs.Prelude.{◌≡◌, ◌⊎◌, Some, IfOk, IfErr, MatchResult, option_map};
 ghost use Rattle.pb_inst.specs.Problem.{Problem};
 ghost use Rattle.pb_read.specs.Text.{words};
@@ -21,7 +22,7 @@ pub(crate) struct Header {
     clauses: u32,
 }
 
-/// What a line announces that is `p`, `cnf` and two numbers.
+/// What the line announces, where it is `p`, `cnf` and two numbers.
 fn read_header(line: &[u8]) -> Option<Header>
     ensures { result ≡ option_map capped_header (header_words (words line.now)) }
 {

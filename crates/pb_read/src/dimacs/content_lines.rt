@@ -36,7 +36,7 @@ pub(crate) struct ContentLines<'t> {
 }
 
 impl<'t> ContentLines<'t> {
-    /// All lines of the text.
+    /// All lines of the text, none of them passed yet.
     pub(crate) fn new(text: &'t [u8]) -> ContentLines<'t>
         ensures content { content_from (result.before + 1) result.rest ≡ content text.now }
         ensures lines { result.before + length (lines_from (result.before + 1) result.rest) ≡ length (clause_lines text.now) }
@@ -69,7 +69,7 @@ impl<'t> ContentLines<'t> {
         None
     }
 
-    /// The first line that says something, with its number, which is to be the header.
+    /// The first line that says something, with its number. It has to be the header.
     pub(crate) fn header(&mut self) -> Result<(&'t [u8], u64), ReadFault>
         requires counted { self.old.before + length self.old.rest < 2 ^ 64 }
         ensures some { IfOk result (λ r. content_from (self.old.before + 1) self.old.rest ≡ record { item = r.0.now; line = r.1 } ∷ content_from (self.new.before + 1) self.new.rest) }

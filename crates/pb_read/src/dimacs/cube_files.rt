@@ -1,4 +1,5 @@
 //! Reading cube files.
+//! Source: [ICNF]
 ghost use Rattle.std.specs.Prelude.{◌≡◌, ◌⊎◌, List, Some, IfOk, IfErr, MatchResult};
 ghost use Rattle.pb_inst.specs.Literal.{Literal};
 ghost use Rattle.pb_read.specs.Cubes.{CubeText, cube_refusal};

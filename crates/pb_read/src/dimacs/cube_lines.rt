@@ -1,4 +1,5 @@
-//! Lines of cubes.
+//! Reading lines of cubes.
+//! Source: [ICNF]
 ghost use Rattle.std.specs.Prelude.{◌≡◌, ◌≤◌, ◌<◌, ◌+◌, ◌^◌, ◌∷◌, ◌++◌, ◌⊎◌, [], List, ℕ, OnOk, IfOk, IfErr, Some, None, length, fold, max, codes, option_map};
 ghost use Rattle.pb_inst.specs.declared.limits.TheConstants.{MAX_VARS};
 ghost use Rattle.pb_inst.specs.Literal.{Literal};
@@ -45,14 +46,14 @@ pub(crate) fn is_cube_line(line: &[u8]) -> bool
     }
 }
 
-/// What was read of a list of cubes.
+/// What has been read of a list of cubes.
 pub(crate) struct CubeReader {
     pub(crate) cubes: Vec<Cube>,
     pub(crate) literal_count: usize,
     pub(crate) scan: Scan,
 }
 
-// By hand, so that letting go of a reader is a call wherever it is done, and its parts are written out here alone.
+// Written by hand, so that each drop of a reader is one call, and only this place names its parts.
 impl Drop for CubeReader {
     fn drop(self) {
         let CubeReader {
@@ -64,7 +65,7 @@ impl Drop for CubeReader {
 }
 
 impl CubeReader {
-    /// No cube was read. The cubes are over the variables up to the limit.
+    /// A reader that has read no cube. Its cubes are over the variables up to the limit.
     pub(crate) fn new(alloc: Global, limit: u32) -> CubeReader
         ensures limit { result.scan.limit ≡ limit }
         ensures none { CubesRead result.scan.limit result.cubes.items result.literal_count [] }
@@ -158,7 +159,7 @@ pub(crate) fn greatest_var_of(cubes: &[Cube]) -> u32
     cubes.iter().fold(0, |greatest, cube| greatest.max(greatest_var(cube.lits())))
 }
 
-/// The cubes of the first of these lines, which was taken already, and of those that are left. Each is to be a cube line.
+/// The cubes of the first line, which was taken already, and of the lines that are left. Each has to be a cube line.
 pub(crate) fn read_cube_lines(
     alloc: Global,
     first: Option<(&[u8], u64)>,

@@ -1,4 +1,5 @@
 //! Reading iCNF.
+//! Source: [ICNF]
 ghost use Rattle.std.specs.Prelude.{◌≡◌, ◌⊎◌, List, Some, IfOk, IfErr, MatchResult};
 ghost use Rattle.pb_inst.specs.Literal.{Literal};
 ghost use Rattle.pb_inst.specs.Problem.{Problem};
@@ -15,7 +16,7 @@ use pb_inst::{Cube, Instance, MAX_VARS};
 use std::alloc::Global;
 use std::vec::Vec;
 
-/// Whether the line is `p` and `inccnf`.
+/// Whether the line is the header, `p` and `inccnf`.
 fn is_header(line: &[u8]) -> bool
     ensures { result ≡ is_header (words line.now) }
 {

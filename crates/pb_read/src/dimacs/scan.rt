@@ -24,7 +24,7 @@ fn literal_within(positive: bool, var: u32, limit: u32) -> Option<Lit>
     Lit::new(var, positive).ok()
 }
 
-/// What was seen of the words of a clause or a cube. The literals are kept as long as each variable is at most the limit.
+/// What was seen of the words of a clause or a cube. It keeps the literals as long as each variable is at most the limit.
 #[derive(Drop)]
 pub(crate) struct Scan {
     pub(crate) literals: Vec<Lit>,
@@ -35,7 +35,7 @@ pub(crate) struct Scan {
 }
 
 impl Scan {
-    /// Nothing was seen.
+    /// A scan that has seen nothing.
     pub(crate) fn new(alloc: Global, limit: u32) -> Scan
         ensures limit { result.limit ≡ limit }
         ensures scanned { Scanned limit result.literals.items result.ended result.broken result.over [] }
@@ -84,7 +84,7 @@ impl Scan {
         Ok(())
     }
 
-    /// Begins anew, with no words.
+    /// Starts again, with no words.
     pub(crate) fn restart(&mut self)
         ensures same_limit { self.new.limit ≡ self.old.limit }
         ensures scanned { Scanned self.new.limit self.new.literals.items self.new.ended self.new.broken self.new.over [] }

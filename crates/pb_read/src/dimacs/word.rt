@@ -16,7 +16,7 @@ pub(crate) enum Word {
     Bad,
 }
 
-/// How many bytes the first word takes, which begins here.
+/// The number of bytes of the word that begins here.
 fn word_len(bytes: &[u8]) -> usize
     requires some { 0 < length bytes.now }
     requires begins { first_is is_blank bytes.now ≡ false }

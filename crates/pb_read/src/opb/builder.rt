@@ -1,4 +1,4 @@
-//! The instance that statements of OPB make.
+//! Building an instance from statements of OPB.
 ghost use Rattle.std.specs.Prelude.{◌≡◌, ◌++◌, ◌∷◌, ◌⊎◌, [], List, true, length, IfOk, IfErr, OnOk, ◌+◌, ◌||◌, nat_lt, unsigned_abs, Some, None};
 ghost use Rattle.std.specs.List.{list_any};
 ghost use Rattle.pb_read.specs.Opb as opb;
@@ -44,7 +44,7 @@ fn greatest_index(terms: &[Term]) -> u32
         .fold(0, |greatest, term| greatest.max(term.lit.var()))
 }
 
-/// Why a builder refused a statement.
+/// The error of a statement that the builder refused.
 fn statement_error(fault: InstFault) -> StatementError
     ensures { result ≡ statement_error fault }
 {
@@ -56,7 +56,7 @@ fn statement_error(fault: InstFault) -> StatementError
     }
 }
 
-// By hand, so that letting go of a builder is a call wherever it is done, and its parts are written out here alone.
+// Written by hand, so that each drop of a builder is one call, and only this place names its parts.
 impl Drop for OpbBuilder {
     fn drop(self) {
         let OpbBuilder {
@@ -122,7 +122,7 @@ impl OpbBuilder {
         }
     }
 
-    /// Takes the draft as the next statement, and begins a new one.
+    /// Takes the draft as the next statement, and starts a new draft.
     fn finish(&mut self) -> Result<(), StatementError>
         ensures ok { (earlier : List (List opb.Token)) (s : List opb.Token) → HasBuilt self.old.instance self.old.greatest self.old.is_empty earlier → self.old.draft ≡ gathered s → list_any opb.is_end s ≡ true
             → OnOk result ((first_kind (opb.statement_faults earlier s) ≡ None) × HasBuilt self.new.instance self.new.greatest self.new.is_empty (earlier ++ s ∷ [])) }

@@ -1,4 +1,4 @@
-//! A statement as far as it was read.
+//! A statement, as far as it has been read.
 ghost use Rattle.std.specs.Prelude.{◌≡◌, OnOk, nat_lt};
 ghost use Rattle.pb_inst.specs.declared.limits.TheConstants.{SUM_BOUND};
 ghost use Rattle.pb_read.specs.Refusal.{first_kind};
@@ -15,8 +15,8 @@ use pb_inst::{Lit, MAX_VARS, Magnitude, Memory, Number, Relation, SUM_BOUND, Ter
 use std::alloc::Global;
 use std::marker::Model;
 
-/// What was gathered of the tokens of a statement. No token is kept: the terms are the only thing that grows, and their room
-/// serves the next statement.
+/// What was gathered of the tokens of a statement. It keeps no token: only the terms grow, and the next statement uses their room
+/// again.
 #[derive(Drop)]
 pub(crate) struct Draft {
     place: Place,
@@ -153,7 +153,7 @@ impl Draft {
         }
     }
 
-    /// Begins anew, and keeps the room for terms.
+    /// Starts again, and keeps the room for terms.
     pub(crate) fn clear(&mut self)
         ensures { self.new ≡ blank_draft }
     {
@@ -192,7 +192,7 @@ impl Draft {
         self.place.is_start()
     }
 
-    /// The first fault in the form of a whole statement, which is the text's first or not.
+    /// The first fault in the form of a whole statement; `first` tells whether it is the text's first.
     pub(crate) fn form_fault(&self, first: bool) -> Option<ReadKind>
         ensures { result ≡ first_kind (draft_faults first self.now) }
     {

@@ -1,4 +1,5 @@
 //! The form of a statement.
+//! Source: [OPB]
 ghost use Rattle.std.specs.Prelude.{◌≡◌};
 ghost use Rattle.pb_read.specs.Capped.{read_back};
 ghost use Rattle.pb_read.specs.Places.{next_after_terms, next_place, is_start, is_whole};

@@ -1,4 +1,5 @@
 //! The number of variables that the first line may give.
+//! Source: [OPB]
 ghost use Rattle.std.specs.Prelude.{◌≡◌, ◌≤◌, option_map, length, take, drop, take_while};
 ghost use Rattle.pb_read.specs.Capped.{cap_count, ends_word};
 ghost use Rattle.pb_read.specs.Runs.{skip_while};
@@ -32,7 +33,7 @@ fn ends_word(rest: &[u8]) -> bool
     }
 }
 
-/// One or more digits, and then a blank or the end.
+/// The number that one or more digits write, where a blank or the end comes after them.
 fn leading_number(bytes: &[u8]) -> Option<u32>
     ensures { result ≡ option_map cap_count (opb.leading_number bytes.now) }
 {
@@ -51,7 +52,7 @@ fn header_of(line: &[u8]) -> Option<u32>
     leading_number(after_gap(number))
 }
 
-/// The number of the header, or `GREATEST_COUNT` where it is larger, and 0 where the first line is none.
+/// The number of the header, or `GREATEST_COUNT` where it is larger, and 0 where the first line is no header.
 pub(crate) fn announced_vars(text: &[u8]) -> u32
     ensures { result ≡ cap_count (opb.header text.now) }
 {

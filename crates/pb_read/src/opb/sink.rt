@@ -1,4 +1,4 @@
-//! The tokens of a text, handed one by one to what reads its statements.
+//! Handing the tokens of a text one by one to the reader of its statements.
 ghost use Rattle.std.specs.Prelude.{◌≡◌, ◌∷◌, ◌++◌, [], List, OnOk, IfErr};
 ghost use Rattle.pb_read.specs.Text.{Placed};
 ghost use Rattle.pb_read.specs.Opb as opb;
@@ -15,7 +15,7 @@ pub(crate) trait TokenSink {
     /// The value after these tokens.
     ghost has_taken: { Self → List (Placed opb.Token) → Type 0 };
 
-    /// Takes the next token. An error is want of memory, or the fault of each text that begins so.
+    /// Takes the next token. Fails where memory runs out, or with the fault that every text has that begins with these tokens.
     fn take(&mut self, token: Token, line: u64) -> Result<(), ReadFault>
         ensures ok { (taken : List (Placed opb.Token)) (t : opb.Token) → has_taken self.old taken → token ≡ capped t
             → OnOk result (has_taken self.new (taken ++ record { item = t; line = line } ∷ [])) }

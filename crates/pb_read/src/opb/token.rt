@@ -1,4 +1,5 @@
 //! The tokens of a line of OPB.
+//! Source: [OPB]
 ghost use Rattle.std.specs.Prelude.{◌≡◌, true, if◌then◌else◌, ◌∷◌, Some, None, option_map};
 ghost use Rattle.pb_read.specs.Text.{are_digits, value};
 ghost use Rattle.pb_read.specs.Opb.{is_sign};
@@ -27,7 +28,7 @@ fn is_word_byte(byte: u8) -> bool
     !(is_blank(byte) || byte == b';' || byte == b'>' || byte == b'<' || byte == b'=')
 }
 
-/// What stands after the bytes from the front on that are of a word.
+/// What stands after the leading bytes that belong to a word.
 fn after_word(bytes: &[u8]) -> &[u8]
     ensures { result.now ≡ after_word bytes.now }
 {
@@ -44,7 +45,7 @@ fn after_word(bytes: &[u8]) -> &[u8]
     rest
 }
 
-/// The value of the digits at the front, where the word ends after them, and what stands after the word.
+/// The value of the leading digits, where the word ends after them, and what stands after the word.
 fn word_value(bytes: &[u8]) -> (Option<Magnitude>, &[u8])
     ensures value { result.0 ≡ (if are_digits (word_front bytes.now) then Some (cap (value (word_front bytes.now))) else None) }
     ensures rest { result.1.now ≡ after_word bytes.now }

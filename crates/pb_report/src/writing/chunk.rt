@@ -3,6 +3,7 @@ ghost use Rattle.std.specs.Prelude.{◌≡◌, ◌+◌, ◌≤◌, ◌++◌, ℕ
 
 use std::marker::Model;
 
+/// The most bytes that wait. Chosen by hand: it keeps the writes few, and takes little of the stack.
 pub(crate) const ROOM: usize = 1024;
 
 /// Bytes that wait to be written. Contracts see them as a list.
@@ -30,7 +31,7 @@ impl Chunk {
         }
     }
 
-    /// For how many more bytes there is room.
+    /// The number of bytes for which there is still room.
     pub(crate) fn room(&self) -> usize
         ensures { length self.now + result ≡ 1024 }
     {

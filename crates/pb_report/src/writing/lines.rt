@@ -1,4 +1,4 @@
-//! The lines of a report.
+//! Adding the lines of a report.
 ghost use Rattle.std.specs.Prelude.{◌≡◌, ◌++◌};
 ghost use Rattle.std.specs.Fmt.{signed_decimal};
 ghost use Rattle.pb_report.specs.Sending.{Adds};
@@ -12,7 +12,7 @@ use pb_read::{Format, ReadFault, ReadKind};
 use std::io::Write;
 
 impl<W: Write> Report<'_, W> {
-    /// A text and the line's end.
+    /// Adds a text and the line's end.
     pub(crate) fn put_line(&mut self, text: &[u8])
         ensures { Adds W.contents self.old self.new (line text.now) }
     {
@@ -20,7 +20,7 @@ impl<W: Write> Report<'_, W> {
         self.put(b"\n");
     }
 
-    /// What was refused, and why.
+    /// Adds the line that tells what was refused, and why.
     pub(crate) fn put_refusal(&mut self, refusal: Refusal)
         ensures { Adds W.contents self.old self.new (line (refusal_text refusal)) }
     {
@@ -32,7 +32,7 @@ impl<W: Write> Report<'_, W> {
         }
     }
 
-    /// The line of the values of all variables.
+    /// Adds the line of the values of all variables.
     pub(crate) fn put_values(&mut self, format: Format, values: &Assignment)
         ensures { Adds W.contents self.old self.new (value_line format values.now) }
     {
@@ -51,7 +51,7 @@ impl<W: Write> Report<'_, W> {
         }
     }
 
-    /// The least cost.
+    /// Adds the `o` line of the cost.
     pub(crate) fn put_cost(&mut self, cost: Number)
         ensures { Adds W.contents self.old self.new (cost_line cost) }
     {

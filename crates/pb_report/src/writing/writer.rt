@@ -9,7 +9,7 @@ use crate::writing::chunk::{Chunk, ROOM};
 use std::io::Write;
 
 /// A report on its way to a device. Some of its bytes wait, so that the device gets few writes. Once the device has failed
-/// nothing more is written, and the device tells the fault. It is ended by `finish`, and cannot be let go otherwise.
+/// nothing more is written, and the device tells the fault. Only `finish` ends it: it cannot be dropped.
 pub(crate) struct Report<'d, W> {
     out: &'d mut Device<W>,
     waiting: Chunk,
@@ -28,7 +28,7 @@ impl<'d, W: Write> Report<'d, W> {
         }
     }
 
-    /// Adds bytes behind those that wait, and writes where there is no room for them.
+    /// Adds bytes behind those that wait. Where there is no room for them it writes first.
     pub(crate) fn put(&mut self, bytes: &[u8])
         ensures { Adds W.contents self.old self.new bytes.now }
     {
