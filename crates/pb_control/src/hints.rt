@@ -3,7 +3,7 @@
 /// What a node hands down to those below it. No answer depends on it, so nothing is promised of it.
 #[derive(Clone, Copy)]
 pub struct Hints {
-    /// How many variables of the order of decisions were left, the others having values.
+    /// How many variables were left in the order of decisions; the others had values.
     pub left: u32,
     /// How many variables, from the first on, were found to have values.
     pub settled: u32,

@@ -36,7 +36,7 @@ const COST_OF_A_DIVE: u32 = 3;
 /// What it gives back where it leads to a better assignment.
 const GAIN_OF_A_DIVE: u32 = 2;
 
-/// How often multipliers are improved anew at the root at most. Each time costs a run of the method. Chosen by hand.
+/// How often multipliers are improved anew at the root at most. Each time runs the first-order method. Chosen by hand.
 const MOST_RENEWALS: u32 = 8;
 
 /// Multipliers are improved anew once one in this many of the free variables got a value at the root. Chosen by hand.

@@ -110,7 +110,7 @@ impl AgreedPrefix {
         }
     }
 
-    /// Forgets where an assignment is held. It goes from the end of the trail back to the literal.
+    /// Forgets, where an assignment is held, what each literal from the end of the trail back to this one made known.
     fn forget_down_to<C: Coefficient>(&mut self, engine: &EngineAt<C>, lit: Lit, held: &Assignment)
         requires sound { IsSoundTrail engine.now }
         requires known { KnowsPrefix engine.now.trail held.now self.old }

@@ -195,7 +195,7 @@ fn whole_root<'a>(
     Ok(Some(WholeRoot::none(alloc, instance)?))
 }
 
-/// Forgets what is fixed, unless it is so for this best assignment too.
+/// Forgets what is fixed if it need not be for this best assignment.
 fn serve(whole: &mut Option<WholeRoot<'_>>, best: &Best<'_>)
     requires { IfSome whole.old (λ w. w.best.problem ≡ best.now.problem) }
     ensures fixed { IfSome whole.new (λ w. IsFixedFor best.now.problem w.literals w.closed best.now.held) }

@@ -78,7 +78,7 @@ impl<'a> WholeRoot<'a> {
         keep(&mut self.best, best);
     }
 
-    /// Forgets what is fixed, unless the best assignment when it was is not before this one.
+    /// Forgets what is fixed if the best assignment of that time comes before this one, since then it need not be.
     pub fn serve(&mut self, best: &Best<'_>)
         requires { self.old.best.problem ≡ best.now.problem }
         ensures fixed { IsFixedFor best.now.problem self.new.literals self.new.closed best.now.held }
