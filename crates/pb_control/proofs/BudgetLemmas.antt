@@ -25,7 +25,7 @@ left_after (Some b) None less h e = absurd h
 left_after (Some b) (Some m) None h e = absurd e
 left_after (Some b) (Some m) (Some n) h e = omega arith
 
--- so many decisions less are left
+-- a budget without `count` decisions may be left of it
 pub left_of_more : (count : ℕ) (budget left : Option ℕ) → budget ≡ with_more count left → IsLeftOf budget left
 left_of_more count None None e = refl
 left_of_more count None (Some n) e = let bad : ⊥ = cc in absurd bad

@@ -1,7 +1,7 @@
 -- A budget of decisions.
 use Rattle.std.specs.Prelude.{◌≡◌, ℕ, ◌+◌, ◌<◌, ◌≤◌, Option, None, Some, IsSomeAnd}
 
--- a budget with so many decisions more, where there is a budget
+-- a budget with `count` decisions more, where there is a budget
 abbrev pub with_more : ℕ → Option ℕ → Option ℕ
 with_more count None = None
 with_more count (Some left) = Some (left + count)

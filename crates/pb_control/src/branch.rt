@@ -10,7 +10,7 @@ use pb_inst::{Lit, Number};
 pub struct Branch {
     /// The literal that is assumed.
     pub lit: Lit,
-    /// Whether the other value was tried before it, or has nothing to give.
+    /// Whether the other value was tried before it, or can lead to nothing better.
     pub flipped: bool,
     /// The bound of the trail before the decision, or none where none was taken: no more than a hint of whether to ask the
     /// engine again. It is a cost, in the instance's numbers.
@@ -18,7 +18,7 @@ pub struct Branch {
     pub hints: Hints,
 }
 
-/// The decision for a literal whose negation has nothing to give: its other value counts as tried.
+/// The decision for a literal whose negation can lead to nothing better: its other value counts as tried.
 pub fn one_sided(lit: Lit, bound: Option<Number>, hints: Hints) -> Branch
     ensures literal { result.lit ≡ lit }
     ensures flipped { result.flipped ≡ true }

@@ -1,8 +1,8 @@
-//! When the search asks its share for an assignment: at the beginning of a piece, and after every 256th decision, those of probes
-//! and dives among them.
+//! When the search asks its share for an assignment: at the beginning of a piece, and after every 256th decision, where the
+//! decisions of probes and dives count too.
 
-/// After how many decisions the share is asked. Any moment would do. Asked this seldom, it costs next to nothing, and the bound is still
-/// soon compared with what another search found.
+/// After how many decisions the share is asked. Any moment would do. Asked this seldom, it costs next to nothing, and what
+/// another search found still soon prunes here.
 const INTERVAL: u64 = 256;
 
 /// The decisions since the share was asked last. No answer depends on them, so nothing is promised.
@@ -22,7 +22,7 @@ impl Looks {
         }
     }
 
-    /// So many decisions were made.
+    /// `decisions` more decisions were made.
     pub fn count(&mut self, decisions: u64) {
         self.decisions = self.decisions.saturating_add(decisions);
     }

@@ -1,5 +1,5 @@
-//! When something is done at the root of a search, where no decision on the trail has another value to try. A search that goes down far,
-//! as by rows of thousands of terms, may never come back there by itself. So it steps back early, while little was closed.
+//! When the search works at its root, where no decision on the trail has another value to try. A search that goes deep, as by
+//! rows of thousands of terms, may never come back there by itself. So it steps back early, while little was closed.
 
 ghost use Rattle.std.specs.Prelude.{◌≡◌, ◌+◌, ◌≤◌, length, IfNone, IfSome};
 
@@ -12,22 +12,22 @@ use crate::ties::Ties;
 use pb_inst::{Lit, Number};
 use std::marker::Model;
 
-/// How many variables there are at least where work at the root may pay and nothing is minimised.
+/// From how many variables on work at the root may pay where nothing is minimised. Fewer are searched without it. Chosen by hand.
 const LEAST_VARIABLES: u32 = 512;
 
-/// How many decisions there are at least where a search that minimises steps back to its root: by so many nodes all
-/// rows are shifted at once in any case, so a search that is over sooner pays for nothing.
+/// How many decisions stand at least where a search that minimises steps back to its root: all rows are shifted at once after
+/// 20 nodes in any case, so a search that is over sooner pays for nothing.
 const LEAST_DECISIONS: usize = 20;
 
-/// One in so many of the decisions of a budget may be a probe at the root.
+/// One in this many decisions of a budget may be a probe at the root, so that the search keeps most of it. Chosen by hand.
 const PROBES_OF_A_BUDGET: u64 = 4;
 
-/// How often a search that minimises may be about to turn to another value before it is too late to step back for work at the
-/// root: what was closed by then is closed again soon.
+/// How many times a search that minimises may be about to flip a decision before stepping back for work at the root is ruled out:
+/// what was closed by then is soon closed again.
 const MOST_LEAVES: u32 = 64;
 
-/// What the search of a piece may pay for dives from its root: for two that lead to nothing, and one that leads to a better
-/// assignment costs a third of one that does not.
+/// What the search of a piece may pay for dives from its root: enough for two that lead to nothing. One that leads to a better
+/// assignment costs a third of one that does not, since more may follow it.
 const CREDIT_OF_DIVES: u32 = 6;
 
 /// What a dive costs.
@@ -36,38 +36,38 @@ const COST_OF_A_DIVE: u32 = 3;
 /// What it gives back where it leads to a better assignment.
 const GAIN_OF_A_DIVE: u32 = 2;
 
-/// How often multipliers are improved anew at the root at most.
+/// How often multipliers are improved anew at the root at most. Each time runs the first-order method. Chosen by hand.
 const MOST_RENEWALS: u32 = 8;
 
-/// Of how many variables without a value one is to have one at the root where multipliers are improved anew.
+/// Multipliers are improved anew once one in this many of the free variables got a value at the root. Chosen by hand.
 const RENEWED_PART: usize = 8;
 
-/// How many are to have one in any case.
+/// How many must have got one in any case, so that small instances do not pay for each literal. Chosen by hand.
 const LEAST_RENEWED: usize = 8;
 
-/// One in so many of the decisions of a budget may be one of a dive.
+/// A dive takes at most one in this many of the decisions left of a budget, since it closes nothing. Chosen by hand.
 const DIVE_OF_A_BUDGET: u64 = 8;
 
-/// What the work at the root goes on from. Contracts see how often the search of the piece may still step back: each step back counts
-/// in the measure of the search's loop. No answer depends on the rest, so nothing is promised of it.
+/// What the work at the root goes on from. Contracts see how often the search of the piece may still step back: each step back
+/// counts in the measure of the search's loop. No answer depends on the rest, so nothing is promised of it.
 #[derive(Drop)]
 pub struct RootWork {
     /// How often the search of the piece may still step back to its root.
     returns: u32,
     /// How many decisions, from the first on, are known to have no other value to try.
     prefix: usize,
-    /// Whether there are so many variables that work may pay though nothing is minimised.
+    /// Whether there are enough variables for work to pay though nothing is minimised.
     is_large: bool,
     /// Whether nothing is minimised.
     is_decision: bool,
-    /// How often the search of the piece may still be about to turn to another value before it is too late to step back for work
-    /// at the root: what has none is searched without any work.
+    /// How many more times the search of the piece may be about to flip a decision before stepping back for work at the root is
+    /// ruled out. A piece that begins with 0 is searched without such work.
     leaves: u32,
-    /// Whether the root is worked on since.
+    /// Whether the search may work at its root by now.
     is_open: bool,
     /// How many cubes are left out of what is searched.
     cubes: usize,
-    /// How often the search may still be about to turn to another value before work at the root is thought of.
+    /// How many more times the search may be about to flip a decision before work at the root is considered.
     early: usize,
     ties: Ties,
     /// The trail's length and the best cost where no literal failed in the last round.
@@ -78,7 +78,7 @@ pub struct RootWork {
     /// The trail's length and the best cost where the last dive began.
     dived: Option<(usize, Option<Number>)>,
     looks: Looks,
-    /// How often the search may still be about to turn to another value, where it is to be over then.
+    /// How many more times the search may be about to flip a decision, where it is to end after that.
     turns: Option<u32>,
     /// How often multipliers may still be improved anew at the root.
     renewals: u32,
@@ -95,7 +95,7 @@ impl Model for RootWork {
 }
 
 impl RootWork {
-    /// Nothing was done. There are so many variables, nothing is minimised or something is, and so many cubes are left out.
+    /// Nothing was done. There are `vars` variables, nothing is minimised if `is_decision`, and `cubes` cubes are left out.
     pub fn new(vars: u32, is_decision: bool, cubes: usize) -> RootWork {
         let is_large = vars >= LEAST_VARIABLES;
         RootWork {
@@ -119,22 +119,22 @@ impl RootWork {
         }
     }
 
-    /// The search of a piece begins, for this goal, with the decisions that are `left` of its budget, and where it is not to go
-    /// through all of it, with as many `turns` to another value.
+    /// The search of a piece begins, for this goal, with the decisions that are `left` of its budget. Where it is not to search
+    /// all of the piece, it ends when it is about to flip a decision for the last of `turns` times.
     pub fn begin(&mut self, goal: Goal, left: Option<u64>, turns: Option<u32>) {
-        // More than any search comes to. Each step back that is left counts in the measure of the search's loop, so the loop ends
-        // whatever number stands here.
+        // More steps back than any search makes. Each one that is left counts in the measure of the search's loop, so the loop
+        // ends whatever number stands here.
         self.returns = u32::MAX;
         self.prefix = 0;
         self.leaves = match goal {
             _ if self.is_decision => 1,
-            // Where any assignment will do, one is found before work at the root would have paid.
+            // Where any assignment will do, the search finds one before work at the root would have paid.
             Goal::Any => 0,
             Goal::Least | Goal::AtMost(_) => MOST_LEAVES,
         };
         self.is_open = false;
-        // What the cubes of a split leave is empty, and nothing that is done at its root tells that. Its search does, which turns to
-        // another value as often as there are cubes at most.
+        // What the cubes of a split leave is empty, and no work at its root tells that. Its search does, which flips a decision
+        // at most once for each cube.
         self.early = self.cubes;
         self.ties = Ties::new();
         self.done = None;
@@ -151,13 +151,13 @@ impl RootWork {
         self.turns = turns;
     }
 
-    /// Whether the search was about to turn to another value as often as it may.
+    /// Whether the search was about to flip a decision as often as it may.
     pub fn has_no_turns(&self) -> bool {
         self.turns == Some(0)
     }
 
-    /// Nothing is left below the path, after a conflict or not, where the best cost is this one. Answers how many decisions are
-    /// to be left, where the search is to step back and go on from there.
+    /// Nothing is left below the path, after a conflict or not, where the best cost is `cost`. Answers how many decisions are
+    /// to stand, where the search is to step back and go on from there.
     pub fn take_return(
         &mut self,
         path: &[Branch],
@@ -176,8 +176,8 @@ impl RootWork {
         Some(count)
     }
 
-    /// How many decisions are to be left, if there is a reason to take any back: work at the root, one of the first times that the
-    /// search is about to turn to another value, or else a tie.
+    /// How many decisions are to stand, if there is a reason to take any back: work at the root, one of the first times that the
+    /// search is about to flip a decision, or else a tie.
     fn return_to(
         &mut self,
         path: &[Branch],
@@ -204,8 +204,8 @@ impl RootWork {
         count
     }
 
-    /// Whether the search pays for a step back to its root, by what it did so far. Where nothing is minimised the root is
-    /// worked on for its literals that fail alone, and never so soon again: what was searched counts more.
+    /// Whether the search has done enough to pay for a step back to its root. Where nothing is minimised, the search works there
+    /// for literals that fail alone, and never so soon again: so what it searched counts more.
     fn pays(&mut self, path: &[Branch], is_conflict: bool) -> bool
         ensures { self.new ≡ self.old }
     {
@@ -234,8 +234,8 @@ impl RootWork {
         self.prefix_of(path) == path.len()
     }
 
-    /// Whether literals are to be tried at the root, whose trail has so many literals: it is worked on for more than ties, and its
-    /// trail or the best cost is another one than in the last round in which none failed.
+    /// Whether literals are to be tried at the root, whose trail has `length` literals: the search works there for more than
+    /// ties, and the trail or the best cost has changed since the last round in which none failed.
     pub fn is_round_due(&self, pruning: Pruning, length: usize, cost: Option<Number>) -> bool {
         self.is_open && pruning == Pruning::Open && self.done != Some((length, cost))
     }
@@ -250,8 +250,8 @@ impl RootWork {
         }
     }
 
-    /// By how many decisions the search may dive at most, where it stands at its root and a dive is due: the root is worked on,
-    /// and its trail, which has so many literals, or the best cost is another one than at the last dive.
+    /// By how many decisions the search may dive at most, where it stands at its root and a dive is due: the search works there,
+    /// and the trail, which has `length` literals, or the best cost has changed since the last dive.
     pub fn take_dive(
         &mut self,
         path: &[Branch],
@@ -278,8 +278,8 @@ impl RootWork {
         Some(most)
     }
 
-    /// Whether multipliers are to be improved anew: the search stands at its root, which is worked on, and the trail of so many
-    /// literals has grown by a good part of those variables that had no value when that was done last.
+    /// Whether multipliers are to be improved anew: the search stands at its root and works there, and the trail of `length`
+    /// literals has grown by a good part of the variables that had no value when that was done last.
     pub fn take_renewal(
         &mut self,
         path: &[Branch],
@@ -302,14 +302,14 @@ impl RootWork {
         true
     }
 
-    /// A node was propagated, which put so many literals on the trail.
+    /// A node was propagated, which put `literals` literals on the trail.
     pub fn note_propagated(&mut self, literals: usize)
         ensures { self.new ≡ self.old }
     {
         self.probing.earn(literals);
     }
 
-    /// The literal is decided, after so many decisions, where the bound says so much.
+    /// The literal is decided, after `decisions` other decisions, where the bound says `pruning`.
     pub fn note_decision(&mut self, pruning: Pruning, lit: Lit, decisions: usize)
         ensures { self.new ≡ self.old }
     {
@@ -340,7 +340,7 @@ impl RootWork {
         self.ties.root_bound = self.ties.root_bound.max(bound);
     }
 
-    /// The search made so many decisions.
+    /// The search made `decisions` more decisions.
     pub fn count(&mut self, decisions: u64)
         ensures { self.new ≡ self.old }
     {
@@ -378,7 +378,7 @@ impl RootWork {
         self.looks.take_borrowed()
     }
 
-    /// How many literals are still to be passed in the round of probes that stands at the root, over so many variables; 0 where none may
+    /// How many literals are still to be passed in the round of probes at the root, over `vars` variables; 0 where none may
     /// begin, since too little was searched.
     pub fn left_of_round(&self, vars: u32) -> u32 {
         self.probing.left_of_round(vars)
@@ -389,21 +389,21 @@ impl RootWork {
         self.probing.may_probe() && !self.looks.is_due()
     }
 
-    /// The literal to try next, of so many variables.
+    /// The literal to try next, over `vars` variables.
     pub fn next_literal(&mut self, vars: u32) -> Option<Lit>
         ensures { self.new ≡ self.old }
     {
         self.probing.next_literal(vars)
     }
 
-    /// A literal was tried, which put so many on the trail.
+    /// A literal was tried, which put `literals` literals on the trail.
     pub fn note_probe(&mut self, literals: usize, has_failed: bool)
         ensures { self.new ≡ self.old }
     {
         self.probing.note_probe(literals, has_failed);
     }
 
-    /// A better assignment over so many variables was found by a dive: more literals may fail now.
+    /// A dive found a better assignment over `vars` variables: more literals may fail now.
     pub fn reopen(&mut self, vars: u32)
         ensures { self.new ≡ self.old }
     {

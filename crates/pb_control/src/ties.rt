@@ -1,14 +1,14 @@
 //! What the search keeps of its ties: where nothing costs less than the best assignment, and the order of assignments alone
 //! is left to be settled. It says how far the search steps back, and no answer depends on it.
 //!
-//! Without a step back the same tie would be settled anew under each decision of the way down, whatever these have to do
-//! with it. And as long as nothing objects variables are decided in order, 0 first, since the improvement is the greatest so.
+//! Without a step back the search would settle the same tie anew under each decision of the path, even under those that have
+//! nothing to do with it. And as long as nothing objects, it decides variables in order, 0 first, since that improves most.
 
 use crate::branch::Branch;
 use crate::pruning::Pruning;
 use pb_inst::{Lit, Number};
 
-/// How the search stands to the assignment that was found last.
+/// Where the search stands since it found an assignment.
 #[derive(Clone, Copy)]
 pub struct Ties {
     /// Whether the last node was a full trail that improved on the best assignment.
@@ -32,7 +32,7 @@ impl Ties {
         }
     }
 
-    /// The literal is decided, after so many decisions, where the bound says so much.
+    /// The literal is decided, after `decisions` other decisions, where the bound says `pruning`.
     pub fn note(&mut self, pruning: Pruning, lit: Lit, decisions: usize) {
         if self.is_calm
             && let Pruning::Tied(var) = pruning
@@ -42,9 +42,9 @@ impl Ties {
         }
     }
 
-    /// Nothing is left below the path. Answers how many of its decisions are to be left before the search goes on, where
-    /// there is a reason to take any back: an improvement at this cost, after which the decisions at the end below which ties
-    /// alone are left are in the way, or the first objection since one.
+    /// Nothing is left below the path. Answers how many of its decisions stand when the search goes on, where there
+    /// is a reason to take any back: an improvement at this cost, after which the last decisions are in the way if ties
+    /// alone are left below them, or the first objection since an improvement.
     pub fn leave(&mut self, path: &[Branch], prefix: usize, cost: Option<Number>) -> Option<usize> {
         let (was_calm, tail) = (self.is_calm, self.tail);
         self.is_calm = self.has_improved;
@@ -54,8 +54,8 @@ impl Ties {
         }
         self.has_improved = false;
         let cost = cost?;
-        // What was closed was closed for all that costs less, and the root's bound says that of everything. So nothing is lost
-        // with the decisions that it was closed under, and each such step has an improvement of its own before it.
+        // Subtrees were closed because nothing in them costs less, and the root's bound says that of everything. So nothing is
+        // lost with their decisions, and each such step has an improvement of its own before it.
         if self.root_bound >= Some(cost) {
             return Some(prefix);
         }
@@ -63,7 +63,7 @@ impl Ties {
     }
 }
 
-/// How many decisions come before those at the end below which ties alone are left, none of them turned to its other value.
+/// How many decisions come before the last ones that are not flipped and leave ties alone below them.
 fn untied(path: &[Branch], cost: Number) -> usize {
     for place in (0..path.len()).rev() {
         let branch = path[place];

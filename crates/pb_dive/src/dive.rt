@@ -1,4 +1,5 @@
-//! The way down.
+//! The way down: literals of the relaxation's point are rounded one after another, those nearest to a whole value first.
+//! Source: [B06]
 
 ghost use Rattle.std.specs.Prelude.{◌≡◌, ◌≢◌, ◌≤◌, ◌+◌, false, length, Some, IfSome};
 ghost use Rattle.pb_inst.specs.declared.limits.TheConstants.{MAX_VARS};
@@ -13,10 +14,11 @@ use crate::steps::{free_variables, next_planned, next_within, plan_again, plunge
 use pb_engine::{Coefficient, EngineAt, Step};
 use pb_inst::Number;
 
-/// How many decisions a dive makes at most. Below some 60,000 variables conflicts and work end it sooner.
+/// How many decisions a dive makes at most, so that it ends on great instances too: below some 60,000 variables conflicts and
+/// work end it sooner.
 pub const MAX_DECISIONS: u64 = 4_000_000;
 
-/// How many steps the method makes for the first plan of a dive.
+/// How many steps the method makes for the first plan of a dive: few, since rounding needs a rough point alone. Chosen by hand.
 const FIRST_STEPS: u32 = 50;
 
 /// How a dive goes on.
@@ -26,7 +28,7 @@ pub enum Progress {
     Next(DiveBranch),
     /// Every variable has a value, and all constraints are met.
     Full,
-    /// Nothing is left to try, or it took too long.
+    /// Nothing is left to try, or the dive took too long.
     Stuck,
 }
 
@@ -38,7 +40,7 @@ pub struct Descent {
     pub decisions: u64,
 }
 
-/// A dive begins: the method plans it. Gives the first decision, or none where every variable has a value.
+/// A dive begins: the first-order method plans it. Gives the first decision, or none where every variable has a value.
 pub fn begin_descent<C: Coefficient>(
     engine: &mut EngineAt<C>,
     path: &mut DivePath,
@@ -53,11 +55,11 @@ pub fn begin_descent<C: Coefficient>(
     next_planned(engine, path, 0)
 }
 
-/// Goes down towards a full trail by at most `most` decisions, of which `first` is the next one: the planned literals are assumed in
-/// their order, a variable that is not planned as 0, and where that ends in a conflict the last decision is turned. No decision is
-/// turned below the level `floor`. Where there is a limit, the bound is compared with it before each decision: nothing that costs
-/// as much is looked for. What was assumed is left on the trail. Each decision is taken off what is left of a budget; where none is
-/// left the dive is over. A dive that was not over goes on with the decision that it answers.
+/// Goes down towards a full trail by at most `most` decisions, of which `first` is the next one. It assumes the planned literals
+/// in their order, and a variable that is not planned as 0. After a conflict it flips the last decision that it can, none of
+/// level `floor` or below. Where there is a limit, it compares the bound with it before each decision, since nothing that costs
+/// as much is looked for. What it assumed is left on the trail. Each decision is taken off what is left of a budget; where none
+/// is left the dive is over. A dive that was not over goes on with the decision that it answers.
 pub fn descend<C: Coefficient>(
     engine: &mut EngineAt<C>,
     path: &mut DivePath,
@@ -94,7 +96,7 @@ pub fn descend<C: Coefficient>(
     ended(Progress::Next(branch), most)
 }
 
-/// So far the dive came.
+/// What the dive came to after `decisions` decisions.
 fn ended(progress: Progress, decisions: u64) -> Descent
     ensures progress { result.progress ≡ progress }
     ensures decisions { result.decisions ≡ decisions }
@@ -105,8 +107,8 @@ fn ended(progress: Progress, decisions: u64) -> Descent
     }
 }
 
-/// Makes the decision, and takes it off what is left. Answers how the dive goes on: by the next one, or after a conflict by
-/// turning the last that can be.
+/// Makes the decision, and takes it off what is left. Answers how the dive goes on: by the next decision, or after a conflict by
+/// flipping the last one that it can.
 fn advance<C: Coefficient>(
     engine: &mut EngineAt<C>,
     path: &mut DivePath,
@@ -129,6 +131,7 @@ fn advance<C: Coefficient>(
     let before = engine.trail_len();
     path.push(branch);
     let step = plunge(engine, lit, left);
+    // Before the conflict is looked at, or else a dive from conflict to conflict would pay for nothing.
     path.charge(engine.trail_len().saturating_sub(before));
     if step == Step::Conflict {
         return turned_back(engine, path, floor);

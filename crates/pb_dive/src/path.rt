@@ -5,10 +5,12 @@ ghost use Rattle.std.specs.Prelude.{◌≡◌, ◌<◌, IfSome, vec_len};
 use pb_inst::{Lit, Memory};
 use std::alloc::Global;
 
-/// After how many conflicts a dive gives up. A dive closes nothing, so what it took is lost where it leads to nothing.
+/// After how many conflicts a dive gives up. A dive closes nothing, so what it took is lost where it leads to nothing. Chosen by
+/// hand.
 const MAX_CONFLICTS: u32 = 4_000;
 
-/// How many literals a dive may add for each variable before a conflict ends it.
+/// How many literals a dive may add for each variable before a conflict ends it: as many as 64 full trails have, so that a dive
+/// costs little beside the search. Chosen by hand.
 const WORK_PER_VARIABLE: u64 = 64;
 
 /// A decision of a dive.
@@ -29,7 +31,7 @@ pub struct DiveBranch {
 pub struct DivePath {
     decisions: Vec<DiveBranch>,
     conflicts: u32,
-    /// How many literals joined the trail, those of turned decisions too.
+    /// How many literals joined the trail, those below decisions that were flipped later too.
     work: u64,
     most_work: u64,
     /// How many plans were made.
@@ -52,7 +54,7 @@ impl DivePath {
         })
     }
 
-    /// A dive begins, over so many variables of which so many have no value. The first plan is made.
+    /// A dive begins, over `vars` variables of which `free` have no value. The first plan is made.
     pub fn begin(&mut self, vars: u32, free: usize) {
         self.decisions.clear();
         self.conflicts = 0;
@@ -62,8 +64,8 @@ impl DivePath {
         self.free = free;
     }
 
-    /// Whether a new plan is due, where so many variables have no value: once a quarter of those without one at the last plan has
-    /// one, of which the point that it goes by knows nothing.
+    /// Whether a new plan is due, where `free` variables have no value: once a quarter of those without one at the last plan has
+    /// one, since the point that it goes by knows nothing of these values.
     pub fn take_plan(&mut self, free: usize) -> bool {
         if free >= self.free - self.free / 4 {
             return false;
@@ -78,13 +80,15 @@ impl DivePath {
         self.plans
     }
 
-    /// Where to look on in the last plan, after a decision of the plan of this number behind which this place comes.
+    /// From which place on to read the last plan, after a decision of plan `plan` behind which `next` comes. A newer plan is read
+    /// from its beginning, since its places have nothing to do with those of an older one.
     pub fn place_after(&self, plan: u32, next: usize) -> usize {
         if plan == self.plans { next } else { 0 }
     }
 
     /// A decision is made.
     pub fn push(&mut self, branch: DiveBranch) {
+        // There is room for a decision of each variable, so none is left out; the test keeps the call from taking memory.
         if self.decisions.len() < self.decisions.capacity() {
             self.decisions.push_reserved(branch);
         }
@@ -97,7 +101,7 @@ impl DivePath {
         self.decisions.pop()
     }
 
-    /// So many literals joined the trail.
+    /// `added` literals joined the trail.
     pub fn charge(&mut self, added: usize) {
         self.work = self.work.saturating_add(added as u64);
     }
@@ -107,6 +111,7 @@ impl DivePath {
         ensures { vec_len self.new.decisions ≡ vec_len self.old.decisions }
     {
         self.conflicts = self.conflicts.saturating_add(1);
+        // Work is compared at conflicts alone, so that a dive that meets none goes down to a full trail whatever that adds.
         self.conflicts <= MAX_CONFLICTS && self.work <= self.most_work
     }
 }

@@ -1,4 +1,4 @@
-//! The steps of a dive: down by a decision, and back to one that can be turned.
+//! The steps of a dive: down by a decision, and back to one that can be flipped.
 
 ghost use Rattle.std.specs.Prelude.{◌≡◌, ◌≢◌, ◌<◌, ◌≤◌, ◌+◌, false, true, length, Some, IfSome, IfNone, vec_len};
 ghost use Rattle.pb_inst.specs.declared.limits.TheConstants.{MAX_VARS};
@@ -13,7 +13,8 @@ use pb_control::count_down;
 use pb_engine::{Coefficient, EngineAt, Step, is_free, lowest_free};
 use pb_inst::{Lit, Number};
 
-/// How many steps the method makes for each plan after the first one.
+/// How many steps the method makes for each plan after the first one. They go on from the last point, so few serve. Chosen by
+/// hand.
 const STEPS: u32 = 50;
 
 /// Assumes the literal, which takes one decision off what is left, and adds what follows.
@@ -34,7 +35,7 @@ pub fn plunge<C: Coefficient>(engine: &mut EngineAt<C>, lit: Lit, left: &mut Opt
     engine.propagate()
 }
 
-/// Takes decisions back to the last one that was not turned yet, and gives its other value as the next decision; none where
+/// Takes decisions back to the last one that was not flipped yet, and gives its other value as the next decision; none where
 /// there is no such decision, or the dive took too long.
 pub fn turn<C: Coefficient>(
     engine: &mut EngineAt<C>,
@@ -54,6 +55,7 @@ pub fn turn<C: Coefficient>(
         if !take_back_last(engine, floor) {
             return None;
         }
+        // The path promises nothing, so the engine is asked whether the literal has no value.
         if !last.flipped && is_free(engine, vars, last.lit) {
             return Some(turned(last));
         }
@@ -61,8 +63,8 @@ pub fn turn<C: Coefficient>(
     None
 }
 
-/// The decision to make next where the bound is below the limit, if there is one: this one, or after a bound that is not the other
-/// value of an earlier one, as after a conflict. None where nothing is left to try.
+/// The decision to make next below the limit, if there is one: `branch` where the bound is below it, and else the other value of
+/// an earlier decision, as after a conflict. None where nothing is left to try.
 pub fn next_within<C: Coefficient>(
     engine: &mut EngineAt<C>,
     path: &mut DivePath,
@@ -109,6 +111,7 @@ fn take_back_last<C: Coefficient>(engine: &mut EngineAt<C>, floor: u32) -> bool
     ensures taken_back { IsTakenBackTo floor engine.old engine.new }
     ensures no_conflict { result ≡ true → engine.new.conflict ≡ false }
 {
+    // Levels up to the floor are the search's, so a dive leaves them alone.
     let level = engine.level();
     if level <= floor {
         return false;
@@ -131,8 +134,8 @@ pub fn free_variables<C: Coefficient>(engine: &EngineAt<C>) -> usize {
     (engine.vars() as usize).saturating_sub(engine.trail_len())
 }
 
-/// The first literal of the plan, from the place on, whose variable has no value, as the next decision; else the lowest
-/// variable without one, as 0; or none where each has one.
+/// The next decision: the first literal of the plan, from the place on, whose variable has no value; else the lowest variable
+/// without one, as 0; or none where each variable has one.
 pub fn next_planned<C: Coefficient>(
     engine: &EngineAt<C>,
     path: &DivePath,
@@ -146,6 +149,7 @@ pub fn next_planned<C: Coefficient>(
     if let Some(branch) = first_planned(engine, path, from) {
         return Some(branch);
     }
+    // The plan names no free literal from here on, so no decision below reads it again.
     let lit = lowest_free(engine, engine.vars())?;
     Some(DiveBranch {
         lit,
@@ -155,7 +159,7 @@ pub fn next_planned<C: Coefficient>(
     })
 }
 
-/// The first literal of the plan alone.
+/// The first literal of the plan, from the place on, whose variable has no value; none where the plan has no such literal.
 fn first_planned<C: Coefficient>(
     engine: &EngineAt<C>,
     path: &DivePath,

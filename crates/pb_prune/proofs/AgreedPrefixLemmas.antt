@@ -64,7 +64,7 @@ knows_by_all trail a o all few ones = record {
   ones = subst (λ (t : List Literal). HasOnesWithin t a 0 o.count) (sym (take_all o.seen trail (omega arith))) ones;
 }
 
--- one literal seen less
+-- one literal fewer was seen
 pub knows_less : (trail : List Literal) (a : List Bool) (old new : AgreedPrefix) (l : Literal) → IsConsistent trail → 1 ≤ old.seen → l ≡ get_or trail (old.seen - 1) l → new.seen ≡ old.seen - 1 → new.count ≤ old.count → (l.positive ≡ true → l.var ≤ old.count → at a (l.var - 1) ≡ true → new.count < l.var) → KnowsPrefix trail a old → KnowsPrefix trail a new
 knows_less trail a old new l once some last seen count lowered h = record {
   seen = omega (arith, h.seen);

@@ -1,4 +1,4 @@
--- Subtrees that may be left, and literals that have one side there.
+-- Subtrees that may be left, and literals that have only one side to try there.
 use Rattle.std.proofs.Common.{◌≡◌, ℕ, ◌+◌, ◌-◌, ◌<◌, ◌≤◌, List, length, refl, sym, ◌∙◌, ap, subst, arith, Bool, true, false, cond, inl, inr, Option, None, Some}
 use Rattle.std.specs.Prelude.{slice_index_or, unwrap_or, ℤ, ◌≤ℤ◌, ◌<ℤ◌, IfSome}
 use Rattle.std.specs.Option.{option_map}
@@ -145,7 +145,7 @@ tied_one_sided p s b a var l tied sign some low zero h (inr equal) = elim (liter
   ])
 ]
 
--- so the literal with 0 there has one side, where it has no value
+-- so the literal with 0 there has only one side to try, where it has no value
 pub tied_open : (p : Problem) (s : EngineState) (held : Option Solution) (b : List Bool) (var : ℕ) (l : Literal) → option_map (λ (t : Solution). t.assignment) held ≡ Some b → IsTied p s held var → l.positive ≡ false → 1 ≤ l.var → l.var < var → at b (l.var - 1) ≡ false → l.var ≤ s.vars → value_on s.trail l.var ≡ None → IsOpenOnOneSide p s held l
 tied_open p s None b var l is tied sign some low zero variable free = absurd tied
 tied_open p s (Some t) b var l is tied sign some low zero variable free =

@@ -12,7 +12,7 @@ use Rattle.pb_engine.specs.EngineState.{EngineState}
 use Rattle.pb_prune.specs.Held.{IsImprovement}
 use Rattle.pb_prune.specs.Solutions.{Completes}
 
--- the engine has the instance's variables and costs, and who meets its rows is feasible
+-- the engine has the instance's variables and costs, and an assignment that meets its rows is feasible
 pub record IsEngineOf (p : Problem) (s : EngineState) : Type 0 where
   pub vars : s.vars ≡ p.vars
   pub feasible : (a : List Bool) → MeetsRows a s.rows → IsFeasible p a
@@ -32,7 +32,7 @@ pub record DifferAt (trail : List Literal) (a : List Bool) (var : ℕ) : Type 0 
 abbrev pub HasOnesWithin : List Literal → List Bool → ℕ → ℕ → Type 0
 HasOnesWithin trail a start end = (k : ℕ) → start ≤ k → k < end → slice_index_or a k false ≡ true → value_on trail (k + 1) ≡ Some true
 
--- whoever makes the trail true does not come before the assignment by its variables
+-- what makes the trail true does not come before the assignment by its variables
 abbrev pub IsNotBefore : List Literal → List Bool → Type 0
 IsNotBefore trail b = (a : List Bool) → MakesTrue a trail → ¬ IsLexBefore a b
 
@@ -53,7 +53,7 @@ IsClosed p s held = (a : List Bool) → Completes s a → ¬ IsImprovement p a h
 abbrev pub IsOneSided : Problem → EngineState → Option Solution → Literal → Type 0
 IsOneSided p s held l = (a : List Bool) → Completes s a → IsImprovement p a held → literal_value a l ≡ 1
 
--- the literal has no value, and its negation has nothing to give
+-- the literal has no value, and its negation can lead to nothing better
 pub record IsOpenOnOneSide (p : Problem) (s : EngineState) (held : Option Solution) (l : Literal) : Type 0 where
   pub variable : l.var ≤ s.vars
   pub no_value : value_on s.trail l.var ≡ None

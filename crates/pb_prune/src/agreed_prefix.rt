@@ -1,4 +1,4 @@
-//! On how many first variables the trail is known to agree with the best assignment, for the tie rule.
+//! On how many of the first variables the trail is known to agree with the best assignment, for the tie rule.
 
 ghost use Rattle.std.specs.Prelude.{◌≡◌, ℕ, ◌+◌, ◌-◌, ◌<◌, ◌≤◌, List, Option, length, take, true, false, IsTrue, IfSome, slice_index_or};
 ghost use Rattle.pb_inst.specs.Literal.{Literal};
@@ -17,7 +17,8 @@ use pb_inst::{Assignment, Best, Lit};
 pub struct AgreedPrefix {
     seen: usize,
     count: u32,
-    /// A variable that the trail had true and the best assignment has false, or 0. It is asked again before it is used.
+    /// A variable that was true on the trail and is false in the best assignment, or 0. It is tested again before it is used,
+    /// since the trail may have lost it.
     surplus: u32,
     /// Whether the best assignment came from another search since this one began. Nothing is promised of it.
     borrowed: bool,
@@ -96,7 +97,7 @@ impl AgreedPrefix {
         self.count
     }
 
-    /// Before the literals from this one on are taken back: what they made known is forgotten.
+    /// Forgets what the literals from this one on made known, before they are taken back.
     pub fn forget_from<C: Coefficient>(&mut self, engine: &EngineAt<C>, lit: Lit, best: &Best<'_>)
         requires sound { IsSoundTrail engine.now }
         requires known { KnowsHeldPrefix engine.now.trail best.now.held self.old }
@@ -109,7 +110,7 @@ impl AgreedPrefix {
         }
     }
 
-    /// The same where an assignment is held. It goes from the end of the trail back to the literal.
+    /// Forgets, where an assignment is held, what each literal from the end of the trail back to this one made known.
     fn forget_down_to<C: Coefficient>(&mut self, engine: &EngineAt<C>, lit: Lit, held: &Assignment)
         requires sound { IsSoundTrail engine.now }
         requires known { KnowsPrefix engine.now.trail held.now self.old }
@@ -126,7 +127,7 @@ impl AgreedPrefix {
         }
     }
 
-    /// The same for the last one of the literals seen.
+    /// Forgets what the last one of the literals seen made known.
     fn forget_last<C: Coefficient>(&mut self, engine: &EngineAt<C>, last: Lit, held: &Assignment)
         requires sound { IsSoundTrail engine.now }
         requires some { 1 ≤ self.old.seen }
@@ -187,7 +188,7 @@ fn is_surplus<C: Coefficient>(engine: &EngineAt<C>, held: &Assignment, count: u3
     engine.value(var) == Some(true)
 }
 
-/// Such a variable among those of the trail's literals from the place on.
+/// A variable of that kind among those of the trail's literals from the place on.
 fn surplus_from<C: Coefficient>(
     engine: &EngineAt<C>,
     held: &Assignment,

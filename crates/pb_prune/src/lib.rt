@@ -1,8 +1,8 @@
-//! What a bound says of the subtree below a trail: whether it may be left, and which literals have one side alone there.
+//! What a bound says of the subtree below a trail: whether it may be left, and which literals have only one side to try there.
 //!
-//! `classify_node` has the bounds of the engine compared with the best cost (`pruning`), and looks for literals whose negation has
-//! nothing to give: at a tie by the order of assignments, else by reduced costs (`reduced_cost_fixing`). What a tie is settled by, the
-//! `agreed_prefix` of trail and best assignment, goes along with the search.
+//! `classify_node` compares the bounds of the engine with the best cost (`pruning`), and looks for literals whose negation can
+//! lead to nothing better: at a tie by the order of assignments, else by reduced costs (`reduced_cost_fixing`). The
+//! `agreed_prefix` of trail and best assignment, which settles ties, goes along with the search.
 #![tactic(auto)]
 
 mod agreed_prefix;

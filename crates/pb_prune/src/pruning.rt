@@ -1,4 +1,5 @@
-//! Whether a subtree may be left.
+//! Whether a subtree may be left, since its bound is not below the best cost.
+//! Source: [LD60]
 
 ghost use Rattle.std.specs.Prelude.{◌≡◌, ◌-◌, ℕ, length, IsTrue, IfSome};
 ghost use Rattle.pb_engine.specs.Completion.{IsLowerBound};
@@ -37,8 +38,8 @@ pub fn check_rows<C: Coefficient>(
     ensures checked { Checks best.now.problem best.now.held engine.old engine.new agreed.new result.0 }
     ensures bound { IfSome result.1 (IsLowerBound engine.old.form engine.old.rows engine.old.trail) }
 {
-    // Where nothing is held there is nothing to compare a bound with, and taking one would go through rows for nothing:
-    // the first descent to a solution costs propagation, and multipliers as far as they pay, which lead it to a cheap one.
+    // Where nothing is held there is nothing to compare a bound with, and taking one would go through rows for nothing. So the
+    // first descent to a solution costs propagation alone, and multipliers as far as they pay, which lead it to a cheap one.
     if best.cost().is_none() {
         return (Pruning::Open, None);
     }
@@ -46,8 +47,8 @@ pub fn check_rows<C: Coefficient>(
     (classify_bound(engine, bound, best, agreed), Some(bound))
 }
 
-/// The same with the bound of the multipliers, after what that of disjoint rows said. Of two lower bounds the greater one
-/// counts; that of disjoint rows is at hand sooner.
+/// What the bound of the multipliers says of that subtree, after what that of disjoint rows said. Of two lower bounds the greater
+/// one counts; that of disjoint rows comes first, since it is at hand sooner.
 pub fn check_multipliers<C: Coefficient>(
     engine: &mut EngineAt<C>,
     best: &Best<'_>,
@@ -62,7 +63,7 @@ pub fn check_multipliers<C: Coefficient>(
     requires known { KnowsHeldPrefix engine.old.trail best.now.held agreed.old }
     ensures { Checks best.now.problem best.now.held engine.old engine.new agreed.new result.0 }
 {
-    // Where nothing is held every completion counts, and what closes the subtree is that there is none.
+    // Where nothing is held every completion counts, so the subtree is closed only if there is none.
     let Some(bound) = bound else {
         if engine.improve_multipliers() {
             return (Pruning::Closed, None);
@@ -131,8 +132,8 @@ pub fn classify_bound<C: Coefficient>(
     classify_tie(engine, held, agreed)
 }
 
-/// The same where the bound equals the cost of this assignment. Of assignments of one cost the lexicographically first is
-/// wanted, so that the answer is a function of the instance alone.
+/// What the order of assignments says where the bound equals the cost of `held`. Of assignments of one cost the lexicographically
+/// first is wanted, so that the answer is a function of the instance alone.
 fn classify_tie<C: Coefficient>(
     engine: &EngineAt<C>,
     held: &Assignment,
@@ -144,8 +145,8 @@ fn classify_tie<C: Coefficient>(
     ensures tied { (var : ℕ) → result ≡ Pruning.Tied var → HasOnesWithin engine.now.trail held.now 0 (var - 1) }
     ensures known { KnowsPrefix engine.now.trail held.now agreed.new }
 {
-    // With zeros elsewhere the trail is the first of its completions, so all of them come after the best assignment where
-    // that one does, or is the best one itself. One comparison settles the subtree.
+    // With zeros elsewhere the trail is the first of its completions. If that one comes after the best assignment, or is the best
+    // one itself, none comes before it. So one comparison settles the subtree.
     if agreed.has_surplus(engine, held) {
         return Pruning::Closed;
     }
@@ -159,8 +160,8 @@ fn classify_tie<C: Coefficient>(
     Pruning::Closed
 }
 
-/// At a tie, the negated lowest variable without a value before that of the first difference, or none where each of them has
-/// one: with 1 there nothing comes before the best assignment. The first `settled` variables are known to have values; no
+/// At a tie, the negation of the lowest variable that has no value and comes before the first difference, or none where each of
+/// them has a value: with 1 there nothing comes before the best assignment. That the first `settled` variables have values is no
 /// more than a hint.
 pub fn tied_literal<C: Coefficient>(
     engine: &EngineAt<C>,
@@ -187,8 +188,8 @@ pub fn tied_literal<C: Coefficient>(
     Some(lit)
 }
 
-/// Whether by now no completion of the trail comes before the best assignment, where the trail is the same again as when this bound
-/// of it was taken, or none was.
+/// Whether by now no completion of the trail comes before the best assignment. The trail is as it was when `bound` was taken, or
+/// when none was.
 pub fn is_closed_since<C: Coefficient>(
     engine: &mut EngineAt<C>,
     bound: Option<Number>,
@@ -204,7 +205,7 @@ pub fn is_closed_since<C: Coefficient>(
     let Some(cost) = best.cost() else {
         return false;
     };
-    // A bound that was taken before, below the best cost, tells where asking the engine would be in vain.
+    // Where an earlier bound of this trail is below the best cost, asking the engine again would be in vain.
     if bound.is_some_and(|bound| bound < cost) {
         return false;
     }
@@ -227,7 +228,7 @@ fn is_tied_below<C: Coefficient>(
 {
     // A branch of the first descent keeps no bound. What this search found since then completes the trail, so no bound of
     // the trail is over the cost, and the order of assignments alone could close it. So the way back costs no more than the
-    // way down, where taking each bound would go through rows as long as the instance for each of its variables.
+    // way down, or else each of the variables would have its bound taken over rows as long as the instance.
     if agreed.has_borrowed() {
         return false;
     }

@@ -1,4 +1,5 @@
-//! What is found at a node: what the bounds say of the subtree below it, and literals that have one side alone there.
+//! What is found at a node: what the bounds say of the subtree below it, and literals that have only one side to try there.
+//! Source: [DFJ54], [CJP83]
 
 ghost use Rattle.std.specs.Prelude.{◌≡◌, IfSome, ℕ};
 ghost use Rattle.pb_engine.specs.Fixing.{IsBelowCompletions};
@@ -18,12 +19,13 @@ pub struct Verdict {
     pub pruning: Pruning,
     /// The greatest bound that was taken, if any was.
     pub bound: Option<Number>,
-    /// A literal without a value whose negation has nothing to give, if one is known. At a tie the lowest variables come first.
+    /// A literal without a value whose negation can lead to nothing better, if one is known. At a tie the lowest variables come
+    /// first.
     pub fixed: Option<Lit>,
 }
 
-/// What the bounds say of the subtree below the trail. Once something is held a bound is compared in each call, without a budget at a
-/// tie also one that was taken above. Where decisions are counted each one has that of disjoint rows before it.
+/// What the bounds say of the subtree below the trail. Once something is held, each call compares a bound; at a tie without a
+/// budget it may be one that was taken above. Where decisions are counted, each of them has the bound of disjoint rows before it.
 pub fn classify_node<C: Coefficient>(
     engine: &mut EngineAt<C>,
     best: &Best<'_>,
@@ -63,7 +65,7 @@ pub fn classify_node<C: Coefficient>(
     }
 }
 
-/// A literal without a value whose negation has nothing to give, at a node that was classified: none where it is closed.
+/// A literal without a value whose negation can lead to nothing better, at a node that was classified: none where it is closed.
 fn one_sided_literal<C: Coefficient>(
     engine: &mut EngineAt<C>,
     best: &Best<'_>,
@@ -85,8 +87,8 @@ fn one_sided_literal<C: Coefficient>(
     Some(fixed?.lit)
 }
 
-/// Where a literal was fixed just before there are often more: the next of them, if there is one. The bound of the multipliers as they
-/// are is at hand with each; they are not improved in between. `bound` is that of disjoint rows, if it was taken.
+/// The next literal to fix where one was fixed just before, since there are often more. The bound of the multipliers as they are
+/// is at hand with each, so they are not improved in between. `bound` is that of disjoint rows, if it was taken.
 fn fixed_again<C: Coefficient>(
     engine: &mut EngineAt<C>,
     best: &Best<'_>,
@@ -111,8 +113,8 @@ fn fixed_again<C: Coefficient>(
     })
 }
 
-/// What a bound that was taken above says of the subtree below the trail, where that settles the node: it is closed, or a tie with a
-/// literal that comes next.
+/// What a bound that was taken above says of the subtree below the trail, where that settles the node: it is closed, or it is a
+/// tie and a literal comes next.
 fn standing_tie<C: Coefficient>(
     engine: &EngineAt<C>,
     best: &Best<'_>,
@@ -138,7 +140,8 @@ fn standing_tie<C: Coefficient>(
     })
 }
 
-/// The next literal at a tie, and where to look on below it. None where it is no tie, or its lowest variables have values.
+/// The next literal at a tie; `hints` tell from where nodes below it go on. None at no tie, or where its lowest variables have
+/// values.
 fn next_tied<C: Coefficient>(
     engine: &EngineAt<C>,
     best: &Best<'_>,

@@ -24,7 +24,7 @@ all_left P xs ys all k d h = All-contains P (xs ++ ys) (get_or xs k d) all (Cont
 all_right : (P : PositiveRow → Type 0) (xs ys : List PositiveRow) → All P (xs ++ ys) → All P ys
 all_right P xs ys all k d h = All-contains P (xs ++ ys) (get_or ys k d) all (Contains-append_right xs ys (get_or ys k d) (All-contains_itself ys k d h))
 
--- so who meets them is feasible and makes each cube false
+-- so what meets them is feasible and makes each cube false
 rows_mean : (p : Problem) (f : NormalForm) (cubes : List (List Literal)) (s : EngineState) → ClausesSayCubesAreFalse → KeepsFeasible p f → HasRowsOf f cubes s → (a : List Bool) → MeetsRows a s.rows ↔ (IsFeasible p a × All (λ cube. MakesFalse a cube) cubes)
 rows_mean p f cubes s law feasible (clauses, rows, are) a = (
   (λ h. (let both = subst (λ (x : List PositiveRow). MeetsRows a x) rows h in ((feasible a).0 (all_left (MeetsRow a) f.rows clauses both), (law a cubes clauses are).0 (all_right (MeetsRow a) f.rows clauses both)))),

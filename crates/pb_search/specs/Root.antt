@@ -19,7 +19,7 @@ pub record IsBetter (p : Problem) (held : Option Solution) (a : List Bool) : Typ
   pub feasible : IsFeasible p a
   pub improvement : IsImprovement p a held
 
--- whoever is feasible and before what is held makes the fixed literals true; where the whole was searched nobody is
+-- what is feasible and before what is held makes the fixed literals true; where the whole was searched, nothing is
 pub record IsFixedFor (p : Problem) (literals : List Literal) (closed : Bool) (held : Option Solution) : Type 0 where
   pub variables : All (λ l. l.var ≤ p.vars) literals
   pub fixed : (a : List Bool) → IsBetter p held a → MakesTrue a literals

@@ -3,7 +3,7 @@ ghost use Rattle.pb_inst.specs.Limits.{IsProper};
 
 use pb_inst::Instance;
 
-/// An instance keeps to the limits of what may be told. It does nothing at run time.
+/// Tells proofs that an instance keeps to the limits of what may be told. It does nothing at run time.
 pub(crate) fn facts_of(instance: &Instance)
     ensures { IsProper instance.now }
 {

@@ -1,4 +1,6 @@
-//! Searches of pieces that count in numbers of one width.
+//! Searches of pieces that count in numbers of one width: each cube is searched under its literals, by one search that goes on
+//! learning.
+//! Source: [H11]
 
 ghost use Rattle.std.specs.Prelude.{◌≡◌, ◌≤◌, [], length, IfOk, IfNone, IfSome, Option};
 ghost use Rattle.pb_inst.specs.Incumbent.{Solution};
@@ -152,7 +154,7 @@ impl<'a, C: Coefficient> PieceSearch<'a, C> {
         ensures same_lending { S.lends share.new ≡ S.lends share.old }
         ensures unchanged { self.new ≡ self.old }
     {
-        // A call tells that what is held is a solution.
+        // The contract of this call says that what is held is a solution.
         let _ = best.cost();
         serve(&mut self.whole, best);
         let (root, is_closed) = fixed(&self.whole);
@@ -179,7 +181,7 @@ impl<'a, C: Coefficient> PieceSearch<'a, C> {
     }
 }
 
-/// Nothing that is fixed for all pieces, where there is a cube. Fails where memory is refused.
+/// Room for what is fixed for all pieces, which is nothing yet, where there is a cube. Fails where memory is refused.
 fn whole_root<'a>(
     alloc: Global,
     instance: &'a Instance,
@@ -193,7 +195,7 @@ fn whole_root<'a>(
     Ok(Some(WholeRoot::none(alloc, instance)?))
 }
 
-/// Forgets what is fixed where it may not be for this best assignment.
+/// Forgets what is fixed if it need not be for this best assignment.
 fn serve(whole: &mut Option<WholeRoot<'_>>, best: &Best<'_>)
     requires { IfSome whole.old (λ w. w.best.problem ≡ best.now.problem) }
     ensures fixed { IfSome whole.new (λ w. IsFixedFor best.now.problem w.literals w.closed best.now.held) }

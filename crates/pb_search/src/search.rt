@@ -89,9 +89,9 @@ impl<'a> Search<'a> {
         self.decisions
     }
 
-    /// Begins the search of the whole instance, where there is a cube, and keeps what it fixes for good: the pieces are then searched
-    /// below that. The best assignment is not after what it was. It asks the share and tells it as `run` does. With a budget for each
-    /// piece it does nothing, since nothing is searched outside pieces then. Takes no memory.
+    /// Begins the search of the whole instance, where there is a cube, and keeps what it fixes for good: the pieces are then
+    /// searched below that. The best assignment is not after what it was. It asks the share and tells it as `run` does. With a
+    /// budget for each piece it does nothing, since a budget is for pieces alone. Takes no memory.
     pub fn begin<S: Share>(&mut self, best: &mut Best<'_>, share: &mut S, nodes: Option<u64>)
         requires { best.old.problem ≡ self.old.division.problem }
         ensures not_after { IsNotAfter self.old.division.problem best.old.held best.new.held }
@@ -110,12 +110,12 @@ impl<'a> Search<'a> {
         }
     }
 
-    /// Searches a piece: that of a cube, or the remainder as the last one. With a budget, `nodes`, it makes so many decisions
+    /// Searches a piece: that of a cube, or the remainder as the last one. With a budget it makes `nodes` decisions
     /// at most, for first and second values of variables alike; the literals of a cube are no decisions. It answers `Cut`
     /// where it would need one more, and without a budget always `Whole`. After `Whole` no feasible assignment of the piece is
     /// before the best one. In any case the best one is not after what it was, is none only where it was none, and the
-    /// search may run again. It asks the share for an assignment at the beginning and after every 256th decision, those
-    /// of probes and dives among them, and tells it of each improvement of its own. Takes no memory.
+    /// search may run again. It asks the share for an assignment at the beginning and after every 256th decision, where
+    /// those of probes and dives count too, and tells it of each improvement of its own. Takes no memory.
     pub fn run<S: Share>(
         &mut self,
         piece: u32,

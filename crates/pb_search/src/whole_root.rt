@@ -1,4 +1,4 @@
-//! What the search of the whole fixed for good, below which the pieces are searched.
+//! What the search of the whole fixed for good, so that the pieces are searched below it.
 
 ghost use Rattle.std.specs.Prelude.{◌≡◌, ◌≤◌, [], false, IfOk, None, length, vec_capacity};
 ghost use Rattle.pb_subtree.specs.Held.{IsNotAfter, MovesOn};
@@ -12,7 +12,7 @@ use pb_subtree::{Outcome, SearchState, Share, begin_whole};
 use std::alloc::Global;
 use std::marker::Model;
 
-/// How often the search of the whole is about to turn to another value before that of the pieces begins.
+/// How many times the search of the whole is about to flip a decision before that of the pieces begins. Chosen by hand.
 const FIRST_TURNS: u32 = 256;
 
 /// Literals that are fixed for good, the best assignment when they were, and whether the whole was searched then: a feasible assignment
@@ -78,7 +78,7 @@ impl<'a> WholeRoot<'a> {
         keep(&mut self.best, best);
     }
 
-    /// Forgets what is fixed, unless the best assignment when it was is not before this one.
+    /// Forgets what is fixed if the best assignment of that time comes before this one, since then it need not be.
     pub fn serve(&mut self, best: &Best<'_>)
         requires { self.old.best.problem ≡ best.now.problem }
         ensures fixed { IsFixedFor best.now.problem self.new.literals self.new.closed best.now.held }

@@ -1,4 +1,5 @@
-//! The search of a whole instance under literals, again and again.
+//! The search of a whole instance under assumed literals, again and again, so that each question uses what earlier ones taught.
+//! Source: [ES03]
 
 ghost use Rattle.std.specs.Prelude.{◌≡◌, IfOk};
 ghost use Rattle.pb_search.specs.Searched.{IsSearchedUnder, MaySearchUnder};
@@ -46,10 +47,10 @@ impl WholeSearch {
     }
 
     /// Searches the assignments that make a cube true, whose literals are of the instance's variables: the piece of that cube.
-    /// Its decisions are taken off a budget, of which so many are left, if there is one, so that several calls can share it. It
-    /// answers `Cut` where it would need one more, and where the goal is met and something is left to search. After `Whole` no feasible assignment
-    /// of the piece is before the best one. In any case the best one is not after what it was, is none only where it was none,
-    /// and the search may run again. It takes no memory, and asks the share as `Search::run` does.
+    /// Its decisions are taken off what is `left` of a budget, if there is one, so that several calls can share it. It answers
+    /// `Cut` where it would need one more, and where the goal is met and something is left to search. After `Whole` no feasible
+    /// assignment of the piece is before the best one. In any case the best one is not after what it was, is none only where it
+    /// was none, and the search may run again. It takes no memory, and asks the share as `Search::run` does.
     pub fn run<S: Share>(
         &mut self,
         cube: &[Lit],
@@ -70,8 +71,7 @@ impl WholeSearch {
         }
     }
 
-    /// The values of an assignment from outside are the first that further searches try. It may be any one: no answer depends
-    /// on it.
+    /// Further searches try the values of this assignment from outside first. It may be any one, since no answer depends on it.
     pub fn suggest(&mut self, values: &Assignment)
         ensures { self.new ≡ self.old }
     {

@@ -9,7 +9,7 @@ use Rattle.pb_engine.specs.EngineState.{EngineState}
 pub descent_begun : (s : EngineState) (budget : Option ℕ) → IsDescentPaid s s budget budget
 descent_begun s budget = record { decisions = 0; counted = none_counted budget; assumed = omega arith }
 
--- after so many decisions more, and where the engine is the same then
+-- after `more` decisions, and where the engine is the same then
 pub descent_goes_on : (s e f g : EngineState) (more : ℕ) (budget left less : Option ℕ) → IsDescentPaid s e budget left → length f.levels ≤ length e.levels + more → left ≡ with_more more less → g ≡ f → IsDescentPaid s g budget less
 descent_goes_on s e f g more budget left less h assumed counted same = record {
   decisions = h.decisions + more;

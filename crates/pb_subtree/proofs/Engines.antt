@@ -35,7 +35,7 @@ propagated s t trail conflict sound e added = ap (λ (x : EngineState). assumpti
 pub undone_all : (s t : EngineState) → t ≡ record s { trail = trail_before s 0; levels = take 0 s.levels; conflict = false } → assumptions t ≡ []
 undone_all s t e = ap (λ (x : EngineState). assumptions x) e
 
--- one assumption less
+-- one assumption fewer
 pub record IsUndone (t : EngineState) (rest : List Literal) (l : Literal) : Type 0 where
   pub assumed : assumptions t ≡ rest
   pub free : value_on t.trail l.var ≡ None

@@ -79,7 +79,7 @@ nothing_left lends s u x same sound closed = record { free = tt; sides = tt; clo
 pub some_left : {C : Type 0} (lends : Bool) (s u : SearchState C) (x : Incumbent) (b : Branch) → SameBranches s u → IsSoundTrail u.engine → IsFree u.engine b.lit → IsFreshOrOneSided x.problem u.engine x.held b → IsExpanded lends s u x x (Some b)
 some_left lends s u x b same sound free sides = record { free = free; sides = sides; closed = tt; same_branches = same; sound = sound; moves_on = moves_itself x; own = λ alone. inl refl }
 
--- the same for a literal whose negation has nothing to give
+-- the same for a literal whose negation can lead to nothing better
 pub one_side_left : {C : Type 0} (lends : Bool) (s u : SearchState C) (x : Incumbent) (b : Branch) (l : Literal) → b.lit ≡ l → SameBranches s u → IsSoundTrail u.engine → u.engine.conflict ≡ false → IsOpenOnOneSide x.problem u.engine x.held l → IsExpanded lends s u x x (Some b)
 one_side_left lends s u x b l is same sound none side =
     let here : IsOpenOnOneSide x.problem u.engine x.held b.lit = subst (λ (m : Literal). IsOpenOnOneSide x.problem u.engine x.held m) (sym is) side in

@@ -52,7 +52,7 @@ decide_at root s t path b conflict at grown sound range =
 abbrev pub IsTakenBack : EngineState → EngineState → ℕ → Type 0
 IsTakenBack s t level = t ≡ record s { trail = trail_before s level; levels = take level s.levels; conflict = false }
 
--- one decision less
+-- one decision fewer
 pub record IsBack (root : List Literal) (t : EngineState) (path : List Branch) (b : Branch) : Type 0 where
   pub at : IsAtPath root t path
   pub free : IsFree t b.lit

@@ -53,7 +53,7 @@ back_keeps a [] b h = tt
 back_keeps a (c ∷ path) b (inl on) = inl (on.0, back_keeps a path b on.1)
 back_keeps a (c ∷ path) b (inr off) = inr off
 
--- turning to the other value of the last branch keeps all that leaves the path open
+-- flipping the last branch keeps all that leaves the path open
 pub turn_keeps : (a : List Bool) (path : List Branch) (last next : Branch) → IsOtherValue last next → LeavesOpen a (path ++ last ∷ []) → LiesOpen a (path ++ next ∷ [])
 turn_keeps a [] last next other (inl on) = absurd on.1
 turn_keeps a [] last next other (inr off) = inl (negated_true a last.lit next.lit other.same_variable other.other_value off.0, tt)
@@ -83,7 +83,7 @@ pub decide_falls : (n : ℕ) (path : List Branch) (b : Branch) → length path <
 decide_falls n [] b lt = last_falls n b.flipped (omega arith)
 decide_falls n (c ∷ path) b lt = omega (arith, decide_falls (n - 1) path b (omega arith))
 
--- turning to the other value leaves fewer steps
+-- flipping a decision leaves fewer steps
 pub turn_falls : (n : ℕ) (kept taken_back : List Branch) (last next : Branch) → last.flipped ≡ false → next.flipped ≡ true → steps_left n (kept ++ next ∷ []) < steps_left n (kept ++ last ∷ taken_back)
 turn_falls n [] taken_back last next was_open flipped = rw (was_open, flipped) (omega (arith, steps_positive (n - 1) taken_back))
 turn_falls n (c ∷ kept) taken_back last next was_open flipped = omega (arith, turn_falls (n - 1) kept taken_back last next was_open flipped)
@@ -95,7 +95,7 @@ steps_most n (b ∷ path) few =
     let rest : steps_left (n - 1) path ≤ 3 ^ (n - 1) = steps_most (n - 1) path (omega arith) in
     omega (arith, last_falls n b.flipped (omega arith), rest)
 
--- a decision or a turn leaves fewer steps to the search
+-- a decision or a flip leaves fewer steps to the search
 pub fewer_steps : (n r s : ℕ) (old new : List Branch) → s ≤ r → steps_left n new < steps_left n old → search_steps n s new < search_steps n r old
 fewer_steps n r s old new less falls =
     let most : s * 3 ^ n ≤ r * 3 ^ n = grind arith in
@@ -123,7 +123,7 @@ fewer_from n x r s path less h =
 abbrev pub AreFixed : List Branch → Type 0
 AreFixed path = All (λ (b : Branch). b.flipped ≡ true) path
 
--- who lies below an open branch of the path makes its first decisions true, where these are fixed
+-- what lies below an open branch of the path makes its first decisions true, where these are fixed
 pub fixed_true : (a : List Bool) (i : ℕ) (path : List Branch) → AreFixed (take i path) → LiesOpen a path → MakesTrue a (decided (take i path))
 fixed_true a zero path fixed lies = All-nil (λ (l : Literal). literal_value a l ≡ 1)
 fixed_true a (suc i) [] fixed lies = All-nil (λ (l : Literal). literal_value a l ≡ 1)

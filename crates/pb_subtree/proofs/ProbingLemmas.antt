@@ -73,7 +73,7 @@ failed p s u l held a sound after tried with closed h better =
           makes_true = after.forced a sol.meets_rows (subst (λ (x : List Literal). MakesTrue a x) (sym with) all);
         })
 
--- so its negation has one side alone
+-- so its negation has only one side to try
 pub failed_one_side : (p : Problem) (s : EngineState) (l m : Literal) (held : Option Solution) → m.var ≡ l.var → m.positive ≡ not l.positive → IsFree s l → ((a : List Bool) → Completes s a → IsImprovement p a held → literal_value a l ≡ 0) → IsOpenOnOneSide p s held m
 failed_one_side p s l m held same other free fails = record {
   variable = subst (λ (n : ℕ). n ≤ s.vars) (sym same) free.variable;

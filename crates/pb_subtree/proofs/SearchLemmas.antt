@@ -128,7 +128,7 @@ decide_next p start t next held free sides h = record {
       ];
 }
 
--- a literal whose negation has nothing to give may be assumed
+-- a literal whose negation can lead to nothing better may be assumed
 pub free_open : (p : Problem) (s : EngineState) (l : Literal) (held : Option Solution) → s.conflict ≡ false → IsOpenOnOneSide p s held l → IsFree s l
 free_open p s l held none h = record { variable = h.variable; no_value = h.no_value; no_conflict = none }
 

@@ -3,7 +3,7 @@ use Rattle.std.specs.Prelude.{◌≡◌, ℕ, ◌+◌, ◌≤◌, Option, length
 use Rattle.pb_control.specs.Budget.{with_more}
 use Rattle.pb_engine.specs.EngineState.{EngineState}
 
--- so many decisions were taken off a budget, if there is one, that each assumption which was added since the start has one
+-- at least as many decisions were taken off a budget, if there is one, as assumptions were added since the start
 pub record IsDescentPaid (start now : EngineState) (budget left : Option ℕ) : Type 0 where
   pub decisions : ℕ
   pub counted : budget ≡ with_more decisions left

@@ -23,7 +23,7 @@ abbrev pub steps_left : ℕ → List Branch → ℕ
 steps_left n [] = 3 ^ n
 steps_left n (b ∷ path) = (if b.flipped then 0 else 3 ^ (n - 1)) + steps_left (n - 1) path
 
--- the same for a search that may still step back to its root so many times
+-- that bound for a search that may still step back to its root `returns` times
 abbrev pub search_steps : ℕ → ℕ → List Branch → ℕ
 search_steps n returns path = returns * 3 ^ n + steps_left n path
 

@@ -54,7 +54,7 @@ IsFilledFrom trail a = (k : ℕ) → k < length a → slice_index_or a k false �
 abbrev pub AgreesBelow : List Literal → List Bool → ℕ → Type 0
 AgreesBelow trail a place = (k : ℕ) → k < place → slice_index_or a k false ≡ bit_on trail k
 
--- both values of the decision are to be tried, or the other one has nothing to give
+-- both values of the decision are to be tried, or the other one can lead to nothing better
 abbrev pub IsFreshOrOneSided : Problem → EngineState → Option Solution → Branch → Type 0
 IsFreshOrOneSided p s held b = (b.flipped ≡ false) ⊎ IsOneSided p s held b.lit
 

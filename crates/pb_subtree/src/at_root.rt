@@ -12,8 +12,8 @@ use pb_control::{Pruning, RootWork};
 use pb_engine::{Coefficient, EngineAt};
 use pb_inst::{Best, Lit, Number};
 
-/// Works at the root, where the search stands there. Gives a literal whose negation has nothing to give, or none where none
-/// was found. Its probes are decisions. Once ties alone are left there is nothing to work for.
+/// Works at the root, where the search stands there. Gives a literal whose negation can lead to nothing better, or none where
+/// none was found. Its probes are decisions. Once ties alone are left there is nothing to work for.
 pub fn work_at_root<C: Coefficient>(
     state: &mut SearchState<C>,
     best: &Best<'_>,
@@ -39,13 +39,15 @@ pub fn work_at_root<C: Coefficient>(
         return None;
     }
     let found = find_failed(&mut state.engine, work, best, left);
+    // A literal that was found makes the trail longer, so a round is due again in any case.
     if found.is_none() {
         work.end_round(length, cost);
     }
     found
 }
 
-/// Notes the bound that was taken at the root; where none was, that of disjoint rows once.
+/// Notes the bound that was taken at the root; where none was, that of disjoint rows once, since a root with a bound of the best
+/// cost has nothing but ties left.
 fn note_root_bound<C: Coefficient>(
     work: &mut RootWork,
     engine: &mut EngineAt<C>,

@@ -1,4 +1,5 @@
 //! Back to the last decision on the trail whose other value is still to be tried.
+//! Source: [DLL62]
 
 ghost use Rattle.std.specs.Prelude.{◌≡◌, ◌++◌, ◌∷◌, [], ◌⊎◌, false, true, List, IsTrue, IfSome, IfNone, vec_capacity};
 ghost use Rattle.pb_inst.specs.Literal.{Literal};
@@ -36,6 +37,7 @@ pub fn undo_decision<C: Coefficient>(
 {
     let branch = path.pop()?;
     let level = engine.level() - 1;
+    // Before the engine forgets the literals, because the prefix is told which ones go.
     agreed.forget_from(engine, branch.lit, best);
     engine.undo_to(level);
     agreed.cut(engine);
@@ -63,8 +65,8 @@ pub fn backtrack<C: Coefficient>(
     None
 }
 
-/// Whether nothing is left to try at a branch whose decision was taken back: both values were tried, or by now no
-/// completion of the trail before it comes before the best assignment, which may have improved since the first value was decided.
+/// Whether nothing is left to try at a branch whose decision was taken back: both values were tried, or no completion of its
+/// trail comes before the best assignment any more, since that may have improved below the first value.
 fn is_spent<C: Coefficient>(
     engine: &mut EngineAt<C>,
     branch: &Branch,
@@ -84,7 +86,7 @@ fn is_spent<C: Coefficient>(
     is_closed_since(engine, branch.bound, best, agreed)
 }
 
-/// The decision for the other value.
+/// The decision for the other value. The trail before it is the same again, so bound and hints are kept.
 fn other_value(branch: &Branch) -> Branch
     ensures { IsOtherValue branch.now result }
 {

@@ -32,10 +32,12 @@ pub fn decide<C: Coefficient>(
     engine.assume(branch.lit);
     settle(engine, branch.flipped);
     count_down(left);
+    // No more than one decision for each variable, so there is room.
     path.push_reserved(branch);
 }
 
-/// Tells the engine where nothing is left to try in place of the last decision.
+/// Tells the engine where nothing is left to try in place of the last decision, so that it may improve multipliers beside the
+/// root's trail.
 fn settle<C: Coefficient>(engine: &mut EngineAt<C>, is_settled: bool)
     ensures { engine.new ≡ engine.old }
 {

@@ -11,9 +11,9 @@ use pb_inst::{Lit, Number};
 use pb_order::Order;
 
 /// A decision of a variable without a value, or none where every variable has one. Any such decision is right. Where the
-/// bound equals the best cost, the lowest variable up to the first difference to the best assignment comes first, 0
-/// first, so that the order of assignments soon decides, and where nothing objects so do those behind it; else the literals
-/// come in their order.
+/// bound equals the best cost, the lowest variable up to the first difference from the best assignment comes first, with 0,
+/// so that the order of assignments soon decides. Where nothing objects, variables behind that difference follow in the same way.
+/// Else the literals come in their order.
 pub fn next_decision<C: Coefficient>(
     engine: &EngineAt<C>,
     vars: u32,
@@ -43,7 +43,7 @@ pub fn next_decision<C: Coefficient>(
     {
         return Some(decision(lit, bound, hints));
     }
-    // The order promises nothing. Where it names no variable without a value, the lowest one is decided.
+    // The order promises nothing, so where it names no variable without a value, the lowest one is decided.
     if let Some(branch) = ordered_decision(engine, vars, order, hints, bound) {
         return Some(branch);
     }
@@ -51,7 +51,7 @@ pub fn next_decision<C: Coefficient>(
     Some(decision(lit, bound, hints))
 }
 
-/// The decision for the literal, the first one of its variable.
+/// The decision for the first value to try of the literal's variable.
 pub fn decision(lit: Lit, bound: Option<Number>, hints: Hints) -> Branch
     ensures literal { result.lit ≡ lit }
     ensures fresh { result.flipped ≡ false }
@@ -64,7 +64,7 @@ pub fn decision(lit: Lit, bound: Option<Number>, hints: Hints) -> Branch
     }
 }
 
-/// The first literal of the order whose variable has no value. Those before it are passed over until the search steps back.
+/// The first literal of the order whose variable has no value. Those before it are passed over until the search backtracks.
 fn ordered_decision<C: Coefficient>(
     engine: &EngineAt<C>,
     vars: u32,
@@ -76,15 +76,15 @@ fn ordered_decision<C: Coefficient>(
     ensures free { IfSome result (λ b. (b.lit.var ≤ vars) × (value_on engine.now.trail b.lit.var ≡ None)) }
     ensures fresh { IfSome result (λ b. b.flipped ≡ false) }
 {
-    // Backtracking leaves the order alone. What was passed over since this node is taken back here, once a decision is
-    // made again.
+    // Backtracking leaves the order alone, because many decisions may go before the next one is made. So what was passed over
+    // below this node is taken back here.
     order.return_to(hints.left.min(vars));
     for _ in 0..vars {
         let lit = order.first()?;
         if is_free(engine, vars, lit) {
             let left = order.left();
-            // The value that the multipliers make the cheaper one is the better guess, where there are any and nobody told of
-            // a better one.
+            // The value that the multipliers make the cheaper one is the better guess, where there are any, unless the caller
+            // suggested values.
             let lit = if order.is_suggested() {
                 lit
             } else {

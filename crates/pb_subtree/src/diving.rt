@@ -1,5 +1,6 @@
-//! What is done anew at the root as long as its trail grows or the best cost falls: multipliers are improved, and the search dives
-//! from there. What a dive reaches is handed to the incumbent, and all of it is taken back.
+//! What is done anew at the root as long as its trail grows or the best cost falls: multipliers are improved, and the search
+//! dives from there. What a dive reaches is handed to the incumbent, and all of it is taken back.
+//! Source: [B06]
 
 ghost use Rattle.std.specs.Prelude.{◌≡◌, ◌⊎◌, List, false, true, length};
 ghost use Rattle.pb_inst.specs.Literal.{Literal};
@@ -22,8 +23,8 @@ use pb_engine::Coefficient;
 use pb_inst::{Best, Number};
 use pb_prune::AgreedPrefix;
 
-/// Dives from where the search stands, if that is its root and a dive is due. Answers whether it led to a better assignment;
-/// then more may be fixed at the root. The decisions of a dive count like those of the search.
+/// Dives from where the search stands, if that is its root and a dive is due. Answers whether it led to a better assignment,
+/// because then more may be fixed at the root. The decisions of a dive count like those of the search.
 pub fn dive_from_root<C: Coefficient, S: Share>(
     state: &mut SearchState<C>,
     best: &mut Best<'_>,
@@ -44,11 +45,12 @@ pub fn dive_from_root<C: Coefficient, S: Share>(
     let level = state.engine.level();
     let is_full = go_down(state, best, share, run, most);
     let is_better = take_where_full(state, best, share, &mut run.agreed, is_full);
+    // A dive closes nothing, so all of it is taken back.
     state.engine.undo_to(level);
     is_better
 }
 
-/// Has the multipliers improved anew where the root's trail has grown.
+/// Has the multipliers improved anew where the root's trail has grown, since they were improved for a shorter one.
 pub fn renew_at_root<C: Coefficient>(state: &mut SearchState<C>, best: &Best<'_>)
     ensures same_branches { SameBranches state.old state.new }
     ensures unchanged { state.new.engine ≡ state.old.engine }
@@ -63,8 +65,8 @@ pub fn renew_at_root<C: Coefficient>(state: &mut SearchState<C>, best: &Best<'_>
     }
 }
 
-/// Goes down from where the search stands, by at most `most` decisions, each of which is taken off what is left. Between two of them
-/// the share is asked where that is due. Answers whether the trail is full.
+/// Goes down from where the search stands, by at most `most` decisions, each of which is taken off what is left. Between two of
+/// them the share is asked where that is due. Answers whether the trail is full.
 fn go_down<C: Coefficient, S: Share>(
     state: &mut SearchState<C>,
     best: &mut Best<'_>,
@@ -94,7 +96,9 @@ fn go_down<C: Coefficient, S: Share>(
     };
     let mut rest = most.min(MAX_DECISIONS);
     for _ in 0..MAX_DECISIONS {
+        // In parts, so that the share is asked as often as between decisions of the search.
         let part = rest.min(state.root_work.until_look());
+        // In each part anew, because what the share gave may have lowered the best cost.
         let limit = limit_below(best, run.left);
         let path = &mut state.dive;
         let left = &mut run.left;
@@ -114,7 +118,8 @@ fn go_down<C: Coefficient, S: Share>(
     false
 }
 
-/// The cost below which a dive looks for an assignment. With a budget each decision that is counted has a bound before it.
+/// The cost below which a dive looks for an assignment. With a budget each decision that is counted has a bound before it;
+/// without one there is no limit, since bounds would cost more than they save.
 fn limit_below(best: &Best<'_>, left: Option<u64>) -> Option<Number> {
     if left.is_some() { best.cost() } else { None }
 }

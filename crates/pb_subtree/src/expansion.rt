@@ -35,6 +35,7 @@ pub fn expand_node<C: Coefficient, S: Share>(
     if state.engine.conflict() {
         return None;
     }
+    // Before this node is judged, since the engine knows the gap of the last judged node alone.
     let decided = last_decided(state, best);
     let length = state.engine.trail_len();
     let step = state.engine.propagate();
@@ -43,8 +44,8 @@ pub fn expand_node<C: Coefficient, S: Share>(
         learn(&mut state.order, decided, Some(0));
         return None;
     }
-    // The bound is asked for after propagation alone: it counts what the trail forces, and a node that ends in a conflict
-    // never pays for it.
+    // The bound is asked for only after propagation, because it counts what the trail forces, and so that a node that ends in a
+    // conflict never pays for it.
     let (is_counted, mut hints) = (run.left.is_some(), state.hints());
     let agreed = &mut run.agreed;
     let Verdict {
@@ -59,6 +60,7 @@ pub fn expand_node<C: Coefficient, S: Share>(
     if let Some(lit) = fixed {
         return Some(one_sided(lit, bound, hints));
     }
+    // After the bound, or else probes would be made at a node that it closes.
     if let Some(lit) = work_at_root(state, best, pruning, bound, &mut run.left) {
         return Some(one_sided(lit, bound, hints));
     }
@@ -69,7 +71,8 @@ pub fn expand_node<C: Coefficient, S: Share>(
     None
 }
 
-/// What follows from the last decision was added to a trail of `length` literals. The order learns from a conflict.
+/// What follows from the last decision was added to a trail of `length` literals, which pays for work at the root. The order
+/// learns from a conflict.
 fn note_propagated<C: Coefficient>(state: &mut SearchState<C>, length: usize, step: Step)
     ensures engine { state.new.engine ≡ state.old.engine }
     ensures beside { SameBranchesAndRoom state.old state.new }
@@ -95,6 +98,7 @@ fn choose<C: Coefficient>(
     ensures beside { SameBranchesAndRoom state.old state.new }
 {
     let vars = state.candidate.len();
+    // Pseudocosts lead only where multipliers pay, because elsewhere activities alone take fewer decisions.
     state.order.lead_by_gains(state.engine.multipliers_pay());
     let is_calm = state.root_work.is_calm();
     let branch = next_decision(

@@ -7,7 +7,8 @@ use pb_engine::{Coefficient, EngineAt, Step};
 use pb_inst::{Best, Lit};
 use pb_order::{Gain, Order};
 
-/// Of how many ties one after another a bound is taken at each.
+/// How many ties one after another have a bound taken at each: behind these it is taken only once they have doubled, so the node
+/// above may have none of its own.
 const MOST_TIES: u32 = 2;
 
 /// Learns from the conflict that the engine found, if the step led to one.
@@ -17,7 +18,7 @@ pub fn learn_conflict<C: Coefficient>(order: &mut Order, engine: &EngineAt<C>, s
     }
 }
 
-/// Learns from the values of the best assignment, where it is a new one.
+/// Learns from the values of the best assignment, where it is new.
 pub fn learn_values(order: &mut Order, best: &Best<'_>, has_improved: bool) {
     if has_improved && let Some(held) = best.assignment() {
         order.prefer(held);
@@ -34,12 +35,12 @@ pub struct Decided {
 
 /// The last decision, and by how much the bound of the multipliers above it may rise; none where they were not used there.
 pub fn last_decided<C: Coefficient>(state: &SearchState<C>, best: &Best<'_>) -> Option<Decided> {
-    // Below a literal that was fixed the multipliers are not asked for a bound, so the one above it is not known.
+    // Below a literal that was fixed, the multipliers were not asked for a bound, so the gap above is not known.
     if state.engine.is_fixing() {
         return None;
     }
     let branch = state.branches.last()?;
-    // Nor is that of a node where an older bound told of a tie.
+    // Nor is it where an older bound told of a tie.
     if branch.hints.ties > MOST_TIES {
         return None;
     }
@@ -67,6 +68,7 @@ fn gap_left<C: Coefficient>(
     best: &Best<'_>,
     pruning: Pruning,
 ) -> Option<Gain> {
+    // A closed node has no gap, whichever bound closed it.
     if pruning == Pruning::Closed {
         return Some(0);
     }

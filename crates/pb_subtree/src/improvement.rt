@@ -1,4 +1,4 @@
-//! Who is told where the best assignment may be another one.
+//! Who is told when the best assignment may have changed.
 
 ghost use Rattle.std.specs.Prelude.{◌≡◌, List};
 ghost use Rattle.pb_inst.specs.Literal.{Literal};
@@ -11,8 +11,8 @@ use pb_engine::Coefficient;
 use pb_inst::Best;
 use pb_prune::AgreedPrefix;
 
-/// Where an assignment comes from that the incumbent was handed. What is borrowed before a piece begins has none of these origins: all
-/// that goes by the best assignment begins with it.
+/// Where an assignment comes from that the incumbent was handed. What is borrowed before a piece begins has none of these
+/// origins, because all that goes by the best assignment begins after it.
 #[derive(Clone, Copy)]
 pub enum Origin {
     /// A full trail of the search.
@@ -25,8 +25,8 @@ pub enum Origin {
     LentToDive,
 }
 
-/// The incumbent was handed an assignment, which is held now if it is better: tells all that go by the best one. A full trail is told of
-/// in any case, what was borrowed only where it is better.
+/// Tells all that go by the best assignment that the incumbent was handed one, which it holds now if it is better. They are told
+/// of a full trail in any case, and of what was borrowed only where it is better.
 pub fn tell<C: Coefficient>(
     state: &mut SearchState<C>,
     best: &Best<'_>,
@@ -39,20 +39,20 @@ pub fn tell<C: Coefficient>(
     ensures known { (trail : List Literal) → KnowsHeldPrefix trail best.now.held agreed.new }
 {
     match origin {
-        // What led to it is looked at again: ties above it, and its values.
+        // The search goes on above this trail, so ties there and the values that come first go by it.
         Origin::Leaf => {
             agreed.begin_again(best);
             state.root_work.note_full(is_better);
             learn_values(&mut state.order, best, is_better);
         }
-        // The search stays at its root, where more may be fixed now.
+        // The search is back at its root, where more may be fixed now, so work begins there again.
         Origin::Dive => {
             agreed.begin_again(best);
             work_anew(state, is_better);
         }
-        // No bound of the trail above says that nothing of its cost comes before it.
+        // It was found elsewhere, so a bound of this trail may be over its cost.
         Origin::Lent => agreed.begin_with_borrowed(best),
-        // The node that the dive began at is expanded again.
+        // So that the node at which the dive began is expanded again.
         Origin::LentToDive => {
             agreed.begin_with_borrowed(best);
             state.root_work.note_borrowed();
@@ -60,7 +60,7 @@ pub fn tell<C: Coefficient>(
     }
 }
 
-/// Once the best assignment is a better one, has the root worked on again, with multipliers that are improved anew.
+/// Has the root worked on again if the best assignment has improved, with multipliers that are improved anew.
 fn work_anew<C: Coefficient>(state: &mut SearchState<C>, is_better: bool)
     ensures engine { state.new.engine ≡ state.old.engine }
     ensures beside { SameBranchesAndRoom state.old state.new }

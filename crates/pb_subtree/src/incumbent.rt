@@ -28,8 +28,8 @@ fn fill<C: Coefficient>(engine: &EngineAt<C>, into: &mut Assignment)
     }
 }
 
-/// At a full trail that meets all constraints: hands its assignment to the incumbent, and tells all that go by the best one. Answers
-/// whether it was an improvement.
+/// Hands the assignment of a full trail that meets all constraints to the incumbent, and tells all that go by the best one.
+/// Answers whether it was an improvement.
 pub fn take_leaf<C: Coefficient, S: Share>(
     state: &mut SearchState<C>,
     best: &mut Best<'_>,
@@ -91,7 +91,7 @@ pub fn borrow<S: Share>(scratch: &mut Assignment, best: &mut Best<'_>, share: &m
     ensures kept { S.keeps share.old share.new }
     ensures same_lending { S.lends share.new ≡ S.lends share.old }
 {
-    // What is lent may be torn or not feasible. Only an improvement that `take` finds feasible is held.
+    // What is lent may be torn or not feasible, so `take` checks it, and holds only an improvement.
     let below = best.cost().unwrap_or(SUM_BOUND as Number);
     if !share.borrow(below, scratch) {
         return false;
@@ -99,8 +99,8 @@ pub fn borrow<S: Share>(scratch: &mut Assignment, best: &mut Best<'_>, share: &m
     best.take(scratch)
 }
 
-/// So many decisions were made since this was called last: asks the share where that is due by now, and tells all that go by the best
-/// assignment. Answers whether that is another one now.
+/// `decisions` decisions were made since the last call: asks the share where that is due by now, and tells all that go by the
+/// best assignment. Answers whether that has changed.
 pub fn borrow_after<C: Coefficient, S: Share>(
     state: &mut SearchState<C>,
     best: &mut Best<'_>,
@@ -117,6 +117,7 @@ pub fn borrow_after<C: Coefficient, S: Share>(
 {
     let work = &mut state.root_work;
     work.count(decisions);
+    // Seldom, because a look reads what other searches write.
     if !work.is_look_due() {
         return false;
     }

@@ -1,4 +1,5 @@
 //! The search of a subtree, node by node.
+//! Source: [LD60], [DLL62]
 
 ghost use Rattle.std.specs.Prelude.{◌≡◌, ◌≢◌, false, true, [], None, IfSome};
 ghost use Rattle.pb_inst.specs.Incumbent.{IsSound};
@@ -22,7 +23,7 @@ use pb_control::{Branch, Goal};
 use pb_engine::Coefficient;
 use pb_inst::Best;
 
-/// How often the share is asked at one node at most: more often than a round of probes comes to.
+/// How often the share is asked at one node at most, so that the loop ends: more often than a round of probes comes to.
 const MOST_LOOKS: u32 = u32::MAX;
 
 /// Expands the node where the trail stands, and where that is the root, dives from there once before a decision is made that has both
@@ -46,7 +47,7 @@ fn expand<C: Coefficient, S: Share>(
         };
         if state.root_work.is_look_due() {
             let has_borrowed = borrow_after(state, best, share, &mut run.agreed, 0, Origin::Lent);
-            // A literal that failed stays failed.
+            // A literal that failed stays failed, so its negation is decided unless something better was lent.
             if branch.flipped && !has_borrowed {
                 return Some(branch);
             }
@@ -80,6 +81,7 @@ fn next_branch<C: Coefficient, S: Share>(
     if let Some(branch) = expand(state, best, share, run) {
         return Some(branch);
     }
+    // Before anything is taken back, because that ends the conflict.
     let is_conflict = state.engine.conflict();
     match state
         .root_work
@@ -90,7 +92,7 @@ fn next_branch<C: Coefficient, S: Share>(
     }
 }
 
-/// Steps back to so many decisions, and expands the node there. Gives the decision to make next, or none where the search is
+/// Steps back to `count` decisions, and expands the node there. Gives the decision to make next, or none where the search is
 /// finished.
 fn expand_above<C: Coefficient, S: Share>(
     state: &mut SearchState<C>,
@@ -112,7 +114,8 @@ fn expand_above<C: Coefficient, S: Share>(
 }
 
 /// Searches all solutions below the trail, or stops where it would need one decision more than are left, or a decision where
-/// the goal is met, or where there are no turns left, if these are counted. No call of it recurses, and it takes no memory.
+/// the goal is met, or where there are no turns left, if these are counted. It does not recurse, so that no stack grows with the
+/// instance, and it takes no memory.
 pub fn search_subtree<C: Coefficient, S: Share>(
     state: &mut SearchState<C>,
     best: &mut Best<'_>,

@@ -1,5 +1,6 @@
-//! Literals that are tried at the root: where one leads to a conflict, or to a bound over the best cost, its negation has one
-//! side alone.
+//! Literals that are tried at the root: where one leads to a conflict, or to a bound over the best cost, only its negation is
+//! left to try.
+//! Source: [S94]
 
 ghost use Rattle.std.specs.Prelude.{◌≡◌, ◌++◌, ◌∷◌, [], false, Bool, List, IsTrue, IfSome, length};
 ghost use Rattle.pb_inst.specs.Meaning.{literal_value};
@@ -15,8 +16,8 @@ use pb_control::{RootWork, count_down};
 use pb_engine::{Coefficient, EngineAt, Step, is_free};
 use pb_inst::{Best, Lit};
 
-/// A literal without a value whose negation has nothing to give, since it failed when it was tried; or none, where none of a
-/// round fails or no more may be tried. Each probe is a decision. Where the share is to be asked before the next one, the round waits.
+/// A literal without a value whose negation failed when it was tried; or none, where none of a round fails or no more may be
+/// tried. Each probe is a decision. Where the share is to be asked before the next one, the round waits.
 pub fn find_failed<C: Coefficient>(
     engine: &mut EngineAt<C>,
     work: &mut RootWork,
@@ -40,7 +41,9 @@ pub fn find_failed<C: Coefficient>(
             && is_free(engine, vars, lit)
         {
             count_down(left);
+            // Probes count towards the next look, or else a long round would keep the share waiting.
             work.count(1);
+            // The first that fails is fixed at once, since what follows from it may make others fail.
             if fails(engine, lit, work, best) {
                 return Some(lit.negate());
             }
@@ -90,9 +93,10 @@ fn is_closed_with<C: Coefficient>(engine: &mut EngineAt<C>, lit: Lit, best: &Bes
     let Some(cost) = best.cost() else {
         return false;
     };
+    // Multipliers are taken as they are, since there may be a probe for each literal.
     let Some(bound) = engine.bound_at_hand() else {
         return false;
     };
-    // At equal cost a completion may still come first by the order of assignments.
+    // At equal cost a completion may still come first by the order of assignments, so the bound has to be greater.
     bound > cost
 }

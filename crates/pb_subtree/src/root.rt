@@ -35,7 +35,8 @@ fn assume_literal<C: Coefficient>(engine: &mut EngineAt<C>, lit: Lit) -> Step
     }
 }
 
-/// Assumes a literal without a value. No conflict comes of it before something is propagated.
+/// Assumes a literal without a value, and settles it, since the piece never tries its negation. No conflict comes before
+/// propagation.
 fn assume_free<C: Coefficient>(engine: &mut EngineAt<C>, lit: Lit)
     requires variable { lit.var ≤ engine.old.vars }
     requires no_value { value_on engine.old.trail lit.var ≡ None }
@@ -51,7 +52,7 @@ fn assume_free<C: Coefficient>(engine: &mut EngineAt<C>, lit: Lit)
 }
 
 /// Takes back all assumptions, and adds what follows without any. A conflict means that no assignment meets the
-/// constraints; it stands from then on, so that it is found but once.
+/// constraints; it stands from then on, so that it is found only once.
 fn return_to_root<C: Coefficient>(engine: &mut EngineAt<C>) -> Step
     ensures constraints { SameConstraints engine.old engine.new }
     ensures sound { IsSoundTrail engine.new }
@@ -77,7 +78,8 @@ fn is_refuted<C: Coefficient>(engine: &EngineAt<C>) -> bool
     engine.conflict()
 }
 
-/// Assumes the literals too. A conflict means that no assignment that meets the constraints makes them and the assumptions before them true.
+/// Assumes the literals too. A conflict means that no assignment that meets the constraints makes them and the assumptions before
+/// them true.
 fn assume_all<C: Coefficient>(engine: &mut EngineAt<C>, literals: &[Lit]) -> Step
     requires sound { IsSoundTrail engine.old }
     requires no_conflict { engine.old.conflict ≡ false }

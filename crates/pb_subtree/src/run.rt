@@ -7,8 +7,8 @@ ghost use Rattle.pb_prune.specs.AgreedPrefix.{KnowsHeldPrefix};
 use pb_inst::Best;
 use pb_prune::AgreedPrefix;
 
-/// What the search of a piece goes on with from node to node, beside its state. The best assignment and the share stay apart: they
-/// are the caller's, and a struct that holds a `&mut` would have to say in each contract that it still holds the same one.
+/// What the search of a piece carries from node to node, beside its state. The best assignment and the share stay apart, because
+/// they are the caller's, and each contract of a struct with a `&mut` would have to say that it still holds the same one.
 #[derive(Clone, Copy)]
 pub struct Run {
     /// What the trail is known to agree with of the best assignment.

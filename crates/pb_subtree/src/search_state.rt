@@ -15,7 +15,8 @@ use pb_order::Order;
 use std::alloc::Global;
 use std::sync::Arc;
 
-/// An engine, the decisions on its trail, room for one assignment, and the order in which variables are decided.
+/// An engine, the decisions on its trail, room for one assignment, the order in which variables are decided, and what is kept for
+/// work at the root and for dives. All room is made before a search, so that no node takes memory.
 pub struct SearchState<C: Coefficient> {
     pub engine: EngineAt<C>,
     pub branches: Vec<Branch>,
@@ -25,8 +26,8 @@ pub struct SearchState<C: Coefficient> {
     pub dive: DivePath,
 }
 
-// By hand, so that letting go of a state is a call wherever it is done, and its parts are written out here alone. What a
-// derive would write stands at each early way out too, with all parts of the parts, and makes most of what is to be proved.
+// By hand, so that letting go of a state is a call wherever it is done, and its parts are written out here alone. Or else what a
+// derive writes would stand at each early return too, with all parts of the parts, and make most of what is to be proved.
 impl<C: Coefficient> Drop for SearchState<C> {
     fn drop(self) {
         let SearchState {
@@ -61,7 +62,8 @@ impl<C: Coefficient> SearchState<C> {
         })
     }
 
-    /// A state over a share of rows and clauses. Of the cubes to be false only the order of decisions knows.
+    /// A state over shared rows and clauses. The clauses say already that the cubes `negated` are false, so only the order of
+    /// decisions and the work at the root go by these.
     pub fn over(
         alloc: Global,
         rows: &Arc<Rows<C>, Global>,
@@ -102,7 +104,7 @@ impl<C: Coefficient> SearchState<C> {
         self.engine.begin_question();
     }
 
-    /// Where to look on below the last decision.
+    /// What the last decision hands down to the node below it.
     pub fn hints(&self) -> Hints {
         match self.branches.last() {
             Some(branch) => branch.hints,
@@ -122,14 +124,16 @@ fn make_room<C: Coefficient>(
     ensures candidate { IfOk result (λ t. length t.1 ≡ form.now.vars) }
 {
     let vars = form.vars();
+    // A path decides each variable at most once, so it never outgrows this.
     let branches = Vec::with_capacity(alloc, vars as usize)?;
     let candidate = Assignment::new(alloc, vars)?;
     let order = Order::new(alloc, form, negated)?;
+    // Where nothing is minimised no search dives, so no room is taken.
     let dive = DivePath::new(alloc, if is_decision(form) { 0 } else { vars })?;
     Ok((branches, candidate, order, dive))
 }
 
-/// The work at the root of the search of the form without these cubes, of which nothing was done.
+/// The work at the root for a search of the form without these cubes, before any of it is done.
 fn work_for<C: Coefficient>(form: &Form<C>, negated: &[Cube]) -> RootWork {
     RootWork::new(form.vars(), is_decision(form), negated.len())
 }

@@ -17,7 +17,7 @@ pub trait Share {
         ensures kept { keeps self.old self.new }
         ensures same_lending { lends self.new ≡ lends self.old };
 
-    /// Hands over any bits that may be an assignment of a cost below the given one.
+    /// Hands over bits that may be an assignment of a cost below the given one. They may be any, so whoever borrows checks them.
     fn borrow(&mut self, below: Number, into: &mut Assignment) -> bool
         ensures kept { keeps self.old self.new }
         ensures same_lending { lends self.new ≡ lends self.old }
@@ -29,7 +29,7 @@ pub trait Share {
     ghost keeps_onward: { (s t u : Self) → keeps s t → keeps t u → keeps s u };
 }
 
-/// A share with nobody: it does nothing and does not lend.
+/// A share with nobody, so that a search alone is the same code: it does nothing and does not lend.
 #[derive(Clone, Copy)]
 pub struct Alone;
 

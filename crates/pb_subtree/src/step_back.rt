@@ -1,5 +1,5 @@
-//! Decisions are taken back though something is left to try below them. They are not made again in their order: dives find
-//! better places, and the old order would keep the search where it began.
+//! Decisions are taken back though something is left to try below them. They are not made again in their order, because dives
+//! find better places, and the old order would keep the search where it began.
 
 ghost use Rattle.pb_engine.specs.EngineState.{EngineState};
 ghost use Rattle.pb_subtree.specs.Nodes.{IsBackOnPath, IsOnPath};
@@ -11,9 +11,9 @@ use pb_engine::Coefficient;
 use pb_inst::Best;
 use pb_prune::AgreedPrefix;
 
-/// Takes back all decisions but the first so many; none of them is made again unless the order says so. What lay below them
-/// lies below the last one that is left, so what is under way stays so. Where none of them was turned to its other value,
-/// nothing that was closed is opened again.
+/// Takes back all decisions but the first `count`; none of them is made again unless the order says so. What lay below them
+/// lies below the last one that is left, so what is under way stays so. If none of them was flipped, nothing that was closed is
+/// opened again.
 pub fn step_back<C: Coefficient>(
     state: &mut SearchState<C>,
     count: usize,

@@ -17,9 +17,9 @@ use pb_control::Goal;
 use pb_engine::{Coefficient, Step};
 use pb_inst::{Best, Lit};
 
-/// Searches all solutions of the state's constraints under the assumption that the literals of the root and of the cube are true, or
-/// stops where it would need one decision more than are left, or a decision where the goal is met, or where it was about to turn to
-/// another value as often as `turns` says, where it says anything.
+/// Searches all solutions of the state's constraints under the assumption that the literals of the root and of the cube are true.
+/// It stops where it would need one decision more than are left, or any decision once the goal is met, or where it was about to
+/// flip a decision as often as `turns` says, if that is given.
 pub fn search_under<C: Coefficient, S: Share>(
     state: &mut SearchState<C>,
     root: &[Lit],
@@ -38,7 +38,7 @@ pub fn search_under<C: Coefficient, S: Share>(
     ensures broken_off { result ≡ Outcome.Cut → IsBrokenOff best.old.problem state.old.engine (root.now ++ cube.now) state.new best.new.held }
     ensures ended { IsEnded S.keeps S.lends share.old share.new goal turns state.old state.new best.old best.new left.old left.new result }
 {
-    // Before the first bound is compared: what another piece gave may close this one at its root.
+    // Before the first bound is compared, because what another piece found may close this one at its root.
     borrow(&mut state.candidate, best, share);
     state.branches.clear();
     if stand_below(&mut state.engine, root, cube) == Step::Conflict {

@@ -17,9 +17,9 @@ use pb_control::{Branch, Goal};
 use pb_engine::Coefficient;
 use pb_inst::{Best, Lit};
 
-/// Begins the search of all solutions, and stops where it was about to turn to another value as often as `turns` says. Then it writes to
-/// `root` literals that are fixed for good: each solution that comes before the best one makes them true. No more are written than
-/// there is room for.
+/// Begins the search of all solutions, and stops where it was about to flip a decision as often as `turns` says. Then it writes
+/// to `root` literals that are fixed for good: each solution that comes before the best one makes them true. No more are written
+/// than there is room for, so that it takes no memory.
 pub fn begin_whole<C: Coefficient, S: Share>(
     state: &mut SearchState<C>,
     root: &mut Vec<Lit>,
@@ -52,7 +52,7 @@ pub fn begin_whole<C: Coefficient, S: Share>(
     outcome
 }
 
-/// The literals of the decisions, from the first on, that have no other value to try, as many as there is room for.
+/// Writes the literals of the decisions, from the first on, that have no other value to try, as many as there is room for.
 fn note_fixed(path: &[Branch], root: &mut Vec<Lit>)
     requires { root.old.items ≡ [] }
     ensures fixed { (a : List Bool) → LiesOpen a path.now → MakesTrue a root.new.items }
