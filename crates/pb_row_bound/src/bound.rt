@@ -1,4 +1,5 @@
-//! The bound of disjoint rows: the base, what the trail pays, and the contributions of rows that share no variable without a value.
+//! The bound of disjoint rows: the base, what the trail pays, and the contributions of rows that share no variable without a
+//! value.
 //! Source: [C96], [MM02]
 
 ghost use Rattle.std.specs.Prelude.{◌≡◌, ◌+◌, ◌≤◌, false, length, replicate, ◌≤ℤ◌, pos, neg_ℤ};
