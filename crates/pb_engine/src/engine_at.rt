@@ -66,8 +66,8 @@ impl<C: Coefficient> Model for EngineAt<C> {
 
 impl<C: Coefficient> EngineAt<C> {
     /// The empty trail over the rows of the normal form and, for each cube in order, the clause that some literal of it is
-    /// false; a cube that contradicts itself has none. There may be `MAX_CLAUSES` cubes. It builds tables of its own, where `over`
-    /// shares those of others. Nothing after it takes memory.
+    /// false; a cube that contradicts itself has none. There may be `MAX_CLAUSES` cubes. This builds tables of its own, where
+    /// `over` shares those of others. Nothing after it takes memory.
     pub fn new(alloc: Global, form: &Form<C>, negated: &[Cube]) -> Result<EngineAt<C>, Memory>
         requires few { length negated.now ≤ MAX_CLAUSES }
         requires variables { All (λ cube. All (λ l. l.var ≤ form.now.vars) cube) negated.now }
@@ -321,7 +321,7 @@ impl<C: Coefficient> EngineAt<C> {
         }
     }
 
-    /// The literal at the place, from 0 on, of the order that was planned last. None beyond its end, and where nothing was planned.
+    /// The literal at the place, from 0 on, of the order that was planned last. None beyond its end, or without a plan.
     pub fn planned(&self, place: usize) -> Option<Lit> {
         match &self.relaxation {
             Some(relaxation) => relaxation.planned(place),
@@ -365,8 +365,8 @@ impl<C: Coefficient> EngineAt<C> {
         }
     }
 
-    /// Of the literal and its negation the one that seems to cost less by the multipliers. The literal where the rows take off its
-    /// negation many times what that costs, since the literal is soon refuted then, and where there are no multipliers.
+    /// Of the literal and its negation the one that seems to cost less by the multipliers. The literal itself where there are
+    /// none, and where the rows take off its negation many times what that costs, since the literal is soon refuted then.
     pub fn cheaper(&self, lit: Lit) -> Lit
         requires { lit.var ≤ self.now.vars }
         ensures { result.var ≡ lit.var }

@@ -54,8 +54,8 @@ pub struct Fixed {
 }
 
 /// Multipliers beside the trail of a search. Where they are used they follow the trail, and are shifted at the rows that it
-/// touches. What was shifted below an assumption is taken back with it. What they cost and what they save, in
-/// counted work, decides whether they are used.
+/// touches. What was shifted below an assumption is taken back with it. What they cost and what they save, in counted work,
+/// decides whether they are used.
 pub struct Relaxation<C: Coefficient = u64> {
     multipliers: Multipliers<C>,
     schedule: Schedule,

@@ -24,8 +24,8 @@ const SCALED_DOWN: f64 = 1e-100;
 pub struct VariableActivity {
     /// In bumps of the first conflict.
     pub activity: f64,
-    /// How many bumps a conflict adds: 1 + cost / mean cost, since without the cost one schedule of machines took 56 times
-    /// the decisions, while other instances changed little.
+    /// How many bumps a conflict adds: 1 + cost / mean cost, since without the cost one schedule of machines took 56 times the
+    /// decisions, while other instances changed little.
     pub bump: f64,
 }
 

@@ -1,6 +1,6 @@
 //! Conflict analysis, which finds what led to a conflict: the variables of the row that could not be met, and those of the
-//! rows that forced their values, each found before the trail is walked past it. What it finds is bumped, and no clause
-//! is learned. No answer depends on it, so nothing is promised.
+//! rows that forced their values, each found before the trail is walked past it. What it finds is bumped, and no clause is
+//! learned. No answer depends on it, so nothing is promised.
 //! Source: [MS99]
 
 use pb_count::Coefficient;

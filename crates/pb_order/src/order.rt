@@ -86,7 +86,7 @@ impl Order {
     /// Where nothing is minimised, the values of the assignment are tried first from now on.
     pub fn prefer(&mut self, assignment: &Assignment) {
         // It meets all constraints, and what is left to find is like it but for the variables that come first. With an
-        // objective the first values stay, since there this took between 0.3 and 2 times the decisions, and gained nothing.
+        // objective the first values stay, since there this took 0.3 to 2 times the decisions, and 0.98 times in the mean.
         if self.is_decision {
             self.follow(assignment);
         }
@@ -139,8 +139,8 @@ impl Order {
     /// less from now on.
     pub fn bump_conflict<C: Coefficient>(&mut self, propagator: &Propagator<C>) {
         // Where a row could not be met the search is hard, so its variables come sooner from now on. With an objective bounds
-        // close most nodes, and conflicts tell too little to replace what costs and rows told: there reasons and decay took
-        // 2.8 and 4.9 times the decisions on two cuts.
+        // close most nodes, and conflicts tell too little to replace what costs and rows told: there reasons and decay made
+        // two cuts take 2.8 and 4.9 times the decisions.
         let Some(row) = propagator.conflict_row() else {
             return;
         };

@@ -13,8 +13,8 @@ const CHANGES_OF_A_ROW: usize = 8;
 /// where no more can be taken back no multiplier is improved.
 const CHANGES_OF_FEW_ROWS: usize = 512;
 
-/// The most changes that few rows have room for, 512 times 512: beyond 512 rows each has less, so that the room doesn't grow
-/// beyond 4 megabytes in a form of 64 bits.
+/// The most changes that few rows have room for, 512 times 512: beyond 512 rows each has less, so that this room takes no
+/// more than 4 megabytes in a form of 64 bits.
 const MOST_CHANGES_OF_FEW_ROWS: usize = 262_144;
 
 /// How much there was before an assumption.

@@ -25,8 +25,8 @@ const PATIENCE: u32 = 10;
 const SWEEPS: u32 = 4;
 
 /// After how many nodes all rows are shifted at once, to make the first multipliers better still: no step of one row leaves a
-/// point where only several rows together gain, and there steps end on schedules and assignments. Later than the sweeps,
-/// since it is dearer.
+/// point where only several rows together gain, and there steps end on schedules and assignments. Later than the sweeps, since
+/// it is dearer.
 const LONG_PATIENCE: u32 = 20;
 
 /// How many steps of the first-order method there are then at most, so that it ends even where it gains slowly. Chosen by hand.
