@@ -16,7 +16,7 @@ use Rattle.pb_lagrange.specs.Relaxation.{IsBeside}
 use Rattle.pb_lagrange.specs.Multipliers.{MultipliersState}
 use Rattle.pb_engine.proofs.RelaxedLemmas.{beside-longer}
 
--- whoever completes a trail completes its beginning
+-- an assignment that completes a trail completes its beginning
 below-longer : (e new : EngineState) (bound : ℤ) → new.form ≡ e.form → new.rows ≡ e.rows → take (length e.trail) new.trail ≡ e.trail → IsBelowCompletions e bound → IsBelowCompletions new bound
 below-longer e new bound form rows front below = λ a whole.
     subst (λ (f : NormalForm). bound ≤ℤ normal_cost f a) (sym form)

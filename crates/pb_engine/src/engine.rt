@@ -19,7 +19,7 @@ use pb_trail::Step;
 use std::alloc::Global;
 use std::marker::Model;
 
-/// Rows, a trail over their variables with some literals assumed, and whether a conflict stands. It counts in numbers of
+/// Rows, a trail over their variables with some literals assumed, and whether a conflict stands. An engine counts in numbers of
 /// its normal form's width.
 pub struct Engine {
     at_width: Width<EngineAt<u64>, EngineAt<u128>>,
@@ -34,7 +34,7 @@ impl Model for Engine {
     ghost view = { λ e. either e.at_width };
 }
 
-// By hand, so that letting go of an engine is a call wherever it is done.
+// By hand, so that dropping an engine is one call wherever it is done.
 impl Drop for Engine {
     fn drop(self) {
         let Engine { at_width: _ } = self;
@@ -44,7 +44,7 @@ impl Drop for Engine {
 impl Engine {
     /// The empty trail over the rows of the normal form and, for each cube in order, the clause that some literal of it is
     /// false; a cube that contradicts itself has none. Nothing after it takes memory. `Memory` says that a growth of memory
-    /// was refused; it always is for more than `MAX_CLAUSES` cubes, whose clauses there are no numbers for.
+    /// was refused; it always is for more than `MAX_CLAUSES` cubes, since there are no numbers for the clauses of more.
     pub fn new(alloc: Global, normal: &Normal, negated: &[Cube]) -> Result<Engine, Memory>
         requires variables { All (λ cube. All (λ l. l.var ≤ normal.now.vars) cube) negated.now }
         ensures form { IfOk result (λ e. (e.form ≡ normal.now) × (e.vars ≡ normal.now.vars)) }
@@ -141,9 +141,9 @@ impl Engine {
         }
     }
 
-    /// The base, what the trail pays, and the contributions of rows that share no variable without a value: at most the cost of every
-    /// completion of the trail; from `-SUM_BOUND` to `SUM_BOUND`. It leaves the trail and the conflict as they are, and takes
-    /// no memory.
+    /// The base, what the trail pays, and the contributions of rows that share no variable without a value: at most the cost of
+    /// every completion of the trail; from `-SUM_BOUND` to `SUM_BOUND`. It leaves the trail and the conflict as they are, and
+    /// takes no memory.
     pub fn bound(&mut self) -> Number
         ensures value { result ≡ disjoint_bound self.old.form self.old.rows self.old.trail }
         ensures bound { IsLowerBound self.old.form self.old.rows self.old.trail result }
@@ -157,7 +157,7 @@ impl Engine {
     }
 }
 
-/// The refusal of a request for more bytes than there are addresses, which no memory meets.
+/// The refusal of a request for as many bytes as there are addresses, which no allocator grants.
 fn beyond_all_memory(alloc: Global) -> Memory {
     match Vec::<u8>::with_capacity(alloc, usize::MAX) {
         Ok(_) => unreachable!(),

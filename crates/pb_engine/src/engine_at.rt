@@ -1,4 +1,4 @@
-//! A trail with assumptions, what follows from them, and a lower bound of what its completions cost.
+//! A trail with assumptions, what follows from them, and a lower bound on what its completions cost.
 
 ghost use Rattle.std.specs.Prelude.{◌≡◌, ◌+◌, ◌<◌, ◌≤◌, [], ◌++◌, false, true, length, take, None, All, IfOk, IfSome, slice_index_or, ◌≤ℤ◌, pos, neg_ℤ, List};
 ghost use Rattle.pb_inst.specs.declared.limits.TheConstants.{SUM_BOUND};
@@ -24,19 +24,20 @@ use pb_trail::{Propagator, Step};
 use std::alloc::Global;
 use std::marker::Model;
 
-/// Rows, a trail over their variables with some literals assumed, and whether a conflict stands. It counts in numbers of
+/// Rows, a trail over their variables with some literals assumed, and whether a conflict stands. An engine counts in numbers of
 /// type `C`, the width of its normal form.
 pub struct EngineAt<C: Coefficient = u64> {
     propagator: Propagator<C>,
     deficits: Deficits<C>,
     marks: Marks,
-    /// Multipliers for a second lower bound, where its costs have a scale and not all is clauses. The view leaves them out.
+    /// Multipliers for a second lower bound. There are none where the costs have no scale, or where there is no objective and all
+    /// rows are clauses. The view leaves them out.
     relaxation: Option<Relaxation<C>>,
-    /// The last bound of the trail or of its beginning, if one was taken since literals were last taken back.
+    /// The last bound of the trail or of its beginning, if one was computed since literals were last taken back.
     standing: Option<Number>,
 }
 
-// By hand, so that whoever lets go of an engine sees one call, and not each of its parts.
+// By hand, so that a caller that drops an engine sees one call, and not each of its parts.
 impl<C: Coefficient> Drop for EngineAt<C> {
     fn drop(self) {
         let EngineAt {
@@ -65,7 +66,8 @@ impl<C: Coefficient> Model for EngineAt<C> {
 
 impl<C: Coefficient> EngineAt<C> {
     /// The empty trail over the rows of the normal form and, for each cube in order, the clause that some literal of it is
-    /// false; a cube that contradicts itself has none. There may be `MAX_CLAUSES` cubes. It builds tables of its own; `over` takes a share of others. Nothing after it takes memory.
+    /// false; a cube that contradicts itself has none. There may be `MAX_CLAUSES` cubes. This builds tables of its own, where
+    /// `over` shares those of others. Nothing after it takes memory.
     pub fn new(alloc: Global, form: &Form<C>, negated: &[Cube]) -> Result<EngineAt<C>, Memory>
         requires few { length negated.now ≤ MAX_CLAUSES }
         requires variables { All (λ cube. All (λ l. l.var ≤ form.now.vars) cube) negated.now }
@@ -77,7 +79,7 @@ impl<C: Coefficient> EngineAt<C> {
         EngineAt::over(alloc, source)
     }
 
-    /// The empty trail over rows and clauses that are there. Nothing after it takes memory.
+    /// The empty trail over rows and clauses whose tables are built already. Nothing after it takes memory.
     pub fn over(alloc: Global, tables: TablesSource<C>) -> Result<EngineAt<C>, Memory>
         ensures { IfOk result (λ e. e ≡ record { form = tables.form; vars = tables.vars; rows = tables.rows; trail = []; levels = []; conflict = false }) }
     {
@@ -142,7 +144,7 @@ impl<C: Coefficient> EngineAt<C> {
         self.propagator.literal(place)
     }
 
-    /// The trail and the rows themselves, which tell too at which row a conflict was found, and which rows forced literals.
+    /// The trail and the rows themselves, which also tell at which row a conflict was found, and which rows forced literals.
     pub fn propagator(&self) -> &Propagator<C>
         ensures { result.now ≡ self.now }
     {
@@ -169,8 +171,9 @@ impl<C: Coefficient> EngineAt<C> {
         }
     }
 
-    /// Tells that nothing is left to try in place of the last assumption: its negation was tried, or has nothing to give. Where
-    /// that is so of all assumptions, the multipliers are worked on beside the trail that they lead to. No more than a hint.
+    /// Tells that nothing is left to try in place of the last assumption: its negation was tried, or can lead to nothing better.
+    /// While that holds of the first assumptions without a gap, their trail counts as the root's, beside which multipliers are
+    /// improved for good. No more than a hint.
     pub fn settle_last(&mut self)
         ensures { self.new ≡ self.old }
     {
@@ -187,9 +190,9 @@ impl<C: Coefficient> EngineAt<C> {
         self.propagator.propagate()
     }
 
-    /// The base, what the trail pays, and the contributions of rows that share no variable without a value: at most the cost of every
-    /// completion of the trail; from `-SUM_BOUND` to `SUM_BOUND`. It leaves the trail and the conflict as they are, and takes
-    /// no memory.
+    /// The base, what the trail pays, and the contributions of rows that share no variable without a value: at most the cost of
+    /// every completion of the trail; from `-SUM_BOUND` to `SUM_BOUND`. It leaves the trail and the conflict as they are, and
+    /// takes no memory.
     pub fn bound(&mut self) -> Number
         ensures value { result ≡ disjoint_bound self.old.form self.old.rows self.old.trail }
         ensures bound { IsLowerBound self.old.form self.old.rows self.old.trail result }
@@ -203,7 +206,7 @@ impl<C: Coefficient> EngineAt<C> {
         bound
     }
 
-    /// The last bound that was taken of the trail or of its beginning, unless literals were taken back since: no completion
+    /// The last bound that was computed of the trail or of its beginning, unless literals were taken back since: no completion
     /// costs less, since each completes the beginning too. It looks at no row.
     pub fn standing_bound(&self) -> Option<Number>
         ensures { IfSome result (IsBelowCompletions self.now) }
@@ -297,7 +300,7 @@ impl<C: Coefficient> EngineAt<C> {
     }
 
     /// By how much the bound of the multipliers at the node that was judged last may rise before it is over the limit, and at
-    /// most 2^64 - 1; none where there were none. A measure to compare nodes by, and no more than a hint.
+    /// most 2^64 - 1; none where no multipliers were used there. A measure to compare nodes by, and no more than a hint.
     pub fn gap(&self, limit: Number) -> Option<u64> {
         match &self.relaxation {
             Some(relaxation) => relaxation.gap(limit),
@@ -306,7 +309,7 @@ impl<C: Coefficient> EngineAt<C> {
     }
 
     /// Plans in which order the variables without a value may be decided, where there are multipliers: by a point of least cost
-    /// beside the trail, approached by so many steps from the last one. It leaves the trail and the conflict as they are, and
+    /// beside the trail, which `steps` steps approach from the last one. It leaves the trail and the conflict as they are, and
     /// takes no memory.
     pub fn plan(&mut self, steps: u32)
         ensures { self.new ≡ self.old }
@@ -318,7 +321,7 @@ impl<C: Coefficient> EngineAt<C> {
         }
     }
 
-    /// What is at the place, from 0 on, of the order that was planned last. None behind its end, and where nothing was planned.
+    /// The literal at the place, from 0 on, of the order that was planned last. None beyond its end, or without a plan.
     pub fn planned(&self, place: usize) -> Option<Lit> {
         match &self.relaxation {
             Some(relaxation) => relaxation.planned(place),
@@ -336,7 +339,7 @@ impl<C: Coefficient> EngineAt<C> {
         }
     }
 
-    /// A question of its own begins: what multipliers cost those before, and did not save, counts no more. No more than a hint.
+    /// A new question begins: what multipliers cost earlier ones, and did not save, counts no more. No more than a hint.
     pub fn begin_question(&mut self)
         ensures { self.new ≡ self.old }
     {
@@ -345,7 +348,7 @@ impl<C: Coefficient> EngineAt<C> {
         }
     }
 
-    /// Multipliers are to be improved by the first-order method once more. No more than a hint.
+    /// Asks that multipliers be improved by the first-order method once more. No more than a hint.
     pub fn renew(&mut self)
         ensures { self.new ≡ self.old }
     {
@@ -362,8 +365,8 @@ impl<C: Coefficient> EngineAt<C> {
         }
     }
 
-    /// Of the literal and its negation the one that seems to cost less by the multipliers, unless its rows call for it so much
-    /// that the other one is soon refuted; the literal where there are no multipliers.
+    /// Of the literal and its negation the one that seems to cost less by the multipliers. The literal itself where there are
+    /// none, and where the rows take off its negation many times what that costs, since the literal is soon refuted then.
     pub fn cheaper(&self, lit: Lit) -> Lit
         requires { lit.var ≤ self.now.vars }
         ensures { result.var ≡ lit.var }
@@ -378,7 +381,7 @@ impl<C: Coefficient> EngineAt<C> {
 }
 
 /// Multipliers for the rows of the form, where the costs have a scale. Without an objective there are none where all rows are
-/// clauses: each variable at a half meets those that have two literals, so no multipliers tell that nothing does.
+/// clauses: with each variable at a half, every clause of two literals or more is met, so no multipliers tell that nothing does.
 fn relaxation_over<C: Coefficient>(
     alloc: Global,
     form: &Form<C>,

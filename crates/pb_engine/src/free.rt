@@ -20,7 +20,7 @@ pub fn is_free<C: Coefficient>(engine: &EngineAt<C>, vars: u32, lit: Lit) -> boo
     engine.value(lit.var()).is_none()
 }
 
-/// The negated lowest variable without a value among the first `count`, or none where each of them has one.
+/// The negative literal of the lowest variable without a value among the first `count`, or none where each of them has one.
 pub fn lowest_free<C: Coefficient>(engine: &EngineAt<C>, count: u32) -> Option<Lit>
     requires variables { count ≤ engine.now.vars }
     requires few { count ≤ MAX_VARS }
@@ -34,8 +34,8 @@ pub fn lowest_free<C: Coefficient>(engine: &EngineAt<C>, count: u32) -> Option<L
     Lit::new(settled + 1, false).ok()
 }
 
-/// How many variables come before the first one, after the first `from`, that has no value; where none of the first `end`
-/// is without one, `end` or `from`.
+/// How many variables come before the first one without a value, where the first `from` are passed over and those after the
+/// first `end` are not looked at; where there is none, the greater of `from` and `end`.
 pub fn settled_from<C: Coefficient>(engine: &EngineAt<C>, from: u32, end: u32) -> u32
     requires variables { end ≤ engine.now.vars }
     ensures free { result < end → value_on engine.now.trail (result + 1) ≡ None }

@@ -1,4 +1,4 @@
-//! A trail over the rows of a normal form, what follows from it, and a lower bound of the cost of its completions.
+//! A trail over the rows of a normal form, what follows from it, and a lower bound on the cost of its completions.
 #![tactic(auto)]
 
 mod engine;

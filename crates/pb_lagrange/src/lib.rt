@@ -1,9 +1,10 @@
 //! Multipliers that follow a search: which rows are shifted, when, and how far.
 //!
-//! What follows from any multipliers is promised by `pb_dual`; this crate proposes them. It promises that form and trail
-//! stay, and hands on what `Multipliers` tells: that a raised bound is still one (`Relaxation::raise`), that a fixed
-//! literal is forced (`Relaxation::fixed_literal`), and that nothing completes a trail of which `Relaxation::improve_multipliers` says so.
-//! Nothing else of the crate carries a promise, so another recipe changes no proof above.
+//! `pb_dual` promises what follows from any multipliers; this crate proposes them. It promises that form and trail stay, and
+//! hands on what `Multipliers` tells: that a raised bound is still a lower bound (`Relaxation::raise`), that a fixed literal is
+//! forced (`Relaxation::fixed_literal`), and that nothing completes a trail of which `Relaxation::improve_multipliers` says so.
+//! Nothing else in the crate carries a promise, so another recipe changes no proof above.
+//! Source: [G74]
 #![tactic(auto)]
 
 mod effort;

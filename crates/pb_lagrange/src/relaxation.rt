@@ -1,5 +1,6 @@
 //! Multipliers that follow a search: when they are used, and what they put in place of a bound. No answer depends on which
-//! they are; what follows from any multipliers is told by `Multipliers`.
+//! multipliers they are; `Multipliers` tells what follows from any.
+//! Source: [G74]
 
 mod levels;
 mod reduced_cost_fixing;
@@ -30,15 +31,17 @@ use std::marker::Model;
 use steps::Steps;
 use sweeps::Sweeps;
 
-/// How many literals below the root's are far below it: the multipliers of a place so far away are a worse beginning for all
-/// rows at once than the root's.
+/// How many literals beyond the root's part the trail must have for the search to count as far below it. There its multipliers
+/// are a worse start for all rows at once than the root's, since many of them suit the decisions alone. 256 was chosen by hand.
 const FAR: usize = 256;
 
-/// How many times what a literal costs its rows take off it, beside that itself, where they call for it. Where some costs are
-/// half a million times others, trying its negation first saves most of the search.
+/// How many times its cost, beyond that cost itself, the rows of a literal must take off it to call for it. Where some costs are
+/// half a million times others, trying its negation first saves most of the search: 3,285 to 12,884 decisions in place of
+/// 233,250 to 416,207 on questions over 1,000 packages.
 const MANY_TIMES: u64 = 8;
 
-/// About how many variables are looked through for a literal to fix in the time of a term.
+/// About how many variables are looked through for a literal to fix in the time of a term, so that both are counted in one
+/// unit. An estimate.
 const VARIABLES_OF_A_TERM: u32 = 8;
 
 /// A literal that the multipliers fix, and their bound of the trail at that moment.
@@ -51,7 +54,8 @@ pub struct Fixed {
 }
 
 /// Multipliers beside the trail of a search. Where they are used they follow the trail, and are shifted at the rows that it
-/// touches. What was shifted below an assumption is taken back with it. Their effort, beside what they save, tells where they are used.
+/// touches. What was shifted below an assumption is taken back with it. What they cost and what they save, in counted work,
+/// decides whether they are used.
 pub struct Relaxation<C: Coefficient = u64> {
     multipliers: Multipliers<C>,
     schedule: Schedule,
@@ -66,11 +70,11 @@ pub struct Relaxation<C: Coefficient = u64> {
     counted: usize,
     /// Whether they were used at the node where the search is.
     is_used: bool,
-    /// Whether they were used at the node that was judged last, be it above the one where the search is.
+    /// Whether they were used at the node that was judged last, even if the search has gone below it since.
     was_used: bool,
 }
 
-// By hand, as that of `Multipliers`.
+// By hand, as for `Multipliers`.
 impl<C: Coefficient> Drop for Relaxation<C> {
     fn drop(self) {
         let Relaxation {
@@ -112,7 +116,7 @@ impl<C: Coefficient> Relaxation<C> {
         }
     }
 
-    /// The same with these multipliers.
+    /// These multipliers, with all that decides when they are used.
     fn beside(
         alloc: Global,
         form: &Form<C>,
@@ -144,13 +148,14 @@ impl<C: Coefficient> Relaxation<C> {
     }
 
     /// The bound, or that of the multipliers where they are used and it is greater. Where the latter is below the goal, the
-    /// rows that the trail touched since the last time are stepped at first. Where it alone would reach the goal it is left
-    /// out now and then, to see what it saves.
+    /// rows that the trail touched since the last time are stepped first. Where it alone would reach the goal, it is left out
+    /// now and then, to see what it saves.
     pub fn raise(&mut self, trail: &TrailView<'_, C>, bound: Number, goal: Number) -> Number
         requires { IsBeside trail.now.form trail.now.trail self.old }
         ensures bound { (result ≡ bound) ⊎ ((bound ≤ℤ result) × IsBelowCosts trail.now.form trail.now.trail result) }
         ensures beside { IsBeside trail.now.form trail.now.trail self.new }
     {
+        // Without an objective multipliers serve to refute alone, so they have no bound to put in place of this one.
         if self.refuting.is_some() {
             return bound;
         }
@@ -187,6 +192,7 @@ impl<C: Coefficient> Relaxation<C> {
 
     /// Whether the multipliers tell that nothing completes the trail, where there is no objective. They are looked for beside
     /// the root's trail, a few times at most, and used only if they refute that: then they refute each trail beyond it too.
+    /// Following the search with them took 12 times the instructions on random clauses.
     fn refute(&mut self, trail: &TrailView<'_, C>, refuting: Refuting) -> bool
         requires { IsBeside trail.now.form trail.now.trail self.old }
         ensures no_completion { result ≡ true → HasNoCompletion trail.now.form.rows trail.now.trail }
@@ -208,7 +214,7 @@ impl<C: Coefficient> Relaxation<C> {
         self.confirm(trail, refuting)
     }
 
-    /// Whether the multipliers that were found refute the trail. Where they do not, they are of another root.
+    /// Whether the multipliers that were found refute the trail. Where they do not, they were found beside another root.
     fn confirm(&mut self, trail: &TrailView<'_, C>, refuting: Refuting) -> bool
         requires { IsBeside trail.now.form trail.now.trail self.old }
         ensures no_completion { result ≡ true → HasNoCompletion trail.now.form.rows trail.now.trail }
@@ -229,6 +235,7 @@ impl<C: Coefficient> Relaxation<C> {
         ensures beside { IsBeside trail.now.form trail.now.trail self.new }
     {
         self.count_node(trail.len());
+        // Whatever the effort says, since it may be this shift that makes multipliers pay.
         if self.sweeps.is_shift_due() {
             self.shift_all(trail, goal);
         }
@@ -246,8 +253,8 @@ impl<C: Coefficient> Relaxation<C> {
         true
     }
 
-    /// Shifts all rows at once beside the root's trail, and counts them as it leaves them. Where the search's place is far below
-    /// it, its multipliers are no beginning, and the root's are.
+    /// Shifts all rows at once beside the root's trail. Where the search is far below the root, it starts from the root's
+    /// multipliers, since those of a far place are a worse start.
     fn shift_all(&mut self, trail: &TrailView<'_, C>, goal: Number)
         requires { IsBeside trail.now.form trail.now.trail self.old }
         ensures { IsBeside trail.now.form trail.now.trail self.new }
@@ -260,12 +267,14 @@ impl<C: Coefficient> Relaxation<C> {
             };
             self.take_back_to(changes);
         }
+        // Saturated first, or else the root's bound may stay well below the least cost: it did by 2 and 3 on package questions.
         self.multipliers.saturate();
         self.sweeps
             .shift_all(&mut self.multipliers, &mut self.steps, goal);
     }
 
-    /// Steps all rows beside the root's trail.
+    /// Steps all rows beside the root's trail, since its literals hold for the rest of the search: first multipliers that were
+    /// stepped beside no literal left a package question open after 20 seconds.
     fn step_all(&mut self, trail: &TrailView<'_, C>)
         requires { IsBeside trail.now.form trail.now.trail self.old }
         ensures { IsBeside trail.now.form trail.now.trail self.new }
@@ -275,7 +284,7 @@ impl<C: Coefficient> Relaxation<C> {
             .step_all(&mut self.multipliers, &mut self.steps, &mut self.effort);
     }
 
-    /// Follows the trail to the end of the root's, and no further.
+    /// Follows the trail to the end of the root's part, and no further.
     fn return_to_root(&mut self, trail: &TrailView<'_, C>)
         requires { IsBeside trail.now.form trail.now.trail self.old }
         ensures { IsBeside trail.now.form trail.now.trail self.new }
@@ -288,8 +297,8 @@ impl<C: Coefficient> Relaxation<C> {
         self.multipliers.unassign_to(length);
     }
 
-    /// Plans in which order the variables without a value may be decided, by a point of least cost beside the trail that is
-    /// approached by so many steps from the last one.
+    /// Plans in which order the variables without a value may be decided, by a point of least cost beside the trail that `steps`
+    /// steps approach from the last one.
     pub fn plan(&mut self, trail: &TrailView<'_, C>, steps: u32)
         requires { IsBeside trail.now.form trail.now.trail self.old }
         ensures { IsBeside trail.now.form trail.now.trail self.new }
@@ -298,19 +307,20 @@ impl<C: Coefficient> Relaxation<C> {
         self.sweeps.plan(&self.multipliers, steps);
     }
 
-    /// What is at the place, from 0 on, of the order that was planned last.
+    /// The literal at the place, from 0 on, of the order that was planned last.
     pub fn planned(&self, place: usize) -> Option<Lit> {
         self.sweeps.planned(place)
     }
 
-    /// A search begins: its nodes are counted from here.
+    /// A search begins: its nodes are counted from here on.
     pub fn begin_search(&mut self)
         ensures { self.new ≡ self.old }
     {
         self.sweeps.begin_search();
     }
 
-    /// A question of its own begins: what multipliers cost those before, and did not save, counts no more.
+    /// A new question begins: what multipliers cost earlier ones, and did not save, counts no more, or else this question would
+    /// pay for them.
     pub fn begin_question(&mut self)
         ensures { self.new ≡ self.old }
     {
@@ -324,7 +334,7 @@ impl<C: Coefficient> Relaxation<C> {
         self.sweeps.renew();
     }
 
-    /// Counts a node of the search whose trail has so many literals.
+    /// Counts a node of the search, with `length` literals on its trail.
     fn count_node(&mut self, length: usize)
         ensures { self.new ≡ self.old }
     {
@@ -336,7 +346,8 @@ impl<C: Coefficient> Relaxation<C> {
         self.counted = length;
     }
 
-    /// Whether a bound that reaches the goal is left out, to see what it saves. The multipliers then rest below the node.
+    /// Whether a bound that reaches the goal is left out, to see what it saves. Below such a node the multipliers are not used,
+    /// or else the trial would not tell what the search costs without them.
     fn is_tried(&mut self, relaxed: Number, goal: Number) -> bool
         ensures { self.new ≡ self.old }
     {
@@ -349,7 +360,7 @@ impl<C: Coefficient> Relaxation<C> {
     }
 
     /// The bound of the multipliers as they are, where they were used at the node that was judged last. They follow the trail,
-    /// but no row is touched by that: what is asked for here is taken back at once.
+    /// but touch no row by that, since what is assumed for this bound is taken back at once.
     pub fn bound_at_hand(&mut self, trail: &TrailView<'_, C>) -> Option<Number>
         requires { IsBeside trail.now.form trail.now.trail self.old }
         ensures bound { IfSome result (IsBelowCosts trail.now.form trail.now.trail) }
@@ -386,7 +397,8 @@ impl<C: Coefficient> Relaxation<C> {
         Some(Fixed { lit, bound })
     }
 
-    /// The literal alone, once the trail is followed. At the root all variables are looked at, and below it some of them.
+    /// The fixed literal alone, once the trail is followed. At the root all variables are looked at, since what is fixed there
+    /// stays; below it only some of them, so that a node costs little.
     fn find_fixed(&mut self, limit: Number) -> Option<Lit>
         ensures fixed { IfSome result (IsFixed self.old.form self.old.trail limit) }
         ensures unchanged { self.new ≡ self.old }
@@ -420,14 +432,15 @@ impl<C: Coefficient> Relaxation<C> {
         None
     }
 
-    /// Whether the multipliers have saved what they cost, in counted work. Without an objective they are no measure.
+    /// Whether the multipliers have saved what they cost, in counted work. Never without an objective, since there they have no
+    /// bound by which decisions could gain.
     pub fn pays(&self) -> bool {
         self.refuting.is_none() && self.effort.pays()
     }
 
-    /// Of the literal and its negation, which costs so much, the one whose reduced cost is less, where the multipliers are used at
-    /// the node; else the literal. Where the rows take off the negation many times what it costs, the literal comes first all
-    /// the same: below it a bound soon closes the subtree, and the negation is as good as forced then.
+    /// Of the literal and its negation, which costs `cost`, the one whose reduced cost is less, where the multipliers are used at
+    /// the node; else the literal. Where the rows take off the negation many times its cost, the literal comes first all the
+    /// same, since a bound soon closes the subtree below it, and the negation is as good as forced then.
     pub fn cheaper(&self, lit: Lit, cost: Counter<C>) -> Lit
         requires { lit.var ≤ self.now.form.vars }
         ensures { result.var ≡ lit.var }
@@ -441,7 +454,7 @@ impl<C: Coefficient> Relaxation<C> {
         lit.negate()
     }
 
-    /// Whether the rows take off a literal that costs so much many times that.
+    /// Whether the rows take off the literal, which costs `cost`, many times that.
     fn is_called_for(&self, lit: Lit, cost: Counter<C>) -> bool
         requires { lit.var ≤ self.now.form.vars }
     {
@@ -488,26 +501,27 @@ impl<C: Coefficient> Relaxation<C> {
         Some(row)
     }
 
-    /// An assumption is made on a trail of so many literals: what is shifted from now on goes with it.
+    /// An assumption is made on a trail of `length` literals: what is shifted from now on is taken back with it.
     pub fn begin_level(&mut self, length: usize)
         ensures { self.new ≡ self.old }
     {
         self.levels.push(self.multipliers.changes(), length);
     }
 
-    /// Nothing is left to try in place of the last assumption. Where that is so of all before it too, it is the root's.
+    /// Nothing is left to try in place of the last assumption. Where that holds of all before it too, it is the root's.
     pub fn settle_last(&mut self)
         ensures { self.new ≡ self.old }
     {
         self.levels.settle_last();
     }
 
-    /// The trail has so many literals left, and so many assumptions.
+    /// The trail is back at `length` literals, of which `level` are assumptions.
     pub fn undo_to(&mut self, level: usize, length: usize)
         ensures form { self.new.form ≡ self.old.form }
         ensures trail { self.new.trail ≡ take length self.old.trail }
     {
         self.multipliers.unassign_to(length);
+        // Shifts that were kept below other decisions made searches take 1.1 to 11 times the decisions.
         if let Some(mark) = self.levels.cut(level) {
             self.take_back_to(mark);
         }
@@ -517,7 +531,7 @@ impl<C: Coefficient> Relaxation<C> {
         self.reduced_cost_fixing.forget();
     }
 
-    /// Takes back the changes of multipliers until so many are left, and touches their rows: below the next decision their
+    /// Takes back the changes of multipliers until `mark` are left, and touches their rows, since below the next decision their
     /// best multipliers may be others again.
     fn take_back_to(&mut self, mark: usize)
         ensures { IsSameButShifted self.old self.new }
@@ -525,7 +539,7 @@ impl<C: Coefficient> Relaxation<C> {
         while self.take_back_above(mark) {}
     }
 
-    /// Takes back the last change where there are more than so many, and touches its row. Answers whether it did.
+    /// Takes back the last change where there are more than `mark`, and touches its row. Answers whether it did.
     fn take_back_above(&mut self, mark: usize) -> bool
         ensures same { IsSameButShifted self.old self.new }
         ensures fewer { result ≡ true → length self.new.changes < length self.old.changes }
@@ -549,7 +563,7 @@ impl<C: Coefficient> Relaxation<C> {
         }
     }
 
-    /// Follows the trail for one literal.
+    /// Follows the trail by one literal.
     fn follow_quietly(&mut self, trail: &TrailView<'_, C>)
         requires beside { IsBeside trail.now.form trail.now.trail self.old }
         requires more { length self.old.trail < length trail.now.trail }
@@ -562,7 +576,7 @@ impl<C: Coefficient> Relaxation<C> {
         self.multipliers.assign(lit);
     }
 
-    /// Follows the trail for one literal, and notes the rows of its variable.
+    /// Follows the trail by one literal, and touches the rows of its variable, since their best multipliers may be others now.
     fn follow(&mut self, trail: &TrailView<'_, C>)
         requires beside { IsBeside trail.now.form trail.now.trail self.old }
         requires more { length self.old.trail < length trail.now.trail }

@@ -1,6 +1,7 @@
 //! Conflict analysis, which finds what led to a conflict: the variables of the row that could not be met, and those of the
-//! rows that forced their values, each found before the trail is walked past it. No answer depends on it, so nothing is
-//! promised.
+//! rows that forced their values, each found before the trail is walked past it. What it finds is bumped, and no clause is
+//! learned. No answer depends on it, so nothing is promised.
+//! Source: [MS99]
 
 use pb_count::Coefficient;
 use pb_inst::{Lit, Memory};
@@ -8,7 +9,7 @@ use pb_rows::RowTerms;
 use pb_trail::Propagator;
 use std::alloc::Global;
 
-/// What one conflict takes of the stamps: one for what is known to have led to it, and one for what was walked past.
+/// How many stamps a conflict takes: one for the variables known to have led to it, and one for those walked past.
 const STAMPS_OF_A_CONFLICT: u32 = 2;
 
 /// The variables that are known to have led to a conflict, while the trail is walked back from its end. What is known of a
@@ -25,7 +26,7 @@ pub struct ConflictAnalysis {
 }
 
 impl ConflictAnalysis {
-    /// None is known, of so many variables.
+    /// None of the `vars` variables is known to have led to a conflict.
     pub fn new(alloc: Global, vars: u32) -> Result<ConflictAnalysis, Memory> {
         let stamps = vec![in alloc; 0; vars as usize]?;
         Ok(ConflictAnalysis {
@@ -44,7 +45,7 @@ impl ConflictAnalysis {
         }
     }
 
-    /// All stamps were used: they are taken off, and the first ones are given again.
+    /// All stamps are used up: those of the variables are cleared, since numbers are given anew from the first on.
     fn begin_again(&mut self) {
         for stamp in self.stamps.iter_mut() {
             *stamp = 0;
@@ -79,6 +80,7 @@ impl ConflictAnalysis {
             return false;
         };
         let is_known = *stamp == self.known;
+        // Each variable that is walked past is stamped, so that no row added later can ask the walk to meet it again.
         *stamp = self.known.saturating_add(1);
         if is_known {
             self.waiting = self.waiting.saturating_sub(1);
@@ -87,7 +89,7 @@ impl ConflictAnalysis {
     }
 
     /// The literal's variable led to the conflict, if the literal is false and was not walked past. A row with coefficients may
-    /// have literals that became false after it forced one: they have no part in that.
+    /// have literals that became false after it forced one; these are left out, since they had no part in it.
     fn add<C: Coefficient>(&mut self, propagator: &Propagator<C>, lit: Lit) {
         if propagator.value(lit.var()) == Some(!lit.positive())
             && let Some(stamp) = self.stamps.get_mut(lit.var() as usize - 1)

@@ -48,7 +48,7 @@ false_in_completion a trail l makes some off = elim (cases_Bool (is_true trail (
   | inr also ↦ absurd (let on = true_or_false trail l.var l.positive (set_value trail l.var some) also in let none : ⊥ = cc in none)
 ]
 
--- what a completion makes of a row is what can be had at no cost and what its costly literals are worth
+-- what a row reaches in a completion is at most what can be had at no cost, and what its costly literals are worth
 row_value : (a : List Bool) (objective : List PositiveTerm) (trail : List Literal) (terms : List PositiveTerm) → MakesTrue a trail → positive_value a terms ≤ spare objective trail terms + worth (literal_value a) (costly objective trail terms)
 unfolding spare
 row_value a objective trail [] makes = omega arith

@@ -45,7 +45,7 @@ price_at_least f objective k (t ∷ terms) all =
     let both : k * number f (t ∷ terms) ≡ k * (f t.lit + number f terms) = ap (λ (n : ℕ). k * n) (sum_by-cons (λ (u : PositiveTerm). f u.lit) t terms) in
     omega (arith, sum_by-cons (λ (u : PositiveTerm). weight_of u.lit objective * f u.lit) t terms)
 
--- what starts a greatest number is at most it
+-- a greatest number is at least what it starts with
 fold_from : (most : ℕ) (terms : List PositiveTerm) → most ≤ fold (λ (m : ℕ) (t : PositiveTerm). max m t.coef) most terms
 fold_from most [] = omega arith
 fold_from most (t ∷ terms) = omega (arith, fold_from (max most t.coef) terms)
@@ -87,7 +87,7 @@ enough_of n g q some reach = elim (cases_lt 0 g) [
   | inr nought ↦ (let zero_g : g ≡ 0 = omega arith in let product : g * q ≡ 0 = rw zero_g (omega arith) in absurd (omega arith))
 ]
 
--- whoever counts enough literals to reach the need pays the contribution
+-- a count of literals that reaches the need pays the contribution
 pub contribution_at_most : (f : Literal → ℕ) (objective : List PositiveTerm) (n : ℕ) (terms : List PositiveTerm) → (n ≤ sum_by (λ (t : PositiveTerm). t.coef) terms → n ≤ worth f terms) → contribution_of objective n terms ≤ price f objective terms
 contribution_at_most f objective n terms enough = elim (cases_Bool (nat_lt 0 n && not (nat_lt (sum_by (λ (t : PositiveTerm). t.coef) terms) n))) [
   | inl yes' ↦
@@ -183,7 +183,7 @@ pub costly-nil : (objective : List PositiveTerm) (trail : List Literal) → cost
 unfolding costly
 costly-nil objective trail = refl
 
--- the terms are of the variables 1 to n
+-- the terms are over the variables 1 to n
 abbrev pub AreWithin : ℕ → List PositiveTerm → Type 0
 AreWithin n terms = All (λ t. (1 ≤ t.lit.var) × (t.lit.var ≤ n)) terms
 
@@ -287,7 +287,7 @@ row_contribution f objective trail row enough = contribution_at_most f objective
 abbrev pub AreDisjointable : ℕ → List PositiveRow → Type 0
 AreDisjointable n rows = All (λ row. AreRising row.terms × AreWithin n row.terms) rows
 
--- whoever counts enough in every row pays all contributions beside what is covered already
+-- a count that reaches the need of every row pays all contributions, beside what is covered already
 pub row_contributions_at_most : (f : Literal → ℕ) (objective : List PositiveTerm) (trail : List Literal) (rows : List PositiveRow) (marks : List Bool) → All (λ (t : PositiveTerm). 1 ≤ t.lit.var) objective → AreDisjointable (length marks) rows → All (Suffices f objective trail) rows → MarksFree trail marks → row_contributions objective trail marks rows + covered f marks objective ≤ open_worth f trail objective
 row_contributions_at_most f objective trail [] marks low rows_are enough free = omega (arith, covered_at_most f trail marks objective low free)
 row_contributions_at_most f objective trail (row ∷ rows) marks low rows_are enough free =

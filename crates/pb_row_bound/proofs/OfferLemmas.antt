@@ -75,7 +75,7 @@ none_of objective trail marks offer t = by_cases (is_free trail t.lit) (is_marke
     by_cases true false false h = absurd (let none : ⊥ = cc in none)
     by_cases false b d h = absurd (let none : ⊥ = cc in none)
 
--- where a term is of a marked variable the row shares a variable
+-- where a term is over a marked variable the row shares a variable
 pub offer-met : (objective : List PositiveTerm) (trail : List Literal) (marks : List Bool) (terms : List PositiveTerm) (i : ℕ) (t : PositiveTerm) (offer : Offer) → i < length terms → t ≡ get_or terms i t → offer_joined objective trail marks offer t ≡ None → meets_marks trail marks terms ≡ true
 offer-met objective trail marks terms i t offer h read none =
     meets-at trail marks terms i t h (subst (λ (u : PositiveTerm). (is_free trail u.lit && is_marked marks u.lit) ≡ true) read (none_of objective trail marks offer t none))

@@ -55,7 +55,8 @@ cheapest objective start terms = fold (λ least t. min least (weight_of t.lit ob
 abbrev pub top_cost : ℕ
 top_cost = 340282366920938463463374607431768211455
 
--- what a row adds to the bound: the least number of costly literals that can reach its need, times the least cost of one; 0 where nothing is needed, or all of them don't reach it
+-- what a row adds to the bound: the least number of costly literals that can reach its need, times the least cost of one; 0
+-- where nothing is needed, or where all of them together don't reach it
 abbrev pub contribution_of : List PositiveTerm → ℕ → List PositiveTerm → ℕ
 contribution_of objective needed terms =
     if nat_lt 0 needed && not (nat_lt (total_coefficient terms) needed) then div_ceil needed (greatest terms) * cheapest objective top_cost terms else 0

@@ -7,7 +7,8 @@ use Rattle.pb_normal.specs.NormalForm.{total_coefficient}
 use Rattle.pb_row_bound.specs.DisjointRows.{has_cost, is_free, costly, greatest, cheapest, is_marked}
 use Rattle.pb_normal.specs.Literals.{weight_of}
 
--- the sum and the greatest of the coefficients of costly literals, and the least cost of one of them, or `start` where there is none less
+-- the sum and the greatest of the coefficients of costly literals, and the least cost of one of them, or `start` where no cost
+-- is less
 pub record Offer : Type 0 where
   pub total : ℕ
   pub greatest : ℕ

@@ -1,4 +1,6 @@
-//! The bound of disjoint rows: the base, what the trail pays, and the contributions of rows that share no variable without a value.
+//! The bound of disjoint rows: the base, what the trail pays, and the contributions of rows that share no variable without a
+//! value.
+//! Source: [C96], [MM02]
 
 ghost use Rattle.std.specs.Prelude.{◌≡◌, ◌+◌, ◌≤◌, false, length, replicate, ◌≤ℤ◌, pos, neg_ℤ};
 ghost use Rattle.pb_inst.specs.declared.limits.TheConstants.{SUM_BOUND};
@@ -15,7 +17,7 @@ use pb_count::Coefficient;
 use pb_inst::{Magnitude, Number};
 use pb_trail::TrailView;
 
-/// What the trail pays and the contributions of the picked rows.
+/// What the trail pays, plus the contributions of the picked rows.
 pub fn payment<C: Coefficient>(
     trail: &TrailView<'_, C>,
     deficits: &mut Deficits<C>,
@@ -29,6 +31,7 @@ pub fn payment<C: Coefficient>(
     ensures marks { length marks.new ≡ length marks.old }
 {
     trail.tables().facts();
+    // Without an objective nothing is paid, so the deficits need not follow the trail.
     if trail.form().objective().is_empty() {
         return 0;
     }
@@ -37,7 +40,8 @@ pub fn payment<C: Coefficient>(
     (deficits.paid() + contributions).number()
 }
 
-/// The base with what the trail pays and the contributions: at most the cost of every completion of the trail.
+/// The base plus the payment, which is what the trail pays and the contributions: at most the cost of every completion of the
+/// trail.
 pub fn bound_with<C: Coefficient>(trail: &TrailView<'_, C>, payment: Magnitude) -> Number
     requires payment { payment ≡ reached trail.now.trail trail.now.form.objective + row_contributions trail.now.form.objective trail.now.trail (replicate trail.now.form.vars false) trail.now.rows }
     requires small { payment ≤ total_coefficient trail.now.form.objective }

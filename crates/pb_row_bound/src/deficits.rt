@@ -17,9 +17,9 @@ use pb_rows::{Occurs, RowTerms, Tables, Weighs};
 use pb_trail::TrailView;
 use std::alloc::Global;
 
-/// What the first literals of a trail pay, and the deficit of each row after them: its degree less what it has at no cost, and the
-/// limit of the counters more, since it may have more than its degree. Rows with a deficit above the limit are open, and stand in
-/// a set.
+/// What the first literals of a trail pay, and the deficit of each row after them: its degree less what it has at no cost, with
+/// the limit of the counters added, since that difference may be below 0 and counters can't be. Rows with a deficit above the
+/// limit are open, and are kept in a set, so that a bound looks at no other row.
 #[derive(Drop)]
 pub struct Deficits<C: Coefficient> {
     counted: usize,
@@ -54,7 +54,7 @@ impl<C: Coefficient> Deficits<C> {
         }
     }
 
-    /// Takes back the literals of the trail from a place on.
+    /// Takes back the literals of the trail from the place `start` on.
     pub fn take_back(&mut self, trail: &TrailView<'_, C>, start: usize)
         requires { AreDeficits C.limit trail.now.form trail.now.rows trail.now.trail self.old }
         ensures deficits { AreDeficits C.limit trail.now.form trail.now.rows trail.now.trail self.new }
@@ -72,7 +72,7 @@ impl<C: Coefficient> Deficits<C> {
         self.paid
     }
 
-    /// The first open row from a row on, or none.
+    /// The first open row from the row `from` on, or none.
     pub fn next(&self, from: usize) -> Option<usize>
         ensures some { ForSome result (λ row. (from ≤ row) × (row < length self.now.open_rows) × HasNoneBetween self.now.open_rows from row) }
         ensures none { result ≡ None → HasNoneBetween self.now.open_rows from (length self.now.open_rows) }
@@ -137,6 +137,8 @@ fn join<C: Coefficient>(
     ensures changed { (r : ℕ) → r < length deficits.old → slice_index deficits.new r + gain tables.now.form.objective lit (row_at tables.now.rows r).terms ≡ slice_index deficits.old r + loss tables.now.form.objective (negation lit) (row_at tables.now.rows r).terms }
     ensures open_rows { open_rows.new ≡ are_open C.limit deficits.new }
 {
+    // A literal without cost counted as had before it was true, so only a costly one lowers deficits now; its negation, where
+    // that costs nothing, can't be had any more.
     let negation = lit.negate();
     lower_if(
         !tables.cost(lit).is_zero(),
@@ -187,7 +189,7 @@ fn leave<C: Coefficient>(
     );
 }
 
-/// Takes the literal's coefficients from the deficits of its rows, if it is to.
+/// Takes the literal's coefficients from the deficits of its rows, if that is wanted.
 fn lower_if<C: Coefficient>(
     wanted: bool,
     deficits: &mut [Counter<C>],
@@ -210,7 +212,7 @@ fn lower_if<C: Coefficient>(
     lower(deficits, open_rows, tables.units(lit));
 }
 
-/// Adds the literal's coefficients to the deficits of its rows, if it is to.
+/// Adds the literal's coefficients to the deficits of its rows, if that is wanted.
 fn raise_if<C: Coefficient>(
     wanted: bool,
     deficits: &mut [Counter<C>],
@@ -295,7 +297,7 @@ fn initial_deficit<C: Coefficient>(tables: &Tables<'_, C>, row: usize) -> Counte
     Counter::limit() - at_no_cost(tables, tables.terms(row)) + tables.degree(row)
 }
 
-/// What the row has at no cost before any literal is counted.
+/// What a row of these terms has at no cost before any literal is counted.
 fn at_no_cost<C: Coefficient>(tables: &Tables<'_, C>, terms: RowTerms<'_, C>) -> Counter<C>
     requires variables { All (λ t. t.lit.var ≤ tables.now.vars) (terms_in terms) }
     requires fits { sum_by (λ t. t.coef) (terms_in terms) < C.limit }

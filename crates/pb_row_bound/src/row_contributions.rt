@@ -1,4 +1,5 @@
 //! What rows that share no variable without a value add to a lower bound.
+//! Source: [C96], [MM02]
 
 ghost use Rattle.std.specs.Prelude.{◌≡◌, ℕ, ◌+◌, ◌-◌, ◌*◌, ◌<◌, ◌≤◌, None, true, false, All, length, map, replicate, sum_by, slice_set, if◌then◌else◌};
 ghost use Rattle.std.specs.Option.{ForSome};
@@ -35,7 +36,7 @@ impl<C: Coefficient> Model for Offer<C> {
 }
 
 impl<C: Coefficient> Offer<C> {
-    /// No literal. The least cost begins with what is above all costs.
+    /// No literal yet. The least cost begins above all costs.
     fn none() -> Offer<C>
         ensures { result ≡ no_offer C.limit }
     {
@@ -46,7 +47,7 @@ impl<C: Coefficient> Offer<C> {
         }
     }
 
-    /// With one more literal.
+    /// The offer with one more literal.
     fn with(self, coef: Counter<C>, cost: Counter<C>) -> Offer<C>
         requires { self.total + coef < 2 * C.limit }
         ensures { result ≡ offer_with self coef cost }
@@ -58,7 +59,7 @@ impl<C: Coefficient> Offer<C> {
         }
     }
 
-    /// With the term where its literal is costly, or none where its variable has no value and is marked.
+    /// The offer with the term's literal where that is costly, or none where its variable has no value and is marked.
     fn joined(
         self,
         trail: &TrailView<'_, C>,
@@ -101,7 +102,7 @@ impl<C: Coefficient> Offer<C> {
     }
 }
 
-/// What the costly literals of the row are, or none where a variable without a value is marked.
+/// The offer of the row's costly literals, or none where one of its variables without a value is marked.
 fn offer_in<C: Coefficient>(
     trail: &TrailView<'_, C>,
     marks: &Marks,
@@ -119,7 +120,7 @@ fn offer_in<C: Coefficient>(
     }
 }
 
-/// What the costly literals of the items are.
+/// The offer of the items' costly literals, or none where one of their variables without a value is marked.
 fn offer_of_items<C: Coefficient, T: Weighs<C>>(
     trail: &TrailView<'_, C>,
     marks: &Marks,
@@ -222,6 +223,7 @@ pub fn row_contributions<C: Coefficient>(
 {
     marks.clear();
     trail.tables().facts();
+    // A row that isn't open needs no costly literal, so it would add nothing.
     let mut sum = Counter::of(0);
     let mut from = 0;
     while let Some(row) = deficits.next(from) {

@@ -1,18 +1,20 @@
-//! What is taken back with an assumption: the changes of multipliers that were made since; and how many assumptions, from the
-//! first on, are not to be taken back. Multipliers that are best below one decision are a poor beginning below another, and
+//! What is taken back with an assumption, namely the changes of multipliers that were made since; and how many assumptions, from
+//! the first on, are not to be taken back. Multipliers that are best below one decision are a poor start below another, and
 //! drift if they are kept.
 
 use pb_inst::Memory;
 use std::alloc::Global;
 
-/// How many changes of multipliers can be taken back at least, for each row.
+/// How many changes of multipliers can be taken back at least, for each row: few, so that the room of a large instance stays in
+/// proportion to it.
 const CHANGES_OF_A_ROW: usize = 8;
 
-/// The same where there are few rows: a deep search changes each of them at many of its levels, and where no more can be
-/// taken back no multiplier is improved.
+/// How many can be taken back for each row where there are few: a deep search changes each of them at many of its levels, and
+/// where no more can be taken back no multiplier is improved.
 const CHANGES_OF_FEW_ROWS: usize = 512;
 
-/// The most changes that few rows have room for.
+/// The most changes that few rows have room for, 512 times 512: beyond 512 rows each has less, so that this room takes no
+/// more than 4 megabytes in a form of 64 bits.
 const MOST_CHANGES_OF_FEW_ROWS: usize = 262_144;
 
 /// How much there was before an assumption.
@@ -32,7 +34,7 @@ pub struct Levels {
 }
 
 impl Levels {
-    /// No assumption, and room for so many.
+    /// No assumption, and room for `room` of them.
     pub fn new(alloc: Global, room: usize) -> Result<Levels, Memory> {
         Ok(Levels {
             marks: Vec::with_capacity(alloc, room)?,
@@ -45,7 +47,7 @@ impl Levels {
         self.marks.len()
     }
 
-    /// An assumption is made after so many changes, on a trail of so many literals.
+    /// An assumption is made after `changes` changes, on a trail of `length` literals.
     pub fn push(&mut self, changes: usize, length: usize) {
         if self.marks.len() < self.marks.capacity() {
             self.marks.push_reserved(Mark { changes, length });
@@ -54,6 +56,7 @@ impl Levels {
 
     /// Nothing is left to try in place of the last assumption.
     pub fn settle_last(&mut self) {
+        // Below an assumption that may still be turned nothing is settled for good, so the root's part has no gap.
         let before = self.marks.len().saturating_sub(1);
         if self.root == before {
             self.root = self.marks.len();
@@ -65,13 +68,12 @@ impl Levels {
         self.root >= self.marks.len()
     }
 
-    /// What there was where the root ends, if anything was assumed below it.
+    /// What there was where the root's part ends, if anything is assumed below it.
     pub fn root_end(&self) -> Option<Mark> {
         self.marks.get(self.root).copied()
     }
 
-    /// So many assumptions are left. Gives how many changes there were before the first of those that are gone, if there are
-    /// any.
+    /// `level` assumptions are left. Gives how many changes there were before the first of those that are gone, if there are any.
     pub fn cut(&mut self, level: usize) -> Option<usize> {
         let mark = self.marks.get(level).copied();
         self.marks.truncate(level);
@@ -80,7 +82,7 @@ impl Levels {
     }
 }
 
-/// How many changes can be taken back where there are so many rows.
+/// How many changes can be taken back where there are `rows` rows.
 pub fn changes_for(rows: usize) -> usize {
     let few = rows
         .saturating_mul(CHANGES_OF_FEW_ROWS)

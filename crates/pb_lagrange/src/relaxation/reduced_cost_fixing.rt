@@ -1,4 +1,5 @@
 //! Literals that the multipliers fix, and among which variables the next one is looked for.
+//! Source: [DFJ54], [CJP83]
 
 ghost use Rattle.std.specs.Prelude.{IfSome};
 ghost use Rattle.pb_dual.specs.Multipliers.{IsFixed};
@@ -10,7 +11,7 @@ use pb_inst::{Lit, Number};
 /// Where literals to fix are looked for.
 #[derive(Clone, Copy)]
 pub struct Fixing {
-    /// After how many variables the next one is looked for.
+    /// How many variables come before the window in which the next literal is looked for.
     from: u32,
     /// Whether one was found at the node where the search is.
     pub has_found: bool,
@@ -31,7 +32,8 @@ impl Fixing {
     }
 
     /// A literal without a value that every completion of the trail that costs no more than the limit makes true, or none.
-    /// Where there is none, the next one is looked for elsewhere.
+    /// Only a window of variables is looked at; where it has none, the next one is looked for in the next window, so that all
+    /// variables get their turn.
     pub fn find<C: Coefficient>(
         &mut self,
         multipliers: &Multipliers<C>,
@@ -52,7 +54,7 @@ impl Fixing {
         found
     }
 
-    /// The same, looked for among all variables.
+    /// As `find`, but looked for in one window after another until all variables were looked at.
     pub fn find_in_all<C: Coefficient>(
         &mut self,
         multipliers: &Multipliers<C>,

