@@ -30,6 +30,10 @@ const MOST_LEAVES: u32 = 64;
 /// assignment costs a third of one that does not, since more may follow it.
 const CREDIT_OF_DIVES: u32 = 6;
 
+/// How many times the search of a piece is about to flip a decision before work at its root is considered, where the whole was begun
+/// before: what such work closes, the root of the whole mostly closed.
+const EARLY_OF_A_PIECE: usize = 256;
+
 /// What a dive costs.
 const COST_OF_A_DIVE: u32 = 3;
 
@@ -69,6 +73,8 @@ pub struct RootWork {
     cubes: usize,
     /// How many more times the search may be about to flip a decision before work at the root is considered.
     early: usize,
+    /// Whether a search was begun that was not to go through all of it: the whole, whose pieces follow.
+    has_begun_whole: bool,
     ties: Ties,
     /// The trail's length and the best cost where no literal failed in the last round.
     done: Option<(usize, Option<Number>)>,
@@ -107,6 +113,7 @@ impl RootWork {
             is_open: false,
             cubes,
             early: 0,
+            has_begun_whole: false,
             ties: Ties::new(),
             done: None,
             probing: Probing::new(is_decision),
@@ -136,6 +143,10 @@ impl RootWork {
         // What the cubes of a split leave is empty, and no work at its root tells that. Its search does, which flips a decision
         // at most once for each cube.
         self.early = self.cubes;
+        if self.has_begun_whole {
+            self.early = self.early.max(EARLY_OF_A_PIECE);
+        }
+        self.has_begun_whole |= turns.is_some();
         self.ties = Ties::new();
         self.done = None;
         let probes = match left {

@@ -135,7 +135,9 @@ impl<'a, C: Coefficient> PieceSearch<'a, C> {
         let Some(state) = &mut self.cube else {
             return;
         };
-        whole.begin(state, best, share);
+        if whole.is_due(best) {
+            whole.begin(state, best, share);
+        }
     }
 
     /// Searches a piece: that of a cube, or the remainder as the last one; or stops where it would need one decision more than

@@ -18,6 +18,7 @@ const FIRST_TURNS: u32 = 256;
 /// Literals that are fixed for good, the best assignment when they were, and whether the whole was searched then: a feasible assignment
 /// that comes before that one makes the literals true, and where the whole was searched there is none.
 pub struct WholeRoot<'a> {
+    has_begun: bool,
     literals: Vec<Lit>,
     is_closed: bool,
     best: Best<'a>,
@@ -37,6 +38,7 @@ impl<'a> Model for WholeRoot<'a> {
 impl<'a> Drop for WholeRoot<'a> {
     fn drop(self) {
         let WholeRoot {
+            has_begun: _,
             literals: _,
             is_closed: _,
             best: _,
@@ -52,13 +54,15 @@ impl<'a> WholeRoot<'a> {
         let literals = Vec::with_capacity(alloc, instance.vars() as usize)?;
         let best = Best::none(alloc, instance)?;
         Ok(WholeRoot {
+            has_begun: false,
             literals,
             is_closed: false,
             best,
         })
     }
 
-    /// Begins the search of the whole, and keeps what it fixed.
+    /// Begins the search of the whole, and keeps what it fixed. Where it has begun, and the best cost has fallen since, it fixes at the
+    /// root what that cost fixes more.
     pub fn begin<C: Coefficient, S: Share>(
         &mut self,
         state: &mut SearchState<C>,
@@ -73,9 +77,20 @@ impl<'a> WholeRoot<'a> {
         ensures kept { S.keeps share.old share.new }
         ensures same_lending { S.lends share.new ≡ S.lends share.old }
     {
-        let outcome = begin_whole(state, &mut self.literals, best, share, FIRST_TURNS);
+        // A call tells that what is held is a solution.
+        let _ = best.cost();
+        self.serve(best);
+        let turns = if self.has_begun { 0 } else { FIRST_TURNS };
+        self.has_begun = true;
+        let outcome = begin_whole(state, &mut self.literals, best, share, turns);
         self.is_closed = outcome == Outcome::Whole;
         keep(&mut self.best, best);
+    }
+
+    /// Whether the search of the whole is to begin, or the best cost has fallen since it did.
+    pub fn is_due(&self, best: &Best<'_>) -> bool {
+        let cost = best.cost();
+        !self.has_begun || (cost.is_some() && self.best.cost().is_none_or(|before| cost < Some(before)))
     }
 
     /// Forgets what is fixed if the best assignment of that time comes before this one, since then it need not be.

@@ -134,7 +134,7 @@ pub fn search_subtree<C: Coefficient, S: Share>(
 {
     state.root_work.begin(goal, run.left, turns);
     while let Some(branch) = next_branch(state, best, share, run) {
-        if goal.is_reached(best, run.left) || is_out_of_turns(state, turns) {
+        if goal.is_reached(best, run.left) || is_out_of_turns(state, turns, branch) {
             return Outcome::Cut;
         }
         decide(
@@ -148,9 +148,13 @@ pub fn search_subtree<C: Coefficient, S: Share>(
     Outcome::Whole
 }
 
-/// Whether turns are counted, and none is left.
-fn is_out_of_turns<C: Coefficient>(state: &SearchState<C>, turns: Option<u32>) -> bool
+/// Whether turns are counted, none is left, and the next decision has both values to try: one with a single value costs no turn.
+fn is_out_of_turns<C: Coefficient>(
+    state: &SearchState<C>,
+    turns: Option<u32>,
+    next: Branch,
+) -> bool
     ensures { result ≡ true → turns ≢ None }
 {
-    turns.is_some() && state.root_work.has_no_turns()
+    turns.is_some() && !next.flipped && state.root_work.has_no_turns()
 }

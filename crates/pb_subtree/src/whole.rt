@@ -17,9 +17,10 @@ use pb_control::{Branch, Goal};
 use pb_engine::Coefficient;
 use pb_inst::{Best, Lit};
 
-/// Begins the search of all solutions, and stops where it was about to flip a decision as often as `turns` says. Then it writes
-/// to `root` literals that are fixed for good: each solution that comes before the best one makes them true. No more are written
-/// than there is room for, so that it takes no memory.
+/// Begins the search of all solutions below the literals of the root, and stops where it was about to flip a decision as often as
+/// `turns` says. Then it adds to them the literals that are fixed for good: each solution that comes before the best one makes them
+/// true. No more are added than there is room for, so that it takes no memory. Asks for literals that each solution before the best
+/// one makes true.
 pub fn begin_whole<C: Coefficient, S: Share>(
     state: &mut SearchState<C>,
     root: &mut Vec<Lit>,
@@ -27,18 +28,19 @@ pub fn begin_whole<C: Coefficient, S: Share>(
     share: &mut S,
     turns: u32,
 ) -> Outcome
-    requires { IsStateOf best.old.problem state.old }
+    requires state { IsStateOf best.old.problem state.old }
+    requires variables { All (λ l. l.var ≤ state.old.engine.vars) root.old.items }
+    requires root { (a : List Bool) → SatisfiesUnder state.old.engine [] a → IsImprovement best.old.problem a best.old.held → MakesTrue a root.old.items }
     ensures searched { result ≡ Outcome.Whole → (a : List Bool) → SatisfiesUnder state.old.engine [] a → ¬ IsImprovement best.old.problem a best.new.held }
     ensures root { (a : List Bool) → SatisfiesUnder state.old.engine [] a → IsImprovement best.old.problem a best.new.held → MakesTrue a root.new.items }
     ensures variables { All (λ l. l.var ≤ state.old.engine.vars) root.new.items }
     ensures same_room { vec_capacity root.new ≡ vec_capacity root.old }
     ensures ended { IsEnded S.keeps S.lends share.old share.new Least (Some turns) state.old state.new best.old best.new None None result }
 {
-    root.clear();
     let mut left = None;
     let outcome = search_under(
         state,
-        &[],
+        root,
         &[],
         best,
         share,
@@ -52,11 +54,10 @@ pub fn begin_whole<C: Coefficient, S: Share>(
     outcome
 }
 
-/// Writes the literals of the decisions, from the first on, that have no other value to try, as many as there is room for.
+/// Adds the literals of the decisions, from the first on, that have no other value to try, as many as there is room for.
 fn note_fixed(path: &[Branch], root: &mut Vec<Lit>)
-    requires { root.old.items ≡ [] }
-    ensures fixed { (a : List Bool) → LiesOpen a path.now → MakesTrue a root.new.items }
-    ensures variables { (n : ℕ) → All (λ b. b.lit.var ≤ n) path.now → All (λ l. l.var ≤ n) root.new.items }
+    ensures fixed { (a : List Bool) → LiesOpen a path.now → MakesTrue a root.old.items → MakesTrue a root.new.items }
+    ensures variables { (n : ℕ) → All (λ b. b.lit.var ≤ n) path.now → All (λ l. l.var ≤ n) root.old.items → All (λ l. l.var ≤ n) root.new.items }
     ensures same_room { vec_capacity root.new ≡ vec_capacity root.old }
 {
     let room = root.capacity();

@@ -29,7 +29,6 @@ pub fn solve_alone<'i>(
     let mut best = Best::none(alloc, inst)?;
     let normal = normalise(alloc, inst)?;
     let mut search = Search::new(alloc, inst, &normal, pieces)?;
-    search.begin(&mut best, &mut Alone, nodes);
     let cut = search_all(&mut search, pieces.len(), &mut best, nodes);
     Ok(Answer { best, cut })
 }
@@ -45,6 +44,7 @@ fn search_all(search: &mut Search<'_>, count: u32, best: &mut Best<'_>, nodes: O
 {
     let mut cut = false;
     for piece in 0..count {
+        search.begin(best, &mut Alone, nodes);
         let outcome = search.run(piece, best, &mut Alone, nodes);
         // By this what is done stays done.
         facts_of(best);

@@ -115,7 +115,6 @@ impl<'a, 'i, N: Notes, G: Gate> SearchWorkers<'a, 'i, N, G> {
         let mut search = Search::over(alloc, self.tables)?;
         let beyond = NoteShare::new(alloc, self.notes, self.inst.vars(), worker)?;
         let mut share = BoardShare::beside(self.board, seat, worker, beyond);
-        search.begin(&mut best, &mut share, self.nodes);
         let count = self.pieces.len();
         let named = self.search_claimed(alloc, &mut search, count, &mut best, &mut share)?;
         Ok((Part::new(self.pieces, named, best), share.into_seat()))
@@ -144,6 +143,7 @@ impl<'a, 'i, N: Notes, G: Gate> SearchWorkers<'a, 'i, N, G> {
     {
         let mut named = Named::new(alloc);
         for _turn in 0..u64::from(count) + 1 {
+            search.begin(best, share, self.nodes);
             let Some(piece) = claim_piece(share, count) else {
                 return Ok(named);
             };
