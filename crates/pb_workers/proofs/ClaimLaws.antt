@@ -158,7 +158,7 @@ second_of_both false b both = absurd (false≢true both)
 below_by_test : (n count : ℕ) → nat_lt n count ≡ true → n < count
 below_by_test n count told = grind (arith, nat_tests)
 
--- a piece that the task is dealt is one of so many
+-- a piece that the task is dealt is one of the `count` pieces
 own_below : (task : Option TaskView) (count n : ℕ) → is_own_piece task count n ≡ true → n < count
 own_below task count n own = below_by_test n count (second_of_both (is_dealt task n) (nat_lt n count) own)
 
