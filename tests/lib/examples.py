@@ -18,7 +18,7 @@ def variables_of(example):
 
 
 def divisions(variables, splits, cubes=None):
-    """Words that divide an instance of so many variables by each split that they allow, and by the cubes of a file."""
+    """Words that divide an instance of `variables` variables by each split that they allow, and by the cubes of a file."""
     more = ["--cubes", str(cubes)] if cubes else []
     return [[*more, "--split", str(split)] for split in splits if split <= variables]
 

@@ -71,10 +71,10 @@ int pbcube_clause(pbcube *solver, const int32_t *literals, size_t count);
 int pbcube_discard(pbcube *solver);
 uint32_t pbcube_variables(pbcube *solver); /* how many there are so far; of null 0 */
 
-/* Solving, with at most so many decisions, or PBCUBE_NO_LIMIT. What was found is kept until a later search ends, which also takes
- * it away where that one finds nothing. pbcube_solve_under searches among the assignments that make the literals true; a literal
- * of a variable that no statement names is left out. From one question to the next, up to the next statement, a solver keeps its
- * search. */
+/* Solving, with at most this many decisions, or PBCUBE_NO_LIMIT. What was found is kept until a later search ends, which also
+ * takes it away where that one finds nothing. pbcube_solve_under searches among the assignments that make the literals true; a
+ * literal of a variable that no statement names is left out. From one question to the next, up to the next statement, a solver
+ * keeps its search. */
 int pbcube_solve(pbcube *solver, uint64_t decisions);
 int pbcube_solve_under(pbcube *solver, const int32_t *literals, size_t count, uint64_t decisions);
 

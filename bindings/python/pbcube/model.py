@@ -174,7 +174,7 @@ class Model:
         return self.variables(1 if name is None else [name])[0]
 
     def variables(self, count: Union[int, str, Iterable[str]]) -> List[Literal]:
-        """So many new variables, or one of each name, which may also be the words of one text, as "x y"."""
+        """New variables: `count` of them, or one of each name, which may also be the words of one text, as "x y"."""
         names = _names_of(count)
         with self._lock:
             self._check_names(names)
@@ -258,15 +258,15 @@ class Model:
             self.add(Sum(rule.terms, 0, rule.owners) + max(missing, 0) * ~given >= rule.bound)
 
     def at_least(self, count: int, literals: Iterable[Literal]) -> None:
-        """Adds that at least so many of the literals are true."""
+        """Adds that at least `count` of the literals are true."""
         self.add(total(self._own(literals)) >= index(count))
 
     def at_most(self, count: int, literals: Iterable[Literal]) -> None:
-        """Adds that at most so many of the literals are true."""
+        """Adds that at most `count` of the literals are true."""
         self.add(total(self._own(literals)) <= index(count))
 
     def exactly(self, count: int, literals: Iterable[Literal]) -> None:
-        """Adds that exactly so many of the literals are true."""
+        """Adds that exactly `count` of the literals are true."""
         self.add(total(self._own(literals)) == index(count))
 
     def _own(self, literals: Iterable[Literal]) -> List[Literal]:
@@ -443,7 +443,7 @@ def _truth(value: object) -> bool:
 
 
 def _values_in_order(start: Sequence[bool], count: int) -> bytes:
-    """The values of so many variables as bytes 0 and 1."""
+    """The values of `count` variables as bytes 0 and 1."""
     if isinstance(start, (str, bytes)) or not hasattr(start, "__len__") or not hasattr(start, "__getitem__"):
         raise TypeError(f"no start: {start!r}: write an answer, or a dict of values by variables or names, as {{x: True}}")
     if len(start) != count:

@@ -38,9 +38,9 @@ pub struct Answer<'i> {
 
 /// Finds the least assignment, or none where nothing is feasible. Each piece is searched with at most `nodes` decisions, where
 /// a budget is given: a piece that would need more is cut, and then the answer is the best that was found. The workers,
-/// numbered from 0, run on threads of their own where the system gives them; else some of them run one after the other, with
-/// the same answer. A worker beyond the number of pieces is not started: it would get none, and yet take memory for a search of
-/// its own, and the run would end where that is refused. Asks for pieces over the instance's variables.
+/// numbered from 0, run on threads of their own where the system gives them; else some of them run one after the other, and
+/// their answer is the same. A worker beyond the number of pieces is not started: it would get none, and yet take memory for a
+/// search of its own, and the run would end where that is refused. Asks for pieces over the instance's variables.
 pub fn solve<'i, R: Threads + Sync, G: Gate + Sync>(
     rt: &R,
     alloc: Global,
