@@ -39,7 +39,7 @@ class _Objective:
 
 class Model:
     """Constraints over variables, and an objective. Coefficients and bounds may be fractions and floats, which are taken exactly.
-    Pickled and read again it is a copy, as `copy` makes.
+    A pickle of it makes a copy, as `copy` does.
 
     `cubes` are those of the text in iCNF that it was read from, each as its literals, and else none. They divide the work of other
     programs, and no answer here depends on them."""
@@ -101,7 +101,7 @@ class Model:
         return f"<Model: {sizes}, {'an' if self._objective else 'no'} objective>"
 
     def _repr_html_(self) -> str:
-        """The same as a table, which notebooks show."""
+        """The sizes of the model as a table, which notebooks show."""
         return table([*self._sizes(), ("objective", "yes" if self._objective else "no")])
 
     def _sizes(self) -> List[Tuple[str, int]]:
@@ -324,8 +324,8 @@ class Model:
         return Answer(Status(status), cost, told, reply.names, reply.owners)
 
     def explain(self, assuming: Iterable[Literal], nodes: Optional[int] = None, *, time_limit: Optional[float] = None) -> Explanation:
-        """Tells of literals under which nothing is feasible some that are enough for that, as few as leaving out one after the other
-        gives, with at most `nodes` decisions and for at most `time_limit` seconds where they are given.
+        """Of literals under which nothing is feasible, finds some that are enough for that: each is left out in turn where the others
+        are enough. It makes at most `nodes` decisions and takes at most `time_limit` seconds where they are given.
 
             >>> model = Model()
             >>> x, y, z = model.variables("x y z")

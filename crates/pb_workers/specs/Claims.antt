@@ -25,7 +25,7 @@ pub record EndsPast (count : ℕ) (claimed : List ℕ) : Type 0 where
   pub ends : claimed ≡ front ++ last ∷ []
   pub no_piece : count ≤ last
 
--- the list is these two lists, dealt into one another, each of them in order
+-- the list is a merge of these two lists, which keeps the order of each
 abbrev pub AreDealt : List ℕ → List ℕ → List ℕ → Type 0
 AreDealt [] some others = (some ≡ []) × (others ≡ [])
 AreDealt (n ∷ all) some others =

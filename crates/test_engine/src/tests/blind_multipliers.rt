@@ -330,7 +330,7 @@ fn no_scale_fits(rt: HostRuntime) {
     assert!(rt; made.is_none());
 }
 
-/// The greatest costs for which there are some: a multiplier of all of it gives all of it.
+/// The greatest costs for which there are multipliers. One row raises the bound to 2^105 at most, however great its multiplier.
 #[test]
 fn the_greatest_scaled_costs(rt: HostRuntime) {
     let alloc = rt.alloc();
