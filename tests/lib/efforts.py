@@ -65,7 +65,7 @@ def crowd(after, holes):
 
 
 def pigeons(holes):
-    """The same alone."""
+    """The clauses of `crowd` alone."""
     return of((holes + 1) * holes, [], crowd(0, holes))
 
 

@@ -24,7 +24,7 @@ def divisions(variables, splits, cubes=None):
 
 
 def divisions_of(example, splits):
-    """The same of an example, without cubes and with those of the file beside it, where there is one."""
+    """Such words for an example, without cubes and with those of the file beside it, where there is one."""
     cubes = example.with_suffix(".cubes")
     files = (None, cubes) if cubes.exists() else (None,)
     return [words for file in files for words in divisions(variables_of(example), splits, file)]
