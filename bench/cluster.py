@@ -1,5 +1,5 @@
 #!/usr/bin/env python3
-"""Measures what cutting an instance into pieces brings: each piece solved by a process of its own, on so many cores.
+"""Measures what cutting an instance into pieces brings: each piece solved by a process of its own, on several cores.
 
     cluster.py CRATES [--splits 2,4,6,8,10,12] [--cores 4] FILE...
 

@@ -4,7 +4,7 @@ without reading.
 
     highs.py FILE [LIMIT]
 
-With a limit it is stopped after so many processor seconds.
+With a limit it is stopped after LIMIT processor seconds.
 """
 import math
 import resource

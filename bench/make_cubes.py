@@ -3,7 +3,7 @@
 
     make_cubes.py CUBES LITERALS FIRST LAST [SEED]
 
-Each cube has so many literals, of variables drawn from FIRST to LAST, no variable twice, each sign as likely as the other.
+Each of CUBES cubes has LITERALS literals, of variables drawn from FIRST to LAST, no variable twice, each sign as likely as the other.
 """
 import random
 import sys

@@ -18,8 +18,8 @@ where they stay. The tables are:
     widths    instances with each number times 2^70: seconds a decision and decisions, over those of the instance
     hostile   the largest inputs, the lesser of two runs
 
-Seconds are user and system time of whole runs, with so many of them at a time (3). Of `splits` so many workers run at a time as there
-are processors.
+Seconds are user and system time of whole runs, by default three of them at a time. Of `splits` as many workers run at a time as
+there are processors.
 """
 import argparse
 import os

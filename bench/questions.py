@@ -33,7 +33,7 @@ import opb
 
 OPTIMUM, SATISFIABLE, UNSATISFIABLE, FOUND = 30, 10, 20, 11
 FEASIBLE = 0  # of fixed: among all that are feasible
-DRAWING = 20_000  # so many decisions for the assignment that questions are drawn from
+DRAWING = 20_000  # decisions for the assignment that questions are drawn from
 
 
 class Library:
@@ -116,7 +116,7 @@ class Session:
 
 
 def drawn(rng, kind, values, count, assumed):
-    """So many questions, each a list of literals."""
+    """A list of `count` questions, each a list of literals."""
     questions, last = [], []
     for number in range(count):
         if kind != "clicks" or len(last) == assumed:

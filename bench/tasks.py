@@ -1,5 +1,5 @@
 #!/usr/bin/env python3
-"""Measures tasks that search an instance together on so many cores of this machine: with notes between them, without, and against
+"""Measures tasks that search an instance together on several cores of this machine: with notes between them, without, and against
 as many workers of one run on the same pieces.
 
     tasks.py CRATES [--splits 4,6,8] [--cores 4] [--tasks 4,16] [--runs N] [--limit SECONDS] FILE...
@@ -8,7 +8,7 @@ CRATES is the folder crates/ whose programs are built. A file whose first line b
 OPB. For each split the table has seconds (wall clock, from the start to the report of the whole): one run with one worker, one run
 with a worker for each core, tasks with notes, for each number of tasks, and as many tasks as cores without notes, each from their start
 to the joined report. As many tasks as there are cores run at a time, in the order of their numbers. Of each the table has the median of
-so many runs (of one worker, and of tasks without notes, one run), and behind it the seconds of all processors in that run. The reports
+N runs (of one worker, and of tasks without notes, one run), and behind it the seconds of all processors in that run. The reports
 must be those of one run; where they are not, the table says so.
 """
 import argparse
@@ -38,7 +38,7 @@ def processor_seconds():
 
 
 def ended(commands, at_once, limit):
-    """Whether all commands ended within the limit, so many of them at a time. Each comes with the file for its output."""
+    """Whether all commands ended within the limit, `at_once` of them at a time. Each comes with the file for its output."""
 
     def run(command):
         words, out = command
@@ -64,13 +64,13 @@ def measured(steps, at_once, out, limit):
 
 
 def of_one_run(programs, name, workers, split, room, limit):
-    """What one run takes with so many workers."""
+    """What one run takes with `workers` workers."""
     words = ["--format", format_of(name), "--workers", workers, "--split", split]
     return measured([[([programs.whole, *words, name], room / "report")]], 1, room / "report", limit)
 
 
 def of_tasks(programs, name, tasks, cores, split, notes, room, limit):
-    """What so many tasks take, each with one worker and one for each core at a time, and their join."""
+    """What `tasks` tasks take, each with one worker and one for each core at a time, and their join."""
     kind = ["--format", format_of(name)]
     words = [*kind, "--split", split, "--tasks", tasks, *(["--exchange", room / "notes"] if notes else [])]
     reports = [room / f"{task}.report" for task in range(tasks)]

@@ -11,7 +11,7 @@ without an objective, many with numbers of 128 bits. The report must be that of 
 
 A number is drawn from what the proposer sees, so each run draws the same. A file NAME.place tells why it is there, its file, a
 line that stands there once, and what is put in: at the beginning of the function where the line begins one, else before it. That
-each place is come to is known by runs on larger instances: of so many variables that the program stops where that place draws.
+each place is reached is known by runs on larger instances: their number of variables makes the program stop where that place draws.
 Some places propose nothing, and show only that what they say comes to pass beside the drawn proposals. What draws is the module
 draws.module: source of Rattle that belongs to no crate here may not have its ending.
 
@@ -33,8 +33,8 @@ PLACES = TOP / "tests/proposals"
 PROGRAM = "bench"
 INSTANCES = 600  # half of them with 2 to 7 variables
 FEWEST_VARIABLES, MOST_VARIABLES = 3, 12  # of the other half
-FEWEST_TO_STOP = 18  # on so many variables the program stops at the first place, on one more at the next, and so on
-MOST_TO_STOP = 200  # so many of these larger instances are run for a place at most, until one stops there
+FEWEST_TO_STOP = 18  # variables on which the program stops at the first place; on one more it stops at the next, and so on
+MOST_TO_STOP = 200  # of these larger instances that are run for a place at most, until one stops there
 CONSTANTS = {  # what they are in the copy
     ("pb_lagrange/src/relaxation/sweeps.rt", "PATIENCE"): 1,
     ("pb_lagrange/src/relaxation/schedule.rt", "WORK_OF_A_BOUND"): 30,
@@ -59,7 +59,7 @@ LINES = {  # what they become in the copy
 
 @dataclass(frozen=True)
 class Place:
-    """Where something is put in, and what. On so many variables the program stops there, if a number is told."""
+    """Where something is put in, and what. Where a number is told, the program stops there on that number of variables."""
 
     name: str
     file: str

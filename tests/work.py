@@ -29,12 +29,12 @@ from lib import PROCESSORS, TOP, ran, side_by_side
 
 INSTANCES = TOP / "tests/work"
 STEPS = 20_000_000
-SPARE = 2  # so many requests for memory more than today are allowed
+SPARE = 2  # requests for memory that are allowed beyond those of today
 SECONDS = 60  # for the run of the compiled code, with checks, that stands beside the interpreter's
-SIDES = min(4, max(1, PROCESSORS // 2))  # so many parts of the cases are run at the same time, each with a build of its own
+SIDES = min(4, max(1, PROCESSORS // 2))  # parts of the cases that are run at the same time, each with a build of its own
 NEAR = STEPS * 98 // 100  # what a run may take where the bytes of its comment are measured
-ROUNDS, TRIES = 3, 5  # so many builds, each with so many comments for an instance
-MOST_BYTES = 120_000  # a comment of so many takes more steps than the bound
+ROUNDS, TRIES = 3, 5  # the builds, and the comments that each tries for an instance
+MOST_BYTES = 120_000  # a comment of this length takes more steps than the bound
 
 
 @dataclass(frozen=True)
@@ -79,7 +79,7 @@ class End:
     requests: int
 
     def complaint(self, requests):
-        """What is wrong with it where so many requests are allowed, or None."""
+        """What is wrong with it where `requests` requests for memory are allowed, or None."""
         if "run=ended" not in self.said or "status=0" not in self.said or "output=expected" not in self.said:
             return f"another report, or none ({self.said})"
         if "runners=2" not in self.said:
@@ -95,7 +95,7 @@ def instances():
 
 
 def with_comment(name, count):
-    """The text of the instance with a comment of so many bytes after its first line."""
+    """The text of the instance with a comment of `count` bytes after its first line."""
     first, rest = (INSTANCES / name).read_text().split("\n", 1)
     mark = "c" if first.startswith("p ") else "*"
     return f"{first}\n{mark:.<{count - 1}}\n{rest}" if count else f"{first}\n{rest}"
@@ -107,7 +107,7 @@ def run_side(top, cases, steps):
         for case, (name, count) in cases.items():
             Path(folder, case).write_text(with_comment(name, count))
             shutil.copy(INSTANCES / f"{name}.stdout", Path(folder, f"{case}.stdout"))
-        # No run makes so many requests that one is refused, but with this word they are counted.
+        # No run makes enough requests for one to be refused, but with this word they are counted.
         words = ["rt", "try", "--steps", steps, "--seconds", SECONDS, "--fail-alloc", 10**9, "--cases", folder]
         tried = ran(list(map(str, words)), cwd=top / "crates/bench", timeout=None)
     said, ended, requests = tried.out + tried.err, {}, 0

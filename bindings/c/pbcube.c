@@ -3,7 +3,7 @@
 
 #include <stdlib.h>
 
-/* As Solver in crates/pb_c/src/solver.rt: all bytes 0 hold no session. */
+/* Laid out like Solver in crates/pb_c/src/solver.rt: where all bytes are 0 there is no session. */
 struct pbcube {
     void *session;
     uint32_t made;

@@ -32,8 +32,8 @@ missing() { # the tasks that have no report, or an empty one, or one in which a 
   done
 }
 
-# With the statuses 0 and 10 what begins as a part is one. It has the report's name only once it is whole, and another name before
-# in each process, so that the same task may be run twice at a time. What else a task writes is shown.
+# With the statuses 0 and 10 what begins like a part is one. It gets the report's name only once it is whole; until then its name
+# is another one in each process, so that the same task may run twice at a time. What else a task writes is shown.
 printf -v words '%q ' --format "$format" --split "$split" --tasks "$tasks" --exchange notes "$file"
 search="part={}.\$(uname -n).\$\$.part; pbcube_task --task {} $words > \$part; case \$? in 0 | 10) "
 search+='if grep -q "^c part " $part; then mv $part {}.report; else cat $part >&2; exit 1; fi ;; *) exit 1 ;; esac'

@@ -1,7 +1,7 @@
 #!/usr/bin/env bash
 #SBATCH --job-name=pbcube-join --cpus-per-task=1 --requeue --output=/dev/null
 #SBATCH --time=1:00:00 --mem=2G
-# Joins the reports of an instance's pieces as a job of Slurm, after those of slurm.sh have ended, or the reports of so many tasks,
+# Joins the reports of an instance's pieces as a job of Slurm, after those of slurm.sh have ended, or the reports of TASKS tasks,
 # after those of slurm-tasks.sh:
 #
 #   sbatch --dependency=afterany:JOB slurm-join.sh FILE FORMAT FOLDER [TASKS]

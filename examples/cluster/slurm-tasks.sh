@@ -19,7 +19,7 @@ log=task-$task.log
 exec 2> "$log"
 trap '[ -s "$log" ] || rm -f "$log"' EXIT
 
-# The task that comes first says what the folder is of. It has the name only once it is whole, and is never written over.
+# The first task writes which division the folder is for. The file gets its name only once it is whole, and is never overwritten.
 part=$task.$(uname -n).$$.part
 division="instance $(sha256sum < "$file" | cut -d ' ' -f 1) split $split tasks $tasks"
 if [ ! -e division ]; then
@@ -33,8 +33,8 @@ if [ "$(cat division)" != "$division" ]; then
 fi
 ! grep -qsx 'c cut' "$task.report" || exit 0
 
-# With the statuses 0 and 10 what begins as a part is one. It has the report's name only once it is whole, and another name before
-# in each process, so that the same task may be run twice at a time. What else a task writes is told.
+# With the statuses 0 and 10 what begins like a part is one. It gets the report's name only once it is whole; until then its name
+# is another one in each process, so that the same task may run twice at a time. What else a task writes is told.
 pbcube_task --format "$format" --split "$split" --workers "${SLURM_CPUS_PER_TASK:-1}" --task "$task" --tasks "$tasks" \
   --exchange notes "$file" > "$part" || status=$?
 if [[ $status =~ ^(0|10)$ ]] && grep -q '^c part ' "$part"; then

@@ -22,7 +22,7 @@ class Copy:
         return ended.status, ended.out
 
     def unproved_program(self, name, level=2):
-        """The program of this name, compiled without proof and optimized so much."""
+        """The program of this name, compiled without proof at this level of optimization."""
         program = self.built / name
         program.unlink(missing_ok=True)
         status, said = self.run(["./build", name, program, str(level)])

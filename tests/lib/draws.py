@@ -62,7 +62,7 @@ def literal(draw, variables):
 
 
 def terms(draw, width, variables, count):
-    """So many terms, of which many have equal coefficients."""
+    """A sum of `count` terms, of which many have equal coefficients."""
     first, second, third = (width(draw) for _ in range(3))
     coefficients = [0, -first, -first, *3 * [first], *3 * [second], *3 * [third]]
     return tuple((draw.choice(coefficients), literal(draw, variables)) for _ in range(count))
@@ -114,7 +114,7 @@ class Random:
         return Instance(variables, objective, tuple(rows), False)
 
     def clauses(self, variables, costs, count):
-        """An instance of these costs, if any, and so many clauses of three literals."""
+        """An instance of these costs, if any, and `count` clauses of three literals."""
         rows = [(tuple((1, self.literal(variables)) for _ in range(3)), ">=", 1) for _ in range(count)]
         return Instance(variables, tuple(costs) or None, tuple(rows), False)
 

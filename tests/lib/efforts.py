@@ -1,7 +1,7 @@
 """Instances that were worked out for the effort of their search: each needs a part of it that others can do without."""
 from .instance import Instance
 
-CHORDS = (1, 7)  # a ring's pairs are so many steps apart
+CHORDS = (1, 7)  # the steps between the two of a ring's pair
 
 
 def of(variables, costs, rows):
@@ -35,12 +35,12 @@ def ring_cover(size):
 
 
 def ring_before_others(size, others):
-    """One of any two near each other on a ring is chosen, and there are so many variables more, which no row names."""
+    """One of any two near each other on a ring is chosen, and there are `others` more variables, which no row names."""
     return of(size + others, [], [clause(*pair) for pair in ring(size, (1, 2))])
 
 
 def gated_cover(size, gates):
-    """The same where each row is met by an open gate too: so many gates, each of as many rows one after the other. What follows
+    """The cover where each row is also met by an open gate: `gates` gates, each of as many rows one after the other. What follows
     from an open one contradicts itself, so none is; but the relaxation opens half of each."""
     gate_of = [size + 2 * gate + 1 for gate in range(gates)]
     rows = [clause(*pair, gate_of[number * gates // (2 * size)]) for number, pair in enumerate(ring(size, CHORDS))]
@@ -65,12 +65,12 @@ def crowd(after, holes):
 
 
 def pigeons(holes):
-    """The same alone."""
+    """The clauses of `crowd` alone."""
     return of((holes + 1) * holes, [], crowd(0, holes))
 
 
 def crowd_behind_ring(size, holes):
-    """More pigeons than holes behind a ring of so many variables, of which one of any two near each other is chosen."""
+    """More pigeons than holes behind a ring of `size` variables, of which one of any two near each other is chosen."""
     near = [clause(*pair) for pair in ring(size, (1, 2, 3, 4))]
     return of(size + (holes + 1) * holes, [], near + crowd(size, holes))
 
@@ -83,21 +83,21 @@ def failing_behind_ring():
 
 
 def packing(things, bins, room):
-    """So many things, each of which lies in one of the bins, and no more than so many in one."""
+    """Things, each of which lies in one of the bins, and at most `room` of them in one bin."""
     places = [[thing * bins + bin + 1 for bin in range(bins)] for thing in range(things)]
     lies = [(tuple((1, it) for it in row), "=", 1) for row in places]
     return of(things * bins, [], lies + [(tuple((1, it) for it in column), "<=", room) for column in zip(*places)])
 
 
 def things_without_a_place(things, places):
-    """So many things, each of which lies at one of the places, and no two at one. The first thing costs something at the first place."""
+    """Things, each of which lies at one of the places, and no two at one place. The first thing costs something at the first place."""
     at = [[thing * places + place + 1 for place in range(places)] for thing in range(things)]
     alone = [(tuple((1, it) for it in column), "<=", 1) for column in zip(*at)]
     return of(things * places, [(1, 1)], [clause(*row) for row in at] + alone)
 
 
 def schedule(jobs):
-    """So many jobs one after the other on a machine, each with a price for each hour until its end."""
+    """Jobs one after the other on a machine, each with a price for each hour until its end."""
     lengths = [job * 3 % 4 + 1 for job in range(jobs)]
     hours = sum(lengths)
 

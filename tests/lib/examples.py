@@ -18,13 +18,13 @@ def variables_of(example):
 
 
 def divisions(variables, splits, cubes=None):
-    """Words that divide an instance of so many variables by each split that they allow, and by the cubes of a file."""
+    """Words that divide an instance of `variables` variables by each split that they allow, and by the cubes of a file."""
     more = ["--cubes", str(cubes)] if cubes else []
     return [[*more, "--split", str(split)] for split in splits if split <= variables]
 
 
 def divisions_of(example, splits):
-    """The same of an example, without cubes and with those of the file beside it, where there is one."""
+    """Such words for an example, without cubes and with those of the file beside it, where there is one."""
     cubes = example.with_suffix(".cubes")
     files = (None, cubes) if cubes.exists() else (None,)
     return [words for file in files for words in divisions(variables_of(example), splits, file)]

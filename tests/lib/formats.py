@@ -150,7 +150,7 @@ def clausal(variables, clauses):
 
 
 def read_cubes(file, variables):
-    """The cubes of a file beside an instance of so many variables."""
+    """The cubes of a file beside an instance of `variables` variables."""
     return cubes_of(clausal_rows(file)[0], variables, "Syntax")
 
 

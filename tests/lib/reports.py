@@ -11,7 +11,7 @@ def digest(text):
 
 
 def index_of(text, kind, variables, pieces):
-    """The index of so many pieces of an instance."""
+    """The index of `pieces` pieces of an instance."""
     width = len(str(pieces - 1))
     names = "".join(f"{number:0{width}}.{kind}\n" for number in range(pieces))
     return f"pieces {pieces}\nformat {kind}\nvariables {variables}\nsha256 {digest(text)}\n{names}"

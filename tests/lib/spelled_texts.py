@@ -68,7 +68,7 @@ CLAUSES = [
     ("icnf", ICNF, 5, [[1, 2]], [[5], [-5, 1], []]),
 ]
 
-# Files of cubes beside so many variables: the cubes.
+# The number of variables, a file of cubes beside it, and the cubes.
 CUBES = [
     (1, b"a 1 0\n%\na x\n", [[1]]),
     (17, b"a 1 2 3 4 5 6 7 8 9 10 11 12 13 14 15 16 17 0", [[1, 2, 3, 4, 5, 6, 7, 8, 9, 10, 11, 12, 13, 14, 15, 16, 17]]),

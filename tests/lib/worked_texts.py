@@ -327,8 +327,8 @@ LONG = [
     ("opb", b"", sum_of(1, 20_000), 1, b" >= 1 ;\n", "s SATISFIABLE\n" + values(20_000, (20_000,))),
 ]
 
-# Files of so many empty cubes beside the cover, after this beginning and before this end, with a split of so many variables: as many
-# cubes as there may be, and one beyond, which is refused before what comes after it.
+# Files of empty cubes beside the cover: what comes before these, their number, what comes after them, and the variables of the split.
+# They have as many cubes as there may be, or one more, which is refused before what comes after it.
 MANY_CUBES = [
     (b"", 1_048_575, b"", 0, COVERED),
     (b"", 1_048_575, b"", 1, "c refused cubes: TooMany\ns UNSUPPORTED\n"),

@@ -104,7 +104,7 @@ int open(const char *name, int flags, ...)
     return openat(AT_FDCWD, name, flags, mode);
 }
 
-/* How many bytes a read or write of so many moves at most, or -1 where it fails. */
+/* How many bytes a read or write of count bytes moves at most, or -1 where it fails. */
 static ssize_t most_moved(const char *of_kind, size_t count)
 {
     if (!comes(of_kind))

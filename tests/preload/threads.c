@@ -5,8 +5,8 @@
  *   THREADS_HELD  the number of a thread, from 1, which begins only when all others have ended or wait; 0: none, and only
  *                 then THREADS_ALL counts
  *   THREADS_TELL  a file descriptor on which a line is written for each thread that is made (`made`), for one that was
- *                 waited for too early (`early`), and for each that ends (`ended`, its number, and the nanoseconds of its
- *                 processor from where it was let go)
+ *                 waited for too early (`early`), and for each that ends (`ended`, its number, and the nanoseconds of
+ *                 processor time that it took since it was let go)
  */
 #define _GNU_SOURCE
 #include <dlfcn.h>

@@ -33,7 +33,7 @@ lp_model_of = runpy.run_path(str(CLIENTS / "pbcube-lp"))["model_of"]
 MODELS = 150  # that take a few milliseconds each
 COMPILED = 4  # that take most of a second each
 MODEL = r"examples/clients/\w+\.(?:py|mzn|cudf|lp)\b"  # of a command
-CBC_STEP = 10  # of so many PuLP models one is given to CBC
+CBC_STEP = 10  # one in this number of PuLP models is given to CBC
 ODD_NAMES = ("x", "y1", "#2", "z(1,2)", "it's", "e_", "a;b", "_", 'é|"', "end.", "$&~", "free!")
 NAMES = ("a", "b", "c", "d", "e", "f")
 

@@ -354,7 +354,7 @@ PIECE_TEXTS = {
 
 
 def pieces_row(words, out, pieces):
-    """A row of a run that writes so many pieces, and what some of them are."""
+    """A row of a run that writes `pieces` pieces, and what some of them are."""
     files = {name: text for name, text in PIECE_TEXTS.items() if name.startswith(f"{out}/")}
     return Row(f"--out {out} {words}", f"pieces {pieces}\n", files=files)
 
@@ -508,7 +508,7 @@ TASK = [
 
 
 def states(pieces, cut=()):
-    """What is said of so many pieces of which these were cut and no other has a report."""
+    """What is said of these pieces, of which some were cut and no other one has a report."""
     said = {number: "was not solved to its end" if number in cut else "has no report" for number in pieces}
     return "".join(f"pbcube_join: piece {number} {it}\n" for number, it in said.items()) + run_again("pieces", pieces)
 
@@ -530,7 +530,7 @@ def rejected(words, why):
 
 
 def of_task(task, done, claim, cut="", tasks=2, division=IN_THREE, text=TIE):
-    """The report of one of so many tasks, which has done these pieces."""
+    """The report of one of `tasks` tasks, which has done these pieces."""
     return part(f"{task} of {tasks}", text, division, done, cut) + claim
 
 

@@ -41,7 +41,7 @@ def texts(folder):
 
 
 def every_division(folder, variables):
-    """Words that cut an instance of so many variables."""
+    """Words that cut an instance of `variables` variables."""
     cubes = folder / "cubes"
     cubes.write_text(f"a 1 -2 0\na -1 0\na {variables} 1 0\n")
     return divisions(variables, range(5)) + (divisions(variables, (0, 2), cubes) if variables >= 2 else [])
@@ -130,7 +130,7 @@ def unnoticed(name, joined, reports, chosen, changes):
 
 
 def tasks_ran(file, kind, words, tasks, folder):
-    """Reports, one of each of so many tasks, in order."""
+    """Reports, one of each of `tasks` tasks, in order."""
     folder.mkdir()
     for task in range(tasks):
         ended = run("pbcube_task", "--format", kind, *words, "--task", task, "--tasks", tasks, file)
@@ -139,7 +139,7 @@ def tasks_ran(file, kind, words, tasks, folder):
 
 
 def of_tasks(file, kind, words, tasks, whole, folder):
-    """What is wrong with joins of the reports of so many tasks."""
+    """What is wrong with joins of the reports of `tasks` tasks."""
     name = f"{file.name} {' '.join(words)}, {tasks} tasks"
     reports = tasks_ran(file, kind, words, tasks, folder)
     joined = ("pbcube_join", file, "--format", kind, "--tasks", tasks)

@@ -21,7 +21,7 @@ sys.path.insert(0, str(Path(__file__).resolve().parents[1]))
 from lib import STATUSES, TOP, built, preloaded, ran, side_by_side
 
 SECONDS = 120  # after which a run is taken to hang
-SPARE = 2  # so many requests of one worker more than today are allowed
+SPARE = 2  # requests of one worker that are allowed beyond those of today
 MEBIBYTE = 1 << 20
 
 # A comment of 65 mebibytes, in lines of 64 bytes, and a constraint.

@@ -704,7 +704,7 @@ def kept_facts():
         model.add(x + y == 1)
         models.append((model, x, y, model.fixed([x])[y]))
     yield "fixed by a child", all(fixed is False for *_, fixed in models)
-    yield f"so many wait: {waiting()}", len(waiting()) == searches._MOST_WAITING
+    yield f"children that wait: {waiting()}", len(waiting()) == searches._MOST_WAITING
     model, x, y, _ = models[-1]
     before = waiting()
     model.add(x >= 1)

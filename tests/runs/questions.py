@@ -30,7 +30,7 @@ INSTANCES = 340
 QUESTIONS = 20
 FEASIBLE = (2000, 4000)  # between which is the number of questions about something feasible
 STATEMENTS, MOST_VARIABLES = 6, 8  # at most at first, and ever
-MORE_VARIABLES, EVERY = 10, 6  # so many at most in one of so many instances
+MORE_VARIABLES, EVERY = 10, 6  # at most, in one of EVERY instances
 WIDE = 1 << 63  # the numbers of every third instance are multiplied by it
 GREATEST = 1 << 62  # of the numbers that are told
 ROW, ROW_ITEMS, ROW_QUESTIONS = 1000, 60, 10_000
@@ -93,7 +93,7 @@ class Known:
         self._listed = None
 
     def tell(self, variables):
-        """Tells one more statement over so many variables."""
+        """Tells one more statement over the variables 1 to `variables`."""
         self._listed = None
         count = random.randint(0, variables)
         terms = [(self.scale * random.randint(-4, 6), random.choice((1, -1)) * random.randint(1, variables)) for _ in range(count)]
@@ -288,7 +288,7 @@ def wrong_draws(every):
 
 
 def row_of_questions(count):
-    """An instance of many rows, and so many questions on it."""
+    """An instance of many rows, and `count` questions on it."""
     random.seed(11)
     lines = ["objective " + terms_of([(random.randint(1, 9), item) for item in range(1, ROW_ITEMS + 1)]) + "\n"]
     for _ in range(ROW):

@@ -25,8 +25,8 @@ from lib.worked_texts import BUDGETED, TWO_OF_THREE, UNKNOWN
 
 SPLITS = (0, 1, 3)
 
-# Tasks of so many among which the nine pieces of a text are dealt, with a budget or none, and which pieces each is done with. In a
-# cube of all variables nothing is left to decide, so a budget cuts none of these.
+# A task, how many there are, among which the nine pieces of a text are dealt, a budget or none, and which pieces the task is done
+# with. In a cube of all variables nothing is left to decide, so a budget cuts none of these.
 DEALT = [
     (0, 1, None, range(9)),
     (0, 4, None, (0, 4, 8)),
@@ -50,7 +50,7 @@ WORKED = [
     # a cube that contradicts itself, empty cubes, and a remainder without assignments
     ("p inccnf\n1 2 0\na 1 -1 0\na 0\na 0\n", [None, "-1 2", "-1 2", None]),
 ]
-# All cubes over nine variables that no constraint names leave nothing. The search of the remainder sees it within so many decisions where
+# All cubes over nine variables that no constraint names leave nothing. The search of the remainder sees that within ENOUGH decisions where
 # it begins with these variables.
 RING, BESIDE, ENOUGH = 40, range(41, 50), 767
 
@@ -69,7 +69,7 @@ def as_answer(claim):
 
 
 def faults_of(task, instance, words, tasks, workers, folder):
-    """What is wrong with the reports of so many tasks."""
+    """What is wrong with the reports of `tasks` tasks."""
     command = [task, "--format", instance.suffix[1:], *words, "--workers", workers, "--tasks", str(tasks)]
     more = ["--exchange", str(folder)] if folder else []
     with ThreadPoolExecutor(tasks) as pool:

@@ -30,9 +30,9 @@ from lib.worked_texts import SPOILED_CUBES, UNCHANGED, WORKED
 AMPLE = 1000  # decisions: more than any piece of a worked text needs
 REPETITIONS = 100  # of runs in which the order of events may differ
 REPLACEMENTS = (b";", b"-", b"\n", b"\xff")  # bytes that end a statement, a number or a line, or that no rule names
-INSTANCES = 600  # so many are drawn of each width
-CHANGED = 300  # of so many the numbers are changed too
-FEWEST_OF_A_STATUS = 100  # so many of each width are feasible at least, and so many are not
+INSTANCES = 600  # that are drawn of each width
+CHANGED = 300  # instances whose numbers are changed too
+FEWEST_OF_A_STATUS = 100  # instances of each width that are feasible at least, and that are not
 OF_ANY_FORM = 600  # instances
 OF_CLAUSES = 40  # instances, of ten variables with four clauses for each, so that many decisions end in a conflict
 OF_BOTH_WIDTHS = 300  # instances

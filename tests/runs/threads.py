@@ -22,9 +22,9 @@ from lib import TOP, built, preloaded, ran
 
 FAMILY, SIZE = "clauses", "226"
 SECONDS = 300  # after which a run is taken to hang
-SHARE = 10  # a share of the work is more than one part of so many
+SHARE = 10  # a share of the work is more than one of this number of equal parts
 CREWS = ((1, 6, 0), (2, 6, 1), (3, 6, 2), (4, 6, 3), (7, 6, 6), (64, 1, 2), (64, 0, 0))  # workers, split, threads
-MORE = 4  # two workers together take no more than so many times what one takes
+MORE = 4  # times what one worker takes that two together take at most
 MANY = 50_000  # pieces that each take next to no time
 HELD = ((2, 1), (3, 1), (3, 2), (4, 1), (4, 2))  # workers, and the thread that is held back
 

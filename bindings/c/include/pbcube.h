@@ -71,20 +71,20 @@ int pbcube_clause(pbcube *solver, const int32_t *literals, size_t count);
 int pbcube_discard(pbcube *solver);
 uint32_t pbcube_variables(pbcube *solver); /* how many there are so far; of null 0 */
 
-/* Solving, with at most so many decisions, or PBCUBE_NO_LIMIT. What was found is kept until a later search ends, which also takes
- * it away where that one finds nothing. pbcube_solve_under searches among the assignments that make the literals true; a literal
- * of a variable that no statement names is left out. From one question to the next, up to the next statement, a solver keeps its
- * search. */
+/* Solving, with at most this many decisions, or PBCUBE_NO_LIMIT. What was found is kept until a later search ends, which also
+ * takes it away where that one finds nothing. pbcube_solve_under searches among the assignments that make the literals true; a
+ * literal of a variable that no statement names is left out. From one question to the next, up to the next statement, a solver
+ * keeps its search. */
 int pbcube_solve(pbcube *solver, uint64_t decisions);
 int pbcube_solve_under(pbcube *solver, const int32_t *literals, size_t count, uint64_t decisions);
 
 /* Values that searches try first: a byte 0 or 1 for each variable there is. Only a search that is cut depends on them. */
 int pbcube_suggest(pbcube *solver, const uint8_t *values, size_t count);
 
-/* Why nothing is feasible under the literals: PBCUBE_UNSATISFIABLE or PBCUBE_CORE, with some of them that are enough for that in
- * the core and their number in core_count. Of PBCUBE_UNSATISFIABLE something is feasible without any one of them. The core is
- * another array with room for `count` literals. PBCUBE_SATISFIABLE, where something is feasible, and PBCUBE_UNKNOWN write
- * nothing. */
+/* Why nothing is feasible under the literals: PBCUBE_UNSATISFIABLE or PBCUBE_CORE, with some of them that are enough for that
+ * in the core and their number in core_count. With PBCUBE_UNSATISFIABLE the core is minimal: something is feasible once any one
+ * of its literals is left out. The core is another array with room for `count` literals. PBCUBE_SATISFIABLE, where something is
+ * feasible, and PBCUBE_UNKNOWN write nothing. */
 int pbcube_explain(pbcube *solver, const int32_t *literals, size_t count, uint64_t decisions, int32_t *core, size_t *core_count);
 
 /* Which variables have one value in all assignments that are asked about: all that are feasible under the literals, or those of
@@ -94,7 +94,7 @@ int pbcube_explain(pbcube *solver, const int32_t *literals, size_t count, uint64
 int pbcube_fixed(pbcube *solver, const int32_t *literals, size_t count, int among, uint64_t decisions,
                  uint8_t *statuses, size_t size);
 
-/* Reading what was found. The cost is 0 without an objective; where a code is answered none is written. A value is 0 or 1. The
+/* Reading what was found. The cost is 0 without an objective; where an error is answered none is written. A value is 0 or 1. The
  * text of the cost is decimal, of at most 39 bytes: as many of them as fit are written, with no zero at the end, and its length is
  * answered, 0 where nothing was found or the solver is null. Null for the text is room for none. */
 int pbcube_cost(pbcube *solver, int64_t *cost);

@@ -80,8 +80,8 @@ class Answer(_Named):
     def __getitem__(self, literal: Union[Literal, str]) -> bool:
         """Whether a literal, or the variable of a name, is true.
 
-        Raises LookupError where nothing was found, or its variable is none of the answer's, and ForeignLiteral where that is one of
-        another model."""
+        Raises LookupError where nothing was found or the answer has no such variable, and ForeignLiteral where the variable is one
+        of another model."""
         if isinstance(literal, str):
             return self._is_true(self._number_of(literal))
         self._check(as_literal(literal).owners)

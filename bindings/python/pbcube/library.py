@@ -86,7 +86,7 @@ class Search:
         self._library.pbcube_free(self._solver)
 
     def run(self, job: Job, nodes: int) -> Reply:
-        """What the job finds, with at most so many decisions. Where something is refused, what was told is told in part."""
+        """What the job finds, with at most `nodes` decisions. Where something is refused, what was told is told in part."""
         try:
             if not self._solver:
                 raise _Fault("Memory")

@@ -39,7 +39,7 @@ class _Objective:
 
 class Model:
     """Constraints over variables, and an objective. Coefficients and bounds may be fractions and floats, which are taken exactly.
-    Pickled and read again it is a copy, as `copy` makes.
+    A pickle of it makes a copy, as `copy` does.
 
     `cubes` are those of the text in iCNF that it was read from, each as its literals, and else none. They divide the work of other
     programs, and no answer here depends on them."""
@@ -101,7 +101,7 @@ class Model:
         return f"<Model: {sizes}, {'an' if self._objective else 'no'} objective>"
 
     def _repr_html_(self) -> str:
-        """The same as a table, which notebooks show."""
+        """The sizes of the model as a table, which notebooks show."""
         return table([*self._sizes(), ("objective", "yes" if self._objective else "no")])
 
     def _sizes(self) -> List[Tuple[str, int]]:
@@ -174,7 +174,7 @@ class Model:
         return self.variables(1 if name is None else [name])[0]
 
     def variables(self, count: Union[int, str, Iterable[str]]) -> List[Literal]:
-        """So many new variables, or one of each name, which may also be the words of one text, as "x y"."""
+        """New variables: `count` of them, or one of each name, which may also be the words of one text, as "x y"."""
         names = _names_of(count)
         with self._lock:
             self._check_names(names)
@@ -258,15 +258,15 @@ class Model:
             self.add(Sum(rule.terms, 0, rule.owners) + max(missing, 0) * ~given >= rule.bound)
 
     def at_least(self, count: int, literals: Iterable[Literal]) -> None:
-        """Adds that at least so many of the literals are true."""
+        """Adds that at least `count` of the literals are true."""
         self.add(total(self._own(literals)) >= index(count))
 
     def at_most(self, count: int, literals: Iterable[Literal]) -> None:
-        """Adds that at most so many of the literals are true."""
+        """Adds that at most `count` of the literals are true."""
         self.add(total(self._own(literals)) <= index(count))
 
     def exactly(self, count: int, literals: Iterable[Literal]) -> None:
-        """Adds that exactly so many of the literals are true."""
+        """Adds that exactly `count` of the literals are true."""
         self.add(total(self._own(literals)) == index(count))
 
     def _own(self, literals: Iterable[Literal]) -> List[Literal]:
@@ -324,8 +324,8 @@ class Model:
         return Answer(Status(status), cost, told, reply.names, reply.owners)
 
     def explain(self, assuming: Iterable[Literal], nodes: Optional[int] = None, *, time_limit: Optional[float] = None) -> Explanation:
-        """Tells of literals under which nothing is feasible some that are enough for that, as few as leaving out one after the other
-        gives, with at most `nodes` decisions and for at most `time_limit` seconds where they are given.
+        """Of literals under which nothing is feasible, finds some that are enough for that: each is left out in turn where the others
+        are enough. It makes at most `nodes` decisions and takes at most `time_limit` seconds where they are given.
 
             >>> model = Model()
             >>> x, y, z = model.variables("x y z")
@@ -443,7 +443,7 @@ def _truth(value: object) -> bool:
 
 
 def _values_in_order(start: Sequence[bool], count: int) -> bytes:
-    """The values of so many variables as bytes 0 and 1."""
+    """The values of `count` variables as bytes 0 and 1."""
     if isinstance(start, (str, bytes)) or not hasattr(start, "__len__") or not hasattr(start, "__getitem__"):
         raise TypeError(f"no start: {start!r}: write an answer, or a dict of values by variables or names, as {{x: True}}")
     if len(start) != count:

@@ -64,7 +64,7 @@ def deadline_of(time_limit: Optional[float]) -> Optional[float]:
 
 
 def search(job: Job, nodes: int, deadline: Optional[float]) -> Reply:
-    """What is found in a text, with at most so many decisions, and by the deadline where there is one."""
+    """What is found in a text, with at most `nodes` decisions, and by the deadline where there is one."""
 
     def here(most: int) -> Reply:
         return Search(library.loaded).run(job, most)
@@ -102,8 +102,8 @@ def _found(
 
 @dataclass(frozen=True)
 class Statements:
-    """What a model was told so far: so many of its rules, of which there may be more by now, and the objective; and how many terms
-    they have."""
+    """What a model was told so far: the first `count` of its rules, of which there may be more by now, and the objective; and how many
+    terms they have."""
 
     rules: List[Statement]
     count: int
@@ -127,7 +127,7 @@ class Kept:
         self._child: Optional[_Child] = None
 
     def ask(self, statements: Statements, question: Question, nodes: int, deadline: Optional[float]) -> Reply:
-        """What is found with at most so many decisions, and by the deadline where there is one."""
+        """What is found with at most `nodes` decisions, and by the deadline where there is one."""
         here = lambda most: self._ask_here(statements, question, most)  # noqa: E731
         by_child = lambda: self._ask_child(statements, question, _budgets(nodes, deadline), deadline)  # noqa: E731
         return _found(_is_small(statements), here, by_child, nodes, deadline)

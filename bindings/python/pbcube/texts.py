@@ -95,7 +95,7 @@ def _literals(words: List[bytes], most: int, at: int) -> List[int]:
 
 
 class Cubes:
-    """The literals of cubes that are read, of which there are only so many in all."""
+    """The literals of cubes that are read, of which there may be `most_literals` in all."""
 
     def __init__(self, most_literals: int) -> None:
         self._left = most_literals
@@ -192,7 +192,7 @@ class Reader:
             yield it
 
     def _clauses(self, rows: List[Row], most: int, count: Optional[int]) -> Iterator[Tuple[int, Statement]]:
-        """The clauses, of which there are so many where that is told."""
+        """The clauses, of which there are `count` where that is told."""
         clause: List[bytes] = []
         is_open, begins, made = False, 1, 0
         for at, word in ((at, word) for at, words in rows for word in words):

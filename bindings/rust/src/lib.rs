@@ -32,7 +32,7 @@ pub use questions::{Among, Explanation, Fixed, VariableStatus};
 use std::fmt;
 use std::ptr::{null_mut, NonNull};
 
-/// How the sum of a constraint's terms stands to its bound.
+/// The relation between the sum of a constraint's terms and its bound.
 #[derive(Clone, Copy, Debug, PartialEq, Eq)]
 pub enum Relation {
     /// `>=`
@@ -82,7 +82,7 @@ pub enum Error {
     TooMany,
     /// Memory was refused.
     Memory,
-    /// What is suggested has not one value for each variable.
+    /// A suggestion does not have one value for each variable.
     BadLength,
     /// The library answered a number that this crate does not know.
     Unknown(i32),
@@ -171,7 +171,7 @@ impl Solver {
         self.tell(terms, end)
     }
 
-    /// Adds that the sum stands in the relation to the bound.
+    /// Adds the constraint that the sum is in this relation to the bound.
     ///
     /// ```
     /// # use pbcube::{Error, Relation, Solver};

@@ -7,11 +7,11 @@ use crate::{checked, status, sys, Answer, Error, Solver};
 pub enum Explanation {
     /// Some assignment is feasible under them.
     Feasible,
-    /// None is, and these of them are enough for that.
+    /// No assignment is, and these of them are enough for that.
     Core {
         /// The literals.
         literals: Vec<i32>,
-        /// Whether something is feasible without any one of them. If not, the budget ended before that was known.
+        /// Whether something is feasible once any one of them is left out. If not, the budget ended before that was known.
         is_minimal: bool,
     },
     /// The budget ended before it was known.
@@ -87,7 +87,7 @@ impl Solver {
         Ok(self)
     }
 
-    /// Tells of literals under which nothing is feasible some that are enough for that. What was found before stays.
+    /// Of literals under which nothing is feasible, tells some that are enough for that. What was found before stays.
     ///
     /// ```
     /// # use pbcube::{Error, Explanation, Solver};

@@ -9,16 +9,16 @@ use crate::rounds::Course;
 pub enum Command {
     /// A reader: that of cubes, or that of the format in which the text begins.
     Read { is_cubes: bool },
-    /// The search of the pieces of a split over k variables, of each anew or of all with one search. Without a split the instance is
-    /// one piece.
+    /// The search of the pieces of a split over k variables, each piece with a search of its own or all with one search.
+    /// Without a split the instance is one piece.
     Search { k: u32, is_anew: bool },
-    /// So many rounds on an engine; without any the normal form alone is made.
+    /// This number of rounds on an engine; where it is 0 only the normal form is made.
     Engine { course: Course, rounds: u32 },
     /// A whole run.
     Solve,
 }
 
-/// What the first line asks for, and the text after it; or to solve the whole text.
+/// What the first line asks for, and the text after it; or else to solve the whole text.
 pub fn command_of(text: &[u8]) -> (Command, &[u8]) {
     let (line, rest) = text.split_at(line_len(text));
     match str::from_utf8(line) {

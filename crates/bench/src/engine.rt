@@ -1,5 +1,5 @@
-//! Builds an engine over the instance of a text and runs rounds of assumptions, propagation, bound and undo on it. Counts go to
-//! standard output, seconds to standard error.
+//! Builds an engine over the instance of a text and runs rounds of assumptions, propagation, bounds and backtracking on it.
+//! Counts go to standard output, seconds to standard error.
 
 use crate::rounds::{self, Counts, Course};
 use crate::texts::instance_of;
@@ -22,7 +22,7 @@ fn terms_len(normal: &Normal) -> usize {
     }
 }
 
-/// When the engine stood, and what the rounds did; none where memory is refused. An instant that the clock refuses is told once the
+/// When the engine was built, and what the rounds did; none where memory is refused. A fault of the clock is told only once the
 /// engine is gone.
 fn run_rounds(
     rt: &HostRuntime,

@@ -1,5 +1,5 @@
-//! Measures a layer of the solver on the text that follows the first line of standard input. That line says which, and how:
-//!
+//! Measures one layer of the solver on the text that follows the first line of standard input. That line says which layer, and
+//! how:
 //! ```text
 //! read [cubes]
 //! search [K [anew]]

@@ -5,7 +5,7 @@ ghost use Rattle.std.specs.Prelude.{◌<◌};
 use pb_engine::{Engine, Step};
 use pb_inst::{Lit, Number};
 
-/// Numbers that look random, and are the same in each run.
+/// Numbers that look random, and are the same in each run. Source: [K97]
 #[derive(Clone, Copy)]
 pub struct Draws {
     state: u64,
@@ -40,7 +40,7 @@ pub enum Course {
     OneAssumption,
     /// Each variable in turn, false.
     InOrder,
-    /// Each variable once, from a drawn one on in steps, each with a drawn sign.
+    /// Each variable once, in steps from a drawn one on, each with a drawn sign.
     Shuffled,
 }
 
@@ -53,7 +53,7 @@ pub struct Counts {
     pub greatest_bound: Number,
 }
 
-/// Runs the rounds. Each assumes and propagates up to a conflict or the end of its course, asks for the bound and takes all back.
+/// Runs the rounds. Each assumes and propagates up to a conflict or the end of its course, asks for the bound and backtracks.
 pub fn run(engine: &mut Engine, course: Course, rounds: u32) -> Counts {
     let mut counts = Counts {
         assumptions: 0,
@@ -78,7 +78,7 @@ pub fn run(engine: &mut Engine, course: Course, rounds: u32) -> Counts {
     counts
 }
 
-/// Propagates, and then assumes and propagates as the course goes.
+/// Propagates, and then assumes and propagates in turn as the course says.
 fn round(engine: &mut Engine, course: Course, draws: &mut Draws) -> Step {
     let vars = engine.vars();
     let (count, start, signs) = match course {

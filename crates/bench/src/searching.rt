@@ -1,6 +1,6 @@
-//! Searches the instance of a text and says on standard error what it found, how many decisions that took, how long, how often it
-//! improved what it held, and how often it asked for what other searches found. A search of each piece anew knows nothing of the
-//! conflicts and multipliers of the pieces before.
+//! Searches the instance of a text. Says on standard error what was found, how many decisions and how much time that took, how
+//! often the incumbent was improved, and how often other searches were asked for theirs. A search of each piece anew knows
+//! nothing of the conflicts and multipliers of the pieces before.
 
 ghost use Rattle.std.specs.Prelude.{◌≡◌, ◌+◌, ◌≤◌, false, length, IfSome};
 
@@ -80,7 +80,7 @@ fn search_pieces(
     decisions
 }
 
-/// The same with the clock, which it adds to what was measured; none where the clock is refused.
+/// Searches, as `search_pieces` does, and adds what it did and the time to what was measured; none where the clock is refused.
 fn timed(
     rt: &HostRuntime,
     search: &mut Search<'_>,
@@ -125,7 +125,7 @@ fn search_range(
     timed(rt, &mut search, first, end, best, measured)
 }
 
-/// Searches so many pieces, each anew or all with one search.
+/// Searches the pieces below `count`, each anew or all with one search.
 fn search_all(
     rt: &HostRuntime,
     tables: &SearchTables<'_>,
@@ -175,7 +175,7 @@ fn measure(rt: &HostRuntime, instance: &Instance, k: u32, is_anew: bool) -> Opti
     measure_pieces(rt, instance, &pieces, is_anew)
 }
 
-/// The same of the text's instance; none where the text cannot be read either.
+/// Searches the text's instance, as `measure` does; none where the text cannot be read either.
 fn measure_text(rt: &HostRuntime, text: &[u8], k: u32, is_anew: bool) -> Option<Measured> {
     let instance = instance_of(rt.alloc(), text)?;
     measure(rt, &instance, k, is_anew)

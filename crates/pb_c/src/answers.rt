@@ -1,4 +1,4 @@
-//! Solving, and reading what was found.
+//! Solving, and reading out what was found.
 ghost use Rattle.std.specs.Prelude.{◌≡◌, length, None, Some};
 ghost use Rattle.pb_c.specs.Codes.{ran_code};
 ghost use Rattle.pb_inst.specs.Incumbent.{Solution};
@@ -17,7 +17,7 @@ use pb_session::{Session, SessionFault};
 use pb_solve::Ran;
 use std::alloc::Global;
 
-/// Searches for the least assignment, with at most so many decisions, where they are fewer than 2^64 - 1.
+/// Searches for the least assignment, with at most `nodes` decisions where that is below 2^64 - 1, and else without a limit.
 #[unsafe(no_mangle)]
 pub extern "C" fn pb_c_solve(alloc: Global, solver: &mut Solver, nodes: u64) -> i32
     ensures { OnHeld solver.old.session.held solver.new.session.held result (λ old new. Solves old new nodes result) }
@@ -47,7 +47,7 @@ pub extern "C" fn pb_c_cost(alloc: Global, solver: &mut Solver, cost: &mut i64) 
     }
 }
 
-/// Writes the cost of what was found, in decimal, as far as there is room, and answers how many bytes it has: 0 where nothing
+/// Writes the cost of what was found, in decimal, as far as there is room, and answers the number of its bytes: 0 where nothing
 /// was found.
 #[unsafe(no_mangle)]
 pub extern "C" fn pb_c_cost_text(alloc: Global, solver: &mut Solver, room: &mut [u8]) -> usize
@@ -93,7 +93,7 @@ pub extern "C" fn pb_c_variables(alloc: Global, solver: &mut Solver) -> u32
     vars
 }
 
-/// The budget of a number of decisions: none for the greatest one.
+/// The budget that `nodes` stands for: none for the greatest number.
 pub(crate) fn budget_of(nodes: u64) -> Option<u64>
     ensures { result ≡ budget nodes }
 {

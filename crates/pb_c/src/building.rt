@@ -30,7 +30,7 @@ pub extern "C" fn pb_c_term(
     code
 }
 
-/// Makes the sum a constraint: it stands in the relation to the bound.
+/// Makes the sum a constraint: the sum is in this relation to the bound.
 #[unsafe(no_mangle)]
 pub extern "C" fn pb_c_end(alloc: Global, solver: &mut Solver, relation: i32, bound: i64) -> i32
     ensures { OnHeld solver.old.session.held solver.new.session.held result (λ old new. TellsEnd old new relation bound result) }
@@ -103,7 +103,7 @@ fn forget(session: &mut Session) -> i32
     OK
 }
 
-/// Adds the term of a literal's number.
+/// Adds a term whose literal is given by its number.
 fn add_term(session: &mut Session, coefficient: i64, literal: i32) -> Result<(), SessionFault>
     ensures { AddsTerm session.old session.new coefficient literal result }
 {
@@ -111,7 +111,7 @@ fn add_term(session: &mut Session, coefficient: i64, literal: i32) -> Result<(),
     session.term(Number::from(coefficient), lit)
 }
 
-/// Adds the clause of literals' numbers. Changes nothing where one of them is refused.
+/// Adds the clause of literals that are given by their numbers. Changes nothing where one of them is refused.
 fn add_clause(session: &mut Session, literals: &[i32]) -> Result<(), SessionFault>
     ensures added { AddsClause session.old session.new literals.now result }
     ensures accepted { OnOk result (All IsVariable literals.now) }
@@ -128,7 +128,7 @@ fn add_clause(session: &mut Session, literals: &[i32]) -> Result<(), SessionFaul
     said
 }
 
-/// Adds each of the literals with coefficient 1, up to one that is refused.
+/// Adds each of the literals with coefficient 1, up to the first that is refused.
 fn add_units(session: &mut Session, literals: &[i32]) -> Result<(), SessionFault>
     requires { session.old.terms ≡ [] }
     ensures units { OnOk result ((lits : List Literal) × (map number_of lits ≡ literals.now) × (session.new ≡ record session.old { terms = map unit_term lits })) }

@@ -1,4 +1,4 @@
-//! The numbers that calls answer: what a search found above 0, and below 0 why a call did nothing.
+//! The numbers that calls answer: above 0 what a search found, and below 0 why a call did nothing.
 
 ghost use Rattle.std.specs.Prelude.{◌≡◌};
 ghost use Rattle.pb_c.specs.Codes.{answer_code, fault_code};
@@ -16,15 +16,15 @@ pub const UNKNOWN: i32 = 1;
 /// There is no objective, and the first feasible assignment was found.
 pub const SATISFIABLE: i32 = 10;
 
-/// The search was cut by its budget, and found a feasible assignment, which may not be the least. A code of its own: whoever
-/// takes it for the answer may be wrong.
+/// The search was cut by its budget, and found a feasible assignment, which may not be the least. This has a code of its own,
+/// since a caller who takes it for the answer may be wrong.
 pub const FOUND: i32 = 11;
 
 /// No assignment is feasible. Of an explanation: the core is minimal.
 pub const UNSATISFIABLE: i32 = 20;
 
-/// No assignment is feasible under the core, and the budget ended before it was known to be minimal: whoever shows it as the
-/// reason may show too much.
+/// No assignment is feasible under the core, and the budget ended before it was known to be minimal: a caller who shows it as
+/// the reason may show more than the reason.
 pub const CORE: i32 = 21;
 
 /// The least assignment was found.
@@ -45,7 +45,7 @@ pub const TOO_MANY: i32 = -3;
 /// Memory was refused.
 pub const MEMORY: i32 = -4;
 
-/// The terms of a sum were given, and it was not ended.
+/// The terms of a sum were given, and the sum was not ended.
 pub const UNENDED: i32 = -5;
 
 /// Nothing was found.

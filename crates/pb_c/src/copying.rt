@@ -1,8 +1,8 @@
-//! Bytes that go out into a caller's room.
+//! Copying bytes out into a caller's room.
 ghost use Rattle.std.specs.Prelude.{◌≡◌, length};
 ghost use Rattle.pb_c.specs.Copied.{copied_into};
 
-/// Copies as many bytes as the room takes, and answers how many there are.
+/// Copies as many of the bytes as the room takes, and answers how many bytes there are in all.
 pub(crate) fn copy_out(bytes: &[u8], room: &mut [u8]) -> usize
     ensures all { result ≡ length bytes.now }
     ensures copied { room.new ≡ copied_into room.old bytes.now }

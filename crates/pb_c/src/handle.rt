@@ -1,4 +1,4 @@
-//! The pointer by which C's memory owns a session.
+//! The pointer through which C's memory owns a session.
 ghost use Rattle.std.specs.Prelude.{◌≡◌, Option, Some, None, IsSome};
 ghost use Rattle.pb_session.specs.Told.{Told};
 ghost use Rattle.pb_c.specs.Held.{holds};
@@ -9,9 +9,9 @@ use std::alloc::Global;
 use std::marker::Model;
 use std::ptr::null_mut;
 
-/// A pointer to nothing, or to a session on the heap, which it owns. An export may not return a pointer, and no `Box` crosses, so
-/// a session lies in a struct of C's memory as this. C copies it with the struct that it lies in, and never
-/// follows it. It is let go without a call: what it owns is freed by `into_raw_box` alone.
+/// A pointer to nothing, or to a session on the heap, which it owns. An export may not return a pointer, and no `Box` may cross
+/// the border to C, so a session lies in a struct of C's memory in this form. C copies it with the struct that it lies in, and
+/// never follows it. It is dropped without a call: only `into_raw_box` gives out what it owns, to be freed.
 #[repr(C)]
 #[derive(Drop)]
 pub struct Handle {

@@ -1,5 +1,6 @@
 //! The solver for callers from C. Each export takes a `Solver` that lies in C's memory, and calls the session that it owns.
-//! `bindings/c/include/pbcube.h` tells the calls, `bindings/c/pbcube.c` tests pointers before it makes them. No thread is started.
+//! `bindings/c/include/pbcube.h` documents the calls, and `bindings/c/pbcube.c` checks pointers before it makes them. No thread
+//! is started.
 #![tactic(auto)]
 
 mod answers;

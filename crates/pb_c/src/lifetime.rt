@@ -8,8 +8,8 @@ use crate::solver::Solver;
 use pb_session::Session;
 use std::alloc::Global;
 
-/// Makes a session that was told nothing, in place of the solver's last one if it has one. Answers `MEMORY`, and changes
-/// nothing, where memory is refused, and else `OK`.
+/// Makes a session that was told nothing, in place of the solver's last one if it has one. Answers `OK`, or `MEMORY` where
+/// memory is refused, and then changes nothing.
 #[unsafe(no_mangle)]
 pub extern "C" fn pb_c_new(alloc: Global, solver: &mut Solver) -> i32
     ensures made { result ≡ OK → solver.new.session.held ≡ Some nothing_told }

@@ -1,4 +1,4 @@
-//! Literals, relations, formats and what is asked about, as C writes them.
+//! Literals, relations, formats and the sets of assignments that are asked about, as C writes them.
 ghost use Rattle.std.specs.Prelude.{◌≡◌, ◌↔◌, IfOk, IfErr, IsOk, IfSome, IfNone};
 ghost use Rattle.pb_c.specs.Called.{number_of, IsVariable, relation_number, format_number};
 ghost use Rattle.pb_c.specs.Questions.{among_number};
@@ -7,7 +7,8 @@ use pb_inst::{InstFault, Lit, Relation};
 use pb_questions::Among;
 use pb_solve::Format;
 
-/// The literal of a number: variable n is n, and its negation -n. Fails with `BadVariable` where n is not from 1 to `MAX_VARS`.
+/// The literal of a number: n stands for variable n, and -n for its negation. Fails with `BadVariable` where n is not from 1 to
+/// `MAX_VARS`.
 pub(crate) fn literal_of(number: i32) -> Result<Lit, InstFault>
     ensures literal { IfOk result (λ lit. number_of lit ≡ number) }
     ensures accepts { IsOk result ↔ IsVariable number }
@@ -24,7 +25,7 @@ pub(crate) fn number_of(lit: Lit) -> i32
     if lit.positive() { number } else { -number }
 }
 
-/// The relation of a number, if it is one of a relation.
+/// The relation of a number, if the number stands for one.
 pub(crate) fn relation_of(number: i32) -> Option<Relation>
     ensures some { IfSome result (λ relation. relation_number relation ≡ number) }
     ensures none { IfNone result ((relation : Relation) → ¬ (relation_number relation ≡ number)) }
@@ -37,7 +38,7 @@ pub(crate) fn relation_of(number: i32) -> Option<Relation>
     }
 }
 
-/// The format of a number, if it is one of a format.
+/// The format of a number, if the number stands for one.
 pub(crate) fn format_of(number: i32) -> Option<Format>
     ensures some { IfSome result (λ format. format_number format ≡ number) }
     ensures none { IfNone result ((format : Format) → ¬ (format_number format ≡ number)) }
@@ -50,7 +51,7 @@ pub(crate) fn format_of(number: i32) -> Option<Format>
     }
 }
 
-/// What is asked about, if the number is one of that.
+/// The assignments that are asked about, if the number stands for some.
 pub(crate) fn among_of(number: i32) -> Option<Among>
     ensures some { IfSome result (λ among. among_number among ≡ number) }
     ensures none { IfNone result ((among : Among) → ¬ (among_number among ≡ number)) }

@@ -15,8 +15,8 @@ use pb_session::{Session, SessionFault};
 use pb_solve::Ran;
 use std::alloc::Global;
 
-/// Searches for the least of the assignments that make the literals true, with at most so many decisions, where they are fewer
-/// than 2^64 - 1.
+/// Searches for the least of the assignments that make the literals true, with at most `nodes` decisions where that is below
+/// 2^64 - 1, and else without a limit.
 #[unsafe(no_mangle)]
 pub extern "C" fn pb_c_solve_under(
     alloc: Global,
@@ -34,7 +34,7 @@ pub extern "C" fn pb_c_solve_under(
     code
 }
 
-/// Suggests the values of all variables: the first that searches try.
+/// Suggests values of all variables: searches try them first.
 #[unsafe(no_mangle)]
 pub extern "C" fn pb_c_suggest(alloc: Global, solver: &mut Solver, values: &[u8]) -> i32
     ensures { OnHeld solver.old.session.held solver.new.session.held result (λ old new. Suggests old new values.now result) }
@@ -47,7 +47,7 @@ pub extern "C" fn pb_c_suggest(alloc: Global, solver: &mut Solver, values: &[u8]
     code
 }
 
-/// Tells under which of the literals nothing is feasible, as far as there is room, and how many they are.
+/// Writes the literals of a core, under which nothing is feasible, as far as there is room, and tells how many they are.
 #[unsafe(no_mangle)]
 pub extern "C" fn pb_c_explain(
     alloc: Global,
@@ -68,7 +68,8 @@ pub extern "C" fn pb_c_explain(
     tell_why(said, core, count)
 }
 
-/// Tells which variables have one value in all assignments that are asked about, a status for each, as far as there is room.
+/// Tells which variables have one value in all assignments that are asked about: a status for each variable, as far as there is
+/// room.
 #[unsafe(no_mangle)]
 pub extern "C" fn pb_c_fixed(
     alloc: Global,
@@ -95,7 +96,7 @@ pub extern "C" fn pb_c_fixed(
     code
 }
 
-/// Searches under the literals of the numbers.
+/// Searches under literals that are given by their numbers.
 fn solve_under(
     session: &mut Session,
     numbers: &[i32],
@@ -109,7 +110,7 @@ fn solve_under(
     said
 }
 
-/// Asks why nothing is feasible under the literals of the numbers.
+/// Asks why nothing is feasible under literals that are given by their numbers.
 fn explain(
     session: &mut Session,
     numbers: &[i32],
@@ -123,7 +124,7 @@ fn explain(
     said
 }
 
-/// Asks which variables are fixed under the literals of the numbers.
+/// Asks which variables are fixed under literals that are given by their numbers.
 fn fixed(
     session: &mut Session,
     numbers: &[i32],
@@ -138,8 +139,8 @@ fn fixed(
     said
 }
 
-/// The literals of the numbers, in the room that the session keeps for them. Fails, and changes nothing, with `Unended` where a sum
-/// is not ended, with `BadVariable` where a number is none of a literal, and with `Memory` where memory is refused.
+/// The literals of the numbers, in the room that the session keeps for them. Fails, and changes nothing, with `Unended` where a
+/// sum is not ended, with `BadVariable` where a number stands for no literal, and with `Memory` where memory is refused.
 fn literals_of(session: &mut Session, numbers: &[i32]) -> Result<Vec<Lit>, SessionFault>
     ensures literals { IfOk result (λ literals. map number_of literals.items ≡ numbers.now) }
     ensures accepted { OnOk result (All IsVariable numbers.now) }
@@ -160,7 +161,7 @@ fn literals_of(session: &mut Session, numbers: &[i32]) -> Result<Vec<Lit>, Sessi
     }
 }
 
-/// Puts the literals of the numbers into the room, up to one that is refused.
+/// Puts the literals of the numbers into the room, up to the first that is refused.
 fn push_literals(room: &mut Vec<Lit>, numbers: &[i32]) -> Result<(), SessionFault>
     requires { room.old.items ≡ [] }
     ensures literals { OnOk result (map number_of room.new.items ≡ numbers.now) }
@@ -192,7 +193,7 @@ fn suggest(alloc: Global, session: &mut Session, values: &[u8]) -> i32
     }
 }
 
-/// The assignment that makes each variable of a byte 1 true. Fails where memory is refused.
+/// The assignment that makes exactly the variables true whose byte is 1. Fails where memory is refused.
 fn assignment_of(alloc: Global, values: &[u8], vars: u32) -> Result<Assignment, Memory>
     requires { length values.now ≡ vars }
     ensures { IfOk result (λ assignment. length assignment ≡ vars) }

@@ -8,7 +8,8 @@ use pb_session::Session;
 use std::alloc::Global;
 use std::mem::replace;
 
-/// A session, or none. In C's memory all bytes 0 are none: `calloc` makes one, and a call with one that was freed is answered.
+/// A session, or none. In C's memory all bytes 0 mean none: `calloc` makes such a solver, and calls with one that was freed
+/// still get an answer.
 #[repr(C)]
 #[derive(Drop)]
 pub struct Solver {
@@ -40,7 +41,7 @@ impl Solver {
         Some(session.into_raw_box(alloc).into_box())
     }
 
-    /// Puts a session in. Asks that there is none, since that would be lost.
+    /// Puts a session in. Asks that there is none, since that one would be lost.
     pub(crate) fn put(&mut self, session: Box<Session>)
         requires { self.old.session.held ≡ None }
         ensures { self.new.session.held ≡ Some session.value }

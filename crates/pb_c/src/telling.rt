@@ -1,5 +1,5 @@
-//! The codes of what a question learned, and what is written of it into a caller's room: nothing where nothing is known, so the
-//! code says by itself what may be read.
+//! The codes of what a question learned, and what is written of it into a caller's room. Where nothing is known nothing is
+//! written, so the code by itself says what may be read.
 ghost use Rattle.std.specs.Prelude.{◌≡◌, ◌≢◌, ◌↔◌, ◌⊎◌, length, All, IsTrue};
 ghost use Rattle.pb_questions.specs.declared.fixing.VariableStatus.TheVariants as known;
 ghost use Rattle.pb_c.specs.Questions.{status_number, KnownCode, TellsExplanation, TellsFixed, TellsWhy, WritesLiterals, WritesStatuses};
@@ -10,8 +10,8 @@ use pb_inst::Lit;
 use pb_questions::{Core, Explanation, Fixed, VariableStatus};
 use pb_session::SessionFault;
 
-/// The code of why nothing is feasible, or of why it was not told. Of a core its literals are written, as far as there is room,
-/// and how many they are, and else nothing.
+/// The code of why nothing is feasible, or of why this was not told. Where there is a core, its literals are written as far as
+/// there is room, and how many they are; else nothing is written.
 pub(crate) fn tell_why(
     said: Result<Explanation, SessionFault>,
     room: &mut [i32],
@@ -45,7 +45,7 @@ fn write_literals(literals: &[Lit], room: &mut [i32])
     }
 }
 
-/// The code of which variables are fixed, or of why it was not told. The statuses are written, as far as there is room.
+/// The code of which variables are fixed, or of why this was not told. The statuses are written, as far as there is room.
 pub(crate) fn tell_fixed(said: Result<Fixed, SessionFault>, room: &mut [u8]) -> i32
     ensures { TellsFixed said room.old room.new result }
 {

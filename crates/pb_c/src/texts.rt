@@ -30,7 +30,7 @@ pub extern "C" fn pb_c_run(
     code
 }
 
-/// Writes the report of the last text, as far as there is room, and answers how many bytes it has: 0 before any text.
+/// Writes the report of the last text, as far as there is room, and answers the number of its bytes: 0 before any text.
 #[unsafe(no_mangle)]
 pub extern "C" fn pb_c_report(alloc: Global, solver: &mut Solver, room: &mut [u8]) -> usize
     ensures unchanged { solver.new.session.held ≡ solver.old.session.held }
@@ -45,7 +45,7 @@ pub extern "C" fn pb_c_report(alloc: Global, solver: &mut Solver, room: &mut [u8
     len
 }
 
-/// Solves a text in the format of a number.
+/// Solves a text in the format of this number.
 fn run(session: &mut Session, format: i32, text: &[u8], nodes: u64) -> i32
     ensures { Runs session.old session.new format text.now nodes result }
 {

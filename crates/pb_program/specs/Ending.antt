@@ -17,7 +17,8 @@ use Rattle.pb_program.specs.Fetching.{HaveTexts}
 abbrev pub EndsWithoutMemory : Option (List ℕ) → Option (List ℕ) → ℕ → Type 0
 EndsWithoutMemory old new status = ((status ≡ 0) × Appends old new memory_report) ⊎ (status ≡ 1)
 
--- a run on these texts, in the format and with the split of the line, ended so, and wrote its report; without a budget no piece was cut
+-- a run on these texts, in the format and with the split of the line, ended so, and wrote its report; without a budget no piece
+-- was cut
 pub record IsRunFor (line : Line) (input : Option (List ℕ)) (cubes : Option (Option (List ℕ))) (old new : Option (List ℕ)) (ran : Ran) : Type 0 where
   pub headline : ran.cut ≡ false → ran.status ≢ Unknown → Reports line.options.format input cubes line.options.split old new ran.status
   pub budgeted : ran.cut ≡ true → ReportsFound line.options.format input cubes line.options.split old new ran.status

@@ -8,6 +8,6 @@ pub struct Line<'a> {
     pub file: &'a str,
     /// The file of cubes, if there is one.
     pub cubes: Option<&'a str>,
-    /// How the instance is written, and how it is solved: of the split 0 to `MAX_SPLIT`, and of a budget 0 to `MAX_NODES`.
+    /// How the instance is written, and how it is solved: with a split of 0 to `MAX_SPLIT`, and a budget of 0 to `MAX_NODES`.
     pub options: Options,
 }

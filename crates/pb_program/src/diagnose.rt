@@ -5,8 +5,9 @@ use pb_read::{Format, read};
 use std::alloc::Global;
 use std::io::{Read, Write};
 
-/// One line to the standard error that may help with an input that was refused, if there is one. The input is read again from
-/// its start for it; one that cannot go back there, as a pipe, has no hint, and faults on the way are ignored.
+/// Writes one line to the standard error that may help with an input that was refused, if there is such a hint. The input is
+/// read again from its start for it. An input that cannot go back there, such as a pipe, has no hint, and faults on the way are
+/// ignored.
 pub fn diagnose<I: Read + Rewind, E: Write>(
     alloc: Global,
     name: &str,

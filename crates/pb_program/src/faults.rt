@@ -14,7 +14,7 @@ pub enum ProgramFault<'a> {
     CannotWrite,
 }
 
-/// One line to the standard error.
+/// Writes one line to the standard error.
 pub fn tell<E: Write>(fault: ProgramFault<'_>, err: &mut E) -> io::Result<()>
     ensures { OnOk result (Appends (E.contents err.old) (E.contents err.new) (fault_line fault.entry)) }
 {

@@ -1,4 +1,4 @@
-//! What `-h` and `--help` say. Lines are broken here, since clap's help is not wrapped.
+//! What `-h` and `--help` say. Lines are broken here, since clap does not wrap its help.
 
 /// What the program does, for `-h`.
 pub const ABOUT: &str = "Finds the least assignment of a pseudo-Boolean instance";

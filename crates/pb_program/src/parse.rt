@@ -12,8 +12,8 @@ use pb_line::parse::{CommandLine, parse};
 use pb_solve::Options;
 use std::alloc::{AllocError, Global};
 
-/// Reads the words, the program's name first. Fails where clap refuses them, where they ask for help or the version, where the
-/// format has another name, and for want of memory, with the kind that says which.
+/// Reads the words, of which the first is the program's name. Fails where clap refuses them, where they ask for help or the
+/// version, where the format has an unknown name, and for want of memory. The kind of the error says which.
 pub fn line<'a>(alloc: Global, words: &'a [&'a str]) -> Result<Line<'a>, Error>
     ensures line { IfOk result (IsLineOf (matches_of pbcube (map (λ word. word.now) words.now))) }
     ensures accepted { IfOk result (λ line. fault_of pbcube (map (λ word. word.now) words.now) ≡ []) }
@@ -39,7 +39,7 @@ impl<'a> CommandLine<'a> for Line<'a> {
     }
 }
 
-// What the matches ask for, unless a value is missing or the format has another name.
+// What the matches ask for, unless a value is missing or the format has an unknown name.
 fn line_of<'a>(matches: &ArgMatches<'a>) -> Option<Line<'a>>
     ensures some { IfSome result (IsLineOf (rows_of (found_of matches.now))) }
     ensures none { IsNone result → HasNoLine (rows_of (found_of matches.now)) }

@@ -21,10 +21,10 @@ use std::alloc::Global;
 use std::io::{Empty, Read, Write};
 use std::thread::Threads;
 
-/// Runs the program on its words, its own name first, and answers its exit status. The input is fetched first, and where it
-/// can be opened the cube file, if there is one. After a run the output has the report on the texts of these files, in the format
-/// and with the split of the words; without a budget no piece was cut. With status 1 one line was written to the standard error,
-/// and with status 2 nothing to the output. Faults of the standard error are ignored.
+/// Runs the program on its words, of which the first is its own name, and answers its exit status. The input is fetched first,
+/// and where it can be opened the cube file, if there is one. After a run the output has the report on the texts of these
+/// files, in the format and with the split of the words; without a budget no piece was cut. With status 1 one line was written
+/// to the standard error, and with status 2 nothing was written to the output. Faults of the standard error are ignored.
 pub fn program<'a, R: Threads + Sync, F: Files, W: Write, E: Write>(
     rt: &R,
     alloc: Global,
@@ -53,7 +53,8 @@ pub fn program<'a, R: Threads + Sync, F: Files, W: Write, E: Write>(
     }
 }
 
-/// The program's end where its words found no memory: with the report of that, or where the output does not take it with 1.
+/// The program's end where there was no memory for its words: it reports that, and ends with 1 where the output does not take
+/// the report.
 pub fn out_of_memory<W: Write, E: Write>(out: &mut Device<W>, err: &mut E) -> u8
     requires { out.old.failed ≡ false }
     ensures { EndsWithoutMemory (W.contents out.old.held) (W.contents out.new.held) result }
@@ -97,7 +98,7 @@ fn run_on_readers<R: Threads + Sync, I: Read + Drop, W: Write>(
     }
 }
 
-/// The input, and the cube file where the line names one, which is fetched after it.
+/// Fetches the input, and after it the cube file where the line names one.
 fn fetch_files<'a, F: Files>(
     line: &Line<'a>,
     files: &mut F,
@@ -156,7 +157,7 @@ fn end_without_run<W: Write, E: Write>(fault: &Error, out: &mut Device<W>, err: 
     }
 }
 
-/// One line to the standard error, whose own fault is ignored.
+/// Writes one line to the standard error, whose own fault is ignored.
 fn end_at_fault<E: Write>(fault: ProgramFault<'_>, err: &mut E) -> u8
     ensures { result ≡ 1 }
 {

@@ -17,7 +17,7 @@ use Rattle.pb_questions.specs.Sought.{IsAnswerTo, IsWithin}
 use Rattle.pb_questions.specs.Explained.{IsCore, IsNeededAt}
 use Rattle.pb_questions.proofs.UnderLemmas.{named_among}
 
--- what is left of the literals once so many of n were tried
+-- what is left of the literals once `tried` of n were tried
 pub record IsShrunk (p : Problem) (old now : List Literal) (n tried : ℕ) (is_minimal : Bool) : Type 0 where
   pub among : All (λ l. Contains old l) now
   pub variables : All (λ l. l.var ≤ p.vars) now

@@ -68,7 +68,7 @@ abbrev pub AreUnknown : ℕ → Fixed → Type 0
 AreUnknown n Infeasible = ⊥
 AreUnknown n (Variables statuses) = statuses.items ≡ replicate n Unknown
 
--- what was found, if anything was, is an assignment to so many variables
+-- what was found, if anything was, is an assignment to n variables
 abbrev pub HoldsFor : ℕ → Sought → Type 0
 HoldsFor n (Found best) = IfSome best.held (λ s. length s.assignment ≡ n)
 HoldsFor n Nothing = ⊤

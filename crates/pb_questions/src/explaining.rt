@@ -1,4 +1,5 @@
 //! Why nothing is feasible under assumptions.
+//! Source: [CD91]
 
 ghost use Rattle.std.specs.Prelude.{◌≡◌, ◌≢◌, ◌≤◌, true, None, All, Contains, IfOk, IfNone};
 ghost use Rattle.pb_questions.specs.Under.{IsInfeasibleUnder};
@@ -13,7 +14,8 @@ use pb_inst::{Lit, Memory};
 pub struct Core {
     /// Some of the assumptions, in their order or another.
     pub literals: Vec<Lit>,
-    /// Whether something is known to be feasible without any one of them. If not, the budget ended before that was known.
+    /// Whether something is known to be feasible once any one of them is left out. If not, the budget ended before that was
+    /// known.
     pub is_minimal: bool,
 }
 
@@ -22,16 +24,16 @@ pub struct Core {
 pub enum Explanation {
     /// Some assignment is feasible under them.
     Feasible,
-    /// None is, and these of them are why.
+    /// No assignment is, and these of them are why.
     Core(Core),
-    /// The budget ended before it was known.
+    /// The budget ended before this was known.
     Cut,
 }
 
 impl<'a> Questions<'a> {
-    /// Tells of assumptions under which nothing is feasible some that are enough for that, as few as leaving out one after the
-    /// other gives. All searches together make at most `nodes` decisions, where a budget is given. Fails where memory is
-    /// refused; then the questions stay as they are.
+    /// Of assumptions under which nothing is feasible, tells some that are enough for that: those that remain once each was
+    /// left out in turn wherever the others were enough. All searches together make at most `nodes` decisions, where a budget
+    /// is given. Fails where memory is refused; then the questions stay as they are.
     pub fn explain(
         &mut self,
         assumptions: &[Lit],
@@ -50,7 +52,8 @@ impl<'a> Questions<'a> {
         })
     }
 
-    /// Leaves out each literal, the first one first, where nothing is feasible without it. Fails where memory is refused.
+    /// Tries to leave out each literal, the first one first, and does where nothing is feasible without it. Fails where memory
+    /// is refused.
     fn shrink(&mut self, mut literals: Vec<Lit>, left: &mut Option<u64>) -> Result<Core, Memory>
         requires variables { All (λ l. l.var ≤ self.old.vars) literals.items }
         requires infeasible { IsInfeasibleUnder self.old literals.items }

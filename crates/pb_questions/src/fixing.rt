@@ -1,4 +1,5 @@
 //! Which variables have one value in all assignments that are asked about.
+//! Source: [MJL10]
 
 ghost use Rattle.std.specs.Prelude.{◌≡◌, ◌≢◌, ◌<◌, ◌≤◌, true, false, None, All, IfOk, IfNone, OnOk, length, replicate, slice_index_or};
 ghost use Rattle.pb_questions.specs.Sought.{IsAnswerToOther, IsWithin};
@@ -27,7 +28,7 @@ pub enum VariableStatus {
     FixedFalse,
     /// It is true in one of them, and false in another.
     Free,
-    /// The budget ended before it was known.
+    /// The budget ended before this was known.
     Unknown,
 }
 
@@ -42,9 +43,9 @@ pub enum Fixed {
 
 impl<'a> Questions<'a> {
     /// Tells which variables have one value in all assignments that are asked about, and which have both. One search finds the
-    /// first of these, and each further one an assignment that differs from it in some variable whose status is not known,
-    /// or that there is none. All searches together make at most `nodes` decisions, where a budget is given. Fails where memory
-    /// is refused; then the questions stay as they are.
+    /// first of these assignments. Each further search finds one that differs from it in some variable whose status is not
+    /// known yet, or shows that there is none. All searches together make at most `nodes` decisions, where a budget is given.
+    /// Fails where memory is refused; then the questions stay as they are.
     pub fn fixed(
         &mut self,
         assumptions: &[Lit],
@@ -116,8 +117,8 @@ impl<'a> Questions<'a> {
         Ok(statuses)
     }
 
-    /// Seeks an assignment that makes the cube true and costs no more than the bound, and in which the variable at the place has
-    /// not this value. Leaves the cube as it was. Fails where memory is refused.
+    /// Seeks an assignment that makes the cube true, costs no more than the bound, and gives the variable at the place the
+    /// other value than this one. Leaves the cube as it was. Fails where memory is refused.
     fn seek_other(
         &mut self,
         place: u32,
@@ -133,7 +134,7 @@ impl<'a> Questions<'a> {
         ensures same_cube { OnOk result (cube.new.items ≡ cube.old.items) }
         ensures unchanged { self.new ≡ self.old }
     {
-        // A call tells that the variable is no greater than a literal may have.
+        // The proof learns by this call that the variable is no greater than a literal may have.
         let _ = self.vars();
         let Ok(other) = Lit::new(place + 1, !value) else {
             unreachable!()
@@ -145,7 +146,7 @@ impl<'a> Questions<'a> {
     }
 }
 
-/// What the search for the first of the assignments is for.
+/// The goal of the search for the first of the assignments.
 fn first_goal(among: Among) -> Goal
     ensures { result ≡ first_goal among }
 {
@@ -155,8 +156,8 @@ fn first_goal(among: Among) -> Goal
     }
 }
 
-/// Takes over what was learned by seeking an assignment in which the variable at the place has not this value, which it has in
-/// the first one.
+/// Records what was learned by seeking an assignment in which the variable at the place has another value than this one, which
+/// it has in the first assignment.
 fn learn(
     statuses: &mut [VariableStatus],
     first: &Assignment,

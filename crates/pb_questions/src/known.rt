@@ -1,6 +1,6 @@
-//! Answers that are known from earlier questions. Whoever asks click by click often asks for what is known already: under more
-//! assumptions nothing is feasible where nothing was under some of them, and the least assignment under some of them is still
-//! the least one where it makes all of them true.
+//! Answers that are known from earlier questions. Someone who asks click by click often asks for what is known already: under
+//! more assumptions nothing is feasible where nothing was under some of them, and the least assignment under some of them is
+//! still the least one where it makes all of them true.
 
 ghost use Rattle.std.specs.Prelude.{◌≡◌, ◌≤◌, All, Contains, IfOk, IfSome, IsTrue, length};
 ghost use Rattle.pb_inst.specs.Problem.{Problem};
@@ -11,7 +11,7 @@ use crate::questions::meets;
 use pb_inst::{Assignment, Best, Lit, Memory};
 use std::alloc::Global;
 
-/// Answers under at most so many assumptions are kept: to compare more takes as long as a short search.
+/// The most assumptions under which an answer is kept: comparing more would take as long as a short search.
 const MOST_LITERALS: usize = 256;
 
 /// What is known of assumptions.
@@ -36,7 +36,7 @@ pub struct KnownAnswer {
 }
 
 impl KnownAnswer {
-    /// Room for an answer on an instance of so many variables. Fails where memory is refused.
+    /// Room for an answer on an instance of `vars` variables. Fails where memory is refused.
     fn new(alloc: Global, vars: u32) -> Result<KnownAnswer, Memory>
         ensures count { IfOk result (λ known. length known.values ≡ vars) }
         ensures open { IfOk result (λ known. known.kind ≡ Kind.Open) }
@@ -67,7 +67,7 @@ impl KnownAnswer {
         }
     }
 
-    /// Whether all that it assumes is assumed by the cube too.
+    /// Whether the cube, too, assumes all that it assumes.
     fn is_under(&self, cube: &[Lit]) -> bool
         ensures { IsTrue result → All (λ l. Contains cube.now l) self.now.literals.items }
     {
@@ -96,7 +96,7 @@ impl KnownAnswer {
         &self.values
     }
 
-    /// Takes the place of what was known. Where memory is refused nothing is known.
+    /// Keeps an answer in place of what was known. Where memory is refused nothing is known.
     fn note(&mut self, cube: &[Lit], best: &Best<'_>)
         requires count { length self.old.values ≡ best.now.problem.vars }
         requires least { HoldsLeastUnder best.now.problem cube.now best.now.held }
@@ -125,7 +125,7 @@ pub struct KnownAnswers {
 }
 
 impl KnownAnswers {
-    /// Room for answers on an instance of so many variables. Fails where memory is refused.
+    /// Room for answers on an instance of `vars` variables. Fails where memory is refused.
     pub fn new(alloc: Global, vars: u32) -> Result<KnownAnswers, Memory>
         ensures { IfOk result (λ known. (p : Problem) → vars ≡ p.vars → AreAnswersOf p known) }
     {
@@ -134,7 +134,7 @@ impl KnownAnswers {
         Ok(KnownAnswers { first, last })
     }
 
-    /// Keeps the answer to a question, unless it assumes very much.
+    /// Keeps the answer to a question, unless that has more than `MOST_LITERALS` assumptions.
     pub(crate) fn note(&mut self, cube: &[Lit], best: &Best<'_>)
         requires known { AreAnswersOf best.now.problem self.old }
         requires least { HoldsLeastUnder best.now.problem cube.now best.now.held }

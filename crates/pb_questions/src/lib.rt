@@ -1,6 +1,7 @@
 //! Questions on one instance, each under assumptions: the least assignment that makes some literals true (`questions`), why
-//! there is none (`explaining`), and which variables have one value in all that are left (`fixing`). One search answers all
-//! of them, so what it learned in one is there for the next, and answers that follow from earlier ones (`known`) take none.
+//! there is none (`explaining`), and which variables have one value in all that are left (`fixing`). One search answers all of
+//! them, so what it learned for one question serves the next; and a question whose answer follows from earlier answers
+//! (`known`) is not searched at all.
 #![tactic(auto)]
 
 mod explaining;

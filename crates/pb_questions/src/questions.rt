@@ -1,4 +1,5 @@
 //! The questions' search, and the least assignment under assumptions.
+//! Source: [ES03]
 
 ghost use Rattle.std.specs.Prelude.{◌≡◌, ◌≢◌, ◌≤◌, false, true, None, length, All, IfOk, IfNone, IfSome, IsTrue};
 ghost use Rattle.std.specs.Option.{is_some};
@@ -17,9 +18,9 @@ use std::marker::Model;
 
 /// Questions on one instance, asked of its search. Contracts see the instance's `Problem`.
 ///
-/// Each question is asked under assumptions: literals that are to be true. They may repeat, and where two contradict each
-/// other nothing is feasible under them. A variable over the number of the instance's is free: literals of it are left
-/// out. A question has a budget of decisions, `nodes`, or none; without one it is always answered in full.
+/// Each question is asked under assumptions: literals that are to be true. They may repeat, and where two contradict each other
+/// nothing is feasible under them. A literal of a variable that the instance does not have is left out, since that variable is
+/// free. A question has a budget of decisions, `nodes`, or none; without one it is always answered in full.
 #[derive(Drop)]
 pub struct Questions<'a> {
     alloc: Global,
@@ -55,8 +56,9 @@ pub struct Answer<'a> {
 }
 
 impl<'a> Questions<'a> {
-    /// Questions that are asked of a search of the instance, and of answers to earlier ones on it. A suggestion is an assignment to its variables, of which nothing
-    /// else is known. Where it is feasible and makes a question's assumptions true, the search begins with it as the best one.
+    /// Questions that are asked of a search of the instance, and of answers to earlier ones on it. A suggestion is an
+    /// assignment to its variables, of which nothing else is known. Where it is feasible and makes a question's assumptions
+    /// true, the search begins with it as the best one.
     pub fn new(
         alloc: Global,
         instance: &'a Instance,
@@ -79,8 +81,8 @@ impl<'a> Questions<'a> {
         }
     }
 
-    /// Lends an assignment to as many variables as the instance's for the next one that is found, so that its question takes no
-    /// memory for it.
+    /// Lends an assignment to as many variables as the instance has. The next assignment that is found is held in it, so that
+    /// its question takes no memory for one.
     pub fn lend_room(&mut self, room: Assignment)
         requires { length room ≡ self.old.vars }
         ensures { self.new ≡ self.old }
@@ -117,7 +119,7 @@ impl<'a> Questions<'a> {
         self.search_under(&named, &mut left)
     }
 
-    /// Whether all literals are of the instance's variables.
+    /// Whether all literals are of variables that the instance has.
     fn names_all(&self, assumptions: &[Lit]) -> bool
         ensures { IsTrue result → All (λ l. l.var ≤ self.now.vars) assumptions.now }
     {
@@ -125,7 +127,7 @@ impl<'a> Questions<'a> {
         assumptions.iter().all(|lit| lit.var() <= vars)
     }
 
-    /// The literals of the instance's variables, in order. Fails where memory is refused.
+    /// Those of the literals whose variables the instance has, in order. Fails where memory is refused.
     pub(crate) fn named(&self, assumptions: &[Lit]) -> Result<Vec<Lit>, Memory>
         ensures { IfOk result (λ named. named.items ≡ named_literals self.now.vars assumptions.now) }
     {
@@ -137,8 +139,8 @@ impl<'a> Questions<'a> {
             .collect(self.alloc)
     }
 
-    /// Finds the least assignment that makes the cube true, with what is left of a budget, or knows it. Fails where memory is
-    /// refused.
+    /// Finds the least assignment that makes the cube true, with what is left of a budget, or knows it from an earlier answer.
+    /// Fails where memory is refused.
     pub(crate) fn search_under(
         &mut self,
         cube: &[Lit],
@@ -154,7 +156,7 @@ impl<'a> Questions<'a> {
         self.search_for(cube, Goal::Least, left)
     }
 
-    /// The same for any goal: where that is met the search may be cut.
+    /// Searches, as `search_under` does, for any goal: where that is met the search may be cut.
     pub(crate) fn search_for(
         &mut self,
         cube: &[Lit],
@@ -175,10 +177,10 @@ impl<'a> Questions<'a> {
             });
         }
         let mut best = self.first_best(cube)?;
-        // A call tells that the variables are no more than an instance may have.
+        // The proof learns by this call that the variables are no more than an instance may have.
         let _ = self.instance.vars();
         let outcome = self.search.run(cube, &mut best, &mut Alone, goal, left);
-        // A call tells that what is held is a solution.
+        // The proof learns by this call that what is held is a solution.
         let _ = best.cost();
         let cut = outcome == Outcome::Cut;
         if !cut {
@@ -187,7 +189,7 @@ impl<'a> Questions<'a> {
         Ok(Answer { best, cut })
     }
 
-    /// What is held at the end of a search under the cube, where that follows from an earlier answer. Fails where memory is
+    /// What a search under the cube would hold at its end, where that follows from an earlier answer. Fails where memory is
     /// refused.
     fn recall(&mut self, cube: &[Lit]) -> Result<Option<Best<'a>>, Memory>
         requires { All (λ l. l.var ≤ self.old.vars) cube.now }
@@ -208,8 +210,8 @@ impl<'a> Questions<'a> {
         Ok(None)
     }
 
-    /// What a search of the assignments that make the cube true begins with: the best of the suggestion and of what earlier
-    /// questions found, where they are such assignments and feasible. Fails where memory is refused.
+    /// What a search under the cube begins with: the best of the suggestion and of what earlier questions found, as far as
+    /// these are feasible and make the cube true. Fails where memory is refused.
     fn first_best(&mut self, cube: &[Lit]) -> Result<Best<'a>, Memory>
         requires { All (λ l. l.var ≤ self.old.vars) cube.now }
         ensures same_instance { IfOk result (λ best. best.problem ≡ self.old) }
@@ -221,7 +223,7 @@ impl<'a> Questions<'a> {
         if let Some(values) = self.suggestion {
             begin_with(&mut best, values, cube);
         }
-        // With an objective the search finds better ones at once, and a worse one steers it elsewhere.
+        // With an objective the search soon finds better ones, and a worse one would steer it elsewhere.
         if !self.instance.has_objective() {
             if let Some(values) = self.known.first.least() {
                 begin_with(&mut best, values, cube);
@@ -233,7 +235,7 @@ impl<'a> Questions<'a> {
         Ok(best)
     }
 
-    /// The room that was lent, or else some that is new. Fails where memory is refused.
+    /// The room that was lent, or else new room. Fails where memory is refused.
     fn take_room(&mut self) -> Result<Assignment, Memory>
         ensures room { IfOk result (λ room. length room ≡ self.old.vars) }
         ensures unchanged { self.new ≡ self.old }
@@ -278,7 +280,7 @@ fn begin_with(best: &mut Best<'_>, values: &Assignment, cube: &[Lit])
     }
 }
 
-/// What is held where an answer tells of the cube what it is.
+/// What is held where an earlier answer tells what it is under the cube.
 fn best_told<'a>(
     instance: &'a Instance,
     room: Assignment,

@@ -14,7 +14,7 @@ pub enum Sought<'a> {
     Found(Best<'a>),
     /// There is none.
     Nothing,
-    /// The budget ended before it was known.
+    /// The budget ended before this was known.
     Cut,
 }
 

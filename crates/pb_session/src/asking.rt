@@ -23,7 +23,7 @@ use pb_solve::Ran;
 use std::alloc::Global;
 use std::mem::replace;
 
-/// What a search held at its end, whether it was cut, and the room that was not needed.
+/// What a search held at its end, whether it was cut, and the room that it did not need.
 #[derive(Drop)]
 struct Searched {
     found: Option<Found>,
@@ -33,9 +33,9 @@ struct Searched {
 
 impl Session {
     /// Searches for the least assignment, with at most `nodes` decisions where a budget is given, and keeps what was found in
-    /// place of what was. Fails, and changes nothing that contracts see, with `Unended` where a sum is not ended, with `Memory`
-    /// where memory is refused, and with `BadVariable` or `TooMany` only where some variable of the statements is no variable
-    /// of an instance.
+    /// place of what was found before. Fails, and changes nothing that contracts see, with `Unended` where a sum is not ended,
+    /// with `Memory` where memory is refused, and with `BadVariable` or `TooMany` only where some variable of the statements is
+    /// no variable of an instance.
     pub fn solve(&mut self, nodes: Option<u64>) -> Result<Ran, SessionFault>
         ensures least { IfOk result (λ ran. ran.cut ≡ false → HoldsLeast self.old.problem self.new.found) }
         ensures sound { IfOk result (λ _. IfSome self.new.found (IsSolution self.old.problem)) }
@@ -86,7 +86,8 @@ impl Session {
         Ok(Ran { status, cut })
     }
 
-    /// Keeps what was found in place of what was, whose room is for the next one that is found, as is a room that was not needed.
+    /// Keeps what was found in place of what was found before. The room of the latter serves the next search, and so does a
+    /// room that was not needed.
     fn keep_found(&mut self, found: Option<Found>, room: Option<Assignment>)
         ensures { self.new ≡ record self.old { found = option_map solution found } }
     {
@@ -98,8 +99,8 @@ impl Session {
         }
     }
 
-    /// Makes room for what a question finds beside what the one before found, so that no further question takes memory for it.
-    /// Where memory is refused these ask for it themselves.
+    /// Makes room for what a question finds beside what the question before it found, so that no further question takes memory
+    /// for it. Where memory is refused, further questions ask for it themselves.
     pub(crate) fn make_rooms(&mut self)
         ensures { self.new ≡ self.old }
     {
@@ -117,8 +118,8 @@ impl Session {
         }
     }
 
-    /// Keeps an assignment to all variables for those that are found next. Another one is let go, and so is any where memory is
-    /// refused.
+    /// Keeps an assignment to all variables, as room for what is found next. An assignment to another number of variables is
+    /// dropped, and so is any where memory is refused.
     fn keep_room(&mut self, room: Assignment)
         ensures { self.new ≡ self.old }
     {
@@ -127,8 +128,8 @@ impl Session {
         }
     }
 
-    /// Tells of assumptions under which nothing is feasible some that are enough for that, and, unless the budget ends before,
-    /// such that something is feasible without any one of them. All searches together make at most `nodes` decisions, where a
+    /// Of assumptions under which nothing is feasible, tells some that are enough for that. Unless the budget ends before,
+    /// something is feasible once any one of them is left out. All searches together make at most `nodes` decisions, where a
     /// budget is given. Fails as `solve` does. What was found before stays.
     pub fn explain(
         &mut self,
@@ -188,11 +189,11 @@ impl Session {
         Ok(fixed?)
     }
 
-    /// Suggests an assignment to as many variables as the statements name, in place of one that was suggested before. Its values
-    /// are the first that searches try, and where it is feasible and makes a question's assumptions true, the search begins with
-    /// it as the best one. No answer of a search that is not cut depends on it. Once statements name more variables it only
-    /// tells what to try first. Fails, and changes nothing, with `Length` where it is to another number of variables, and with
-    /// `Memory` where memory is refused.
+    /// Suggests an assignment to as many variables as the statements name, in place of one that was suggested before. Its
+    /// values are the first that searches try, and where it is feasible and makes a question's assumptions true, the search
+    /// begins with it as the best one. No answer of a search that is not cut depends on it. Once further statements name more
+    /// variables, it only tells what to try first. Fails, and changes nothing, with `Length` where it has another number of
+    /// variables, and with `Memory` where memory is refused.
     pub fn suggest(&mut self, values: &Assignment) -> Result<(), SessionFault>
         ensures unchanged { self.new ≡ self.old }
         ensures length { IsErrOf result SessionFault.Length ↔ (length values.now ≢ self.old.problem.vars) }
@@ -210,7 +211,7 @@ impl Session {
         Ok(())
     }
 
-    /// Room for the literals of a question, empty. With `keep_literals` it serves question after question.
+    /// Empty room for the literals of a question. With `keep_literals` it serves one question after another.
     pub fn take_literals(&mut self) -> Vec<Lit>
         ensures empty { result.items ≡ [] }
         ensures unchanged { self.new ≡ self.old }
@@ -228,7 +229,8 @@ impl Session {
     }
 }
 
-/// Questions that are asked of the search and of earlier answers, and begin with the suggestion where it is to all variables of the instance.
+/// Questions that are asked of the search and of earlier answers. They begin with the suggestion where that is to all variables
+/// of the instance.
 fn asked<'a>(
     alloc: Global,
     instance: &'a Instance,
@@ -248,8 +250,8 @@ fn asked<'a>(
     }
 }
 
-/// Searches for the least assignment under the assumptions, with an assignment for the room of what is found, where it is to all
-/// variables of the instance. Fails where memory is refused.
+/// Searches for the least assignment under the assumptions. What is found is held in `room`, where that is to all variables of
+/// the instance. Fails where memory is refused.
 fn search_under(
     questions: &mut Questions<'_>,
     room: Option<Assignment>,

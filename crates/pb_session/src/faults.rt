@@ -17,7 +17,7 @@ pub enum SessionFault {
     /// Terms were given, and the sum was not ended.
     #[error("a sum is not ended")]
     Unended,
-    /// A suggestion is to other than as many variables as the statements name.
+    /// A suggestion has another number of variables than the statements name.
     #[error("the suggestion does not have a value for each variable")]
     Length,
 }

@@ -14,7 +14,7 @@ pub struct Found {
     pub values: Assignment,
 }
 
-/// What was held, in the room that held it, or, where nothing was, that room.
+/// What was held, in the room that held it; or that room, where nothing was.
 pub(crate) fn found_or_room(best: Best<'_>) -> (Option<Found>, Option<Assignment>)
     ensures { option_map solution result.0 ≡ best.entry.held }
 {

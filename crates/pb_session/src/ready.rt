@@ -1,4 +1,4 @@
-//! An instance with the search that is asked about it.
+//! An instance with the search that serves questions about it.
 
 ghost use Rattle.std.specs.Prelude.{◌≡◌, IfErr, IfOk};
 ghost use Rattle.pb_questions.specs.Form.{IsFormOf};
@@ -11,7 +11,8 @@ use pb_search::WholeSearch;
 use std::alloc::Global;
 use std::marker::Model;
 
-/// An instance, the search of it with what it was taught so far, and answers to earlier questions. Contracts see the instance's `Problem`.
+/// An instance, its search with what that learned so far, and answers to earlier questions. Contracts see the instance's
+/// `Problem`.
 #[derive(Drop)]
 pub(crate) struct Ready {
     pub(crate) instance: Instance,
@@ -32,7 +33,7 @@ impl Model for Ready {
 }
 
 impl Ready {
-    /// Makes the search. Hands the instance back where memory is refused.
+    /// Makes the search. Gives the instance back where memory is refused.
     pub(crate) fn new(alloc: Global, instance: Instance) -> Result<Ready, Instance>
         ensures ready { IfOk result (λ ready. ready ≡ instance) }
         ensures returned { IfErr result (λ returned. returned ≡ instance) }
@@ -62,7 +63,7 @@ impl Ready {
     }
 }
 
-/// A search of the instance that was taught nothing yet, and room for answers. Fails where memory is refused.
+/// A search of the instance that has learned nothing yet, and room for answers. Fails where memory is refused.
 fn made_for(alloc: Global, instance: &Instance) -> Result<(WholeSearch, KnownAnswers), Memory>
     ensures search { IfOk result (λ made. IsFormOf instance.now made.0) }
     ensures known { IfOk result (λ made. AreAnswersOf instance.now made.1) }

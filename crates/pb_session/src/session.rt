@@ -23,8 +23,8 @@ use std::marker::Model;
 use std::mem::replace;
 
 /// Statements that are told one by one, as sums whose terms come one at a time, and what was found of them. Variables are
-/// numbered from 1, and there are as many as the greatest one that a statement names. Questions are asked of the statements so
-/// far, as often as one likes; the first one makes the instance and its search, which are kept for further ones until one more
+/// numbered from 1, and there are as many as the greatest one that a statement names. Questions may be asked of the statements
+/// so far at any time. The first question makes the instance and its search, which are kept for further ones until another
 /// statement is told. Contracts see what it was `Told`.
 #[derive(Drop)]
 pub struct Session {
@@ -33,11 +33,11 @@ pub struct Session {
     terms: Vec<Term>,
     /// The statements, while nothing is ready.
     builder: InstanceBuilder,
-    /// The instance of the statements and its search, from a question to the next statement: an instance never changes, and the
-    /// tables of a search are of all its rows.
+    /// The instance of the statements and its search, from a question to the next statement. They do not outlive that, since an
+    /// instance never changes, and a search has tables of all its rows.
     pub(crate) ready: Option<Ready>,
     pub(crate) suggestion: Option<Assignment>,
-    /// Assignments that are no longer needed, for those that are found next.
+    /// Assignments that are no longer needed, as room for those that are found next.
     pub(crate) rooms: Vec<Assignment>,
     /// Room for the literals of a question.
     pub(crate) literals: Vec<Lit>,
@@ -124,8 +124,8 @@ impl Session {
         }
     }
 
-    /// Ends the sum: it becomes the objective, in place of one that was told before. Fails, and changes nothing, as `end`, but
-    /// that no constraint is added and no bound is counted.
+    /// Ends the sum: it becomes the objective, in place of one that was told before. Fails, and changes nothing, as `end` does,
+    /// except that no constraint is added and no bound is counted.
     pub fn end_objective(&mut self) -> Result<(), SessionFault>
         ensures set { OnOk result (self.new ≡ record self.old { problem = with_objective self.old.problem self.old.terms; terms = [] }) }
         ensures unchanged { OnErr result (self.new ≡ self.old) }
@@ -151,8 +151,8 @@ impl Session {
         }
     }
 
-    /// The statements and how many variables they name, taken out: `keep_statements` puts them, or others, in their place. What
-    /// was made of them is let go.
+    /// Takes out the statements and how many variables they name: `keep_statements` puts them, or others, back. What was made
+    /// of them is dropped.
     fn take_statements(&mut self) -> (u32, InstanceBuilder)
         ensures vars { result.0 ≡ self.old.problem.vars }
         ensures statements { result.1 ≡ statements self.old.problem }
@@ -171,7 +171,7 @@ impl Session {
         }
     }
 
-    /// Puts statements that name so many variables in the place of all that were told.
+    /// Puts statements that name `vars` variables in place of all that were told.
     fn keep_statements(&mut self, vars: u32, builder: InstanceBuilder)
         ensures { self.new ≡ record self.old { problem = problem_of vars builder None } }
     {
@@ -180,9 +180,9 @@ impl Session {
         self.ready = None;
     }
 
-    /// The instance of the statements and its search, taken out: `keep_ready` puts them back. So a question owns them while it
-    /// lasts, and nothing holds a reference to what stands beside it. Makes them where they are not made.
-    /// Fails as `make_ready` does.
+    /// Takes out the instance of the statements and its search, and makes them first where they are not made: `keep_ready` puts
+    /// them back. So a question owns them while it lasts, and nothing holds a reference into the session. Fails as `make_ready`
+    /// does.
     pub(crate) fn take_ready(&mut self) -> Result<Ready, SessionFault>
         ensures ready { IfOk result (λ ready. ready ≡ self.old.problem) }
         ensures rest { OnOk result (self.new ≡ record self.old { problem = self.new.problem }) }
@@ -197,7 +197,7 @@ impl Session {
         }
     }
 
-    /// Puts an instance and its search in the place of all statements.
+    /// Puts an instance and its search in place of all statements.
     pub(crate) fn keep_ready(&mut self, ready: Ready)
         ensures { self.new ≡ record self.old { problem = ready } }
     {
@@ -228,8 +228,8 @@ impl Session {
         }
     }
 
-    /// Makes the search of an instance, which stands in place of all statements. Fails where memory is refused; then its
-    /// statements are told, without an instance.
+    /// Makes the search of an instance, which takes the place of all statements. Fails where memory is refused; then the
+    /// statements are told again, without an instance.
     fn make_search(&mut self, instance: Instance) -> Result<(), SessionFault>
         ensures told { self.new ≡ record self.old { problem = instance } }
         ensures refused { IfErr result (λ fault. fault ≡ SessionFault.Statement InstFault.Memory) }

@@ -5,7 +5,7 @@ use Rattle.pb_inst.specs.Problem.{Problem}
 use Rattle.pb_cubes.specs.Split.{IsSplit}
 use Rattle.pb_solve.specs.Outcome.{FileSpells, IsDivisionAccepted}
 
--- the cubes of a split of so many variables: a split of 0 makes none
+-- the cubes of a split of `split` variables: a split of 0 makes none
 abbrev pub AreOfSplit : Problem → ℕ → List (List Literal) → Type 0
 AreOfSplit p split cubes = ((split ≡ 0) × (cubes ≡ [])) ⊎ ((1 ≤ split) × IsSplit p split cubes)
 

@@ -19,7 +19,7 @@ most_cubes = 1048575
 abbrev pub most_split : ℕ
 most_split = 12
 
--- so many variables of the instance's cannot be split
+-- `split` variables of an instance of `vars` cannot be split
 abbrev pub IsBadSplit : ℕ → ℕ → Type 0
 IsBadSplit split vars = (1 ≤ split) × ((most_split < split) ⊎ (vars < split))
 
@@ -36,7 +36,7 @@ FileSpells vars (Some text) cubes = SpellsCubes vars text cubes
 abbrev pub IsFileRefused : ℕ → Option (List ℕ) → ReadFault → Type 0
 IsFileRefused vars cube_text fault = IsSomeAnd cube_text (λ text. cube_text_refusal vars text ≡ Some fault)
 
--- so many cubes are too many with those that the split makes
+-- `count` cubes are too many with those that the split makes
 abbrev pub IsTooMany : ℕ → ℕ → Type 0
 IsTooMany count split = most_cubes < count + split_count split
 

@@ -1,4 +1,4 @@
-//! What a run is asked for, and how it ends.
+//! The options of a run, and how it ends.
 ghost use Rattle.std.specs.Prelude.{◌≡◌, false};
 
 use pb_inst::Workers;
@@ -12,11 +12,11 @@ pub struct Options {
     pub format: Format,
     /// How many threads may search at the same time.
     pub workers: Workers,
-    /// So many variables are split into cubes, at most 12; 0 makes none.
+    /// How many variables are split into cubes, at most 12; 0 makes no cubes.
     pub split: u32,
-    /// So many decisions are made in each piece at most, of first and second values of variables alike; a piece that needs
-    /// more is cut. None sets no limit. The workers share no budget: none waits for another's count, and a run of one worker is the
-    /// same each time.
+    /// How many decisions the search of each piece makes at most, where a variable's second value counts like its first; a
+    /// piece that needs more is cut. None sets no limit. The workers share no budget, so that none waits for another's count,
+    /// and a run of one worker is the same each time.
     pub nodes: Option<u64>,
 }
 

@@ -23,12 +23,12 @@ use std::thread::Threads;
 
 /// Reads the texts, solves the instance, and writes the report, which is flushed.
 ///
-/// The cube file is read after the input, and only where the input is not refused. Cubes, split and workers only divide
-/// the work: those that are accepted change no byte of the report.
-/// Where the options set a budget, each piece is searched with so many decisions at most. Where some piece was cut by it the
-/// report is of the best that was found, and the status is `Satisfiable`, or `Unknown` where nothing was found.
-/// A fault names the device that failed. After `ReadInput` and `ReadCubes` nothing was written;
-/// what was written before `Write` is not said.
+/// The cube file is read after the input, and only where the input is not refused. Cubes, split and workers only divide the
+/// work: those that are accepted change no byte of the report. Where the options set a budget, each piece is searched with at
+/// most `options.nodes` decisions. Where some piece was cut by it, the report is of the best that was found, and the status is
+/// `Satisfiable`, or `Unknown` where nothing was found.
+/// A fault names the device that failed. After `ReadInput` and `ReadCubes` nothing was written; what was written before `Write`
+/// is not said.
 pub fn run<R: Threads + Sync, I: Read, C: Read, W: Write>(
     rt: &R,
     alloc: Global,
@@ -68,8 +68,8 @@ pub fn run<R: Threads + Sync, I: Read, C: Read, W: Write>(
     ensures unread { IfSome (I.remaining input.old.held) (λ text. (fault : ReadFault) → text_refusal options.format text ≡ Some fault
         → IsUnread cubes.entry cubes.exit) }
 {
-    // Whether there is a cube file is asked here alone: were the option passed on by value, what the file is at the end would be
-    // hidden from the clauses.
+    // Whether there is a cube file is asked here alone: if the option were passed on by value, what the file is at the end
+    // would be hidden from the clauses.
     let found = match cubes {
         None => prepare(alloc, input, &mut NoCubeFile, options.format, options.split),
         Some(cubes) => prepare(alloc, input, cubes, options.format, options.split),
@@ -85,8 +85,8 @@ pub fn run<R: Threads + Sync, I: Read, C: Read, W: Write>(
     }
 }
 
-/// The same with no cube file and no split, by one search on the caller's own thread: it asks for no leave to start others.
-/// The report and the status are those of `run`.
+/// Runs, as `run` does, with no cube file and no split, by one search on the caller's own thread: it starts no other thread,
+/// and needs no right to do so. The report and the status are those of `run`.
 pub fn run_without_threads<I: Read, W: Write>(
     alloc: Global,
     input: &mut Device<I>,
@@ -146,8 +146,8 @@ fn report_prepare_error<W: Write>(out: &mut Device<W>, error: PrepareError) -> R
     }
 }
 
-/// Reports the answer on the instance, or where a piece was cut what the answer holds as the best that was found, or that memory
-/// was refused.
+/// Reports the answer on the instance. Where a piece was cut, what the answer holds is reported as the best that was found, and
+/// where memory was refused, that it was.
 fn report_answered<W: Write>(
     out: &mut Device<W>,
     format: Format,
@@ -205,7 +205,7 @@ fn report_least<W: Write>(
 }
 
 /// Reports what is held as what was found of the instance: the best assignment that is known, with its cost where there is an
-/// objective, or that none is known. That it is the least is not said. A fault is `Write`, where the device has failed.
+/// objective, or that none is known. It is not said to be the least. A fault is `Write`, where the device has failed.
 pub fn report_found<W: Write>(
     out: &mut Device<W>,
     format: Format,

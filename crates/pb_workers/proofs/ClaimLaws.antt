@@ -25,7 +25,7 @@ Any-append_left P xs ys h =
     let within : h.0 < length xs = h.2 in
     (h.0, h.1, omega (arith, length-append xs ys), get_or_append_left xs ys h.1 h.0 within ∙ h.3, h.4)
 
--- what stands in one of the lists that are joined stands in some of them
+-- what stands in the joined list stands in one of the lists
 contained_in_some : {X : Type 0} (f : X → List ℕ) (xs : List X) (i : ℕ) → Contains (flat_map f xs) i → Any (λ x. Contains (f x) i) xs
 contained_in_some f [] i (k, within, is) = absurd (omega arith)
 contained_in_some f (x ∷ xs) i h = elim (Contains-append_cases (f x) (flat_map f xs) i h) [
@@ -37,7 +37,7 @@ pub holds_some : (l : List ℕ) (i : ℕ) → Contains l i → l ≢ []
 holds_some [] i (k, within, is) = absurd (omega arith)
 holds_some (m ∷ l) i here = λ empty. cc
 
--- how often a number stands in a list that is dealt into two
+-- a number stands in a merge as often as in both lists together
 dealt_times : (all some others : List ℕ) (i : ℕ) → AreDealt all some others → times i all ≡ times i some + times i others
 dealt_times [] some others i dealt = omega (arith, ap (times i) dealt.0, ap (times i) dealt.1)
 dealt_times (m ∷ all) some others i (inl h) = omega (arith, times-cons i m all, times-cons i m h.0, ap (times i) h.1, dealt_times all h.0 others i h.2)
@@ -55,7 +55,7 @@ kept_alike true false m n (inr none) = omega (arith, none)
 kept_alike false true m n (inl alike) = absurd (false≢true alike)
 kept_alike false true m n (inr none) = omega (arith, none)
 
--- how often a number is among those that are chosen
+-- a number that is chosen stands among the chosen ones as often as before, and another one does not
 times_chosen : (chosen : ℕ → Bool) (claimed : List ℕ) (i : ℕ) → times i (filter chosen claimed) ≡ cond (chosen i) (times i claimed) 0
 times_chosen chosen [] i = none (chosen i)
   where
@@ -68,7 +68,7 @@ times_chosen chosen (m ∷ claimed) i =
     ∙ kept_alike (chosen m) (chosen i) (mark i m) (times i claimed) (dite (ℕ_discrete m i) (λ same. inl (ap chosen same)) (λ differs. inr (none_here i m differs)))
     ∙ ap (λ n. cond (chosen i) n 0) (sym (times-cons i m claimed))
 
--- without a budget none of them, and none of those more, has a cut piece
+-- without a budget the list of one part has no cut piece
 uncut_of_one : (nodes : Option ℕ) (part : PartView) → IfNone nodes (part.cut ≡ []) → IfNone nodes (All (λ (x : PartView). x.cut ≡ []) (part ∷ []))
 uncut_of_one None part none = All-push (λ (x : PartView). x.cut ≡ []) [] part (All-nil (λ (x : PartView). x.cut ≡ [])) none
 uncut_of_one (Some budget) part none = tt
@@ -106,7 +106,7 @@ goes_past_more : (count : ℕ) (xs ys : List ℕ) → GoesPast count xs → Goes
 goes_past_more count xs ys (inl h) = inl (Any-append_left (λ n. count ≤ n) xs ys h)
 goes_past_more count xs ys (inr h) = inr (omega (arith, length-append xs ys))
 
--- the work of some workers and of some others
+-- the work of some workers and the work of others, as the work of all
 work_of_all : (p : Problem) (pieces : CubeList) (task : Option TaskView) (nodes : Option ℕ) (some others all : List PartView) (claimed more both : List ℕ) → all ≡ some ++ others → both ≡ claimed ++ more → AreWholeWork p pieces task nodes some claimed → AreWholeWork p pieces task nodes others more → AreWholeWork p pieces task nodes all both
 work_of_all p pieces task nodes some others all claimed more both parts_are claims_are h k =
     subst (λ (l : List PartView). AreWholeWork p pieces task nodes l both) (sym parts_are) (subst (λ (l : List ℕ). AreWholeWork p pieces task nodes (some ++ others) l) (sym claims_are) (record {
@@ -131,19 +131,19 @@ work_of_all p pieces task nodes some others all claimed more both parts_are clai
 abbrev joined : BoardView → SeatView → SeatView → SeatView
 joined board v w = record { board = board.id; parts = v.parts + w.parts; claimed = v.claimed ++ w.claimed; offered = v.offered ++ w.offered; seen = min v.seen w.seen }
 
--- the same where their seats were joined
+-- their work where their seats were joined
 pub work_of_both : (p : Problem) (pieces : CubeList) (task : Option TaskView) (nodes : Option ℕ) (some others all : List PartView) (board : BoardView) (low high both : SeatView) → all ≡ some ++ others → both ≡ joined board low high → AreWholeWork p pieces task nodes some low.claimed → AreWholeWork p pieces task nodes others high.claimed → AreWholeWork p pieces task nodes all both.claimed
 work_of_both p pieces task nodes some others all board low high both parts_are is h k =
     work_of_all p pieces task nodes some others all low.claimed high.claimed both.claimed parts_are (ap (λ (s : SeatView). s.claimed) is) h k
 
--- a number that is counted once where it is below the total
+-- where numbers below the total count once, one that counts is below the total
 counted_below : (n total count : ℕ) → count ≡ (if nat_lt n total then 1 else 0) → 0 < count → n < total
 counted_below n total count is some = grind (arith, nat_tests)
 
 pub counted_once : (n total count : ℕ) → count ≡ (if nat_lt n total then 1 else 0) → n < total → 0 < count
 counted_once n total count is below = grind (arith, nat_tests)
 
--- what is chosen of those below a total is there once, where it is below a lesser one
+-- a chosen number counts once, where each below the total does and each chosen one is below `count`
 once_chosen : (own : Bool) (n count total k : ℕ) → k ≡ (if nat_lt n total then 1 else 0) → count ≤ total → (own ≡ true → n < count) → cond own k 0 ≡ (if own then 1 else 0)
 once_chosen true n count total k is fewer below = let lower : n < count = below refl in below_once n total k is (omega arith)
   where
@@ -158,11 +158,11 @@ second_of_both false b both = absurd (false≢true both)
 below_by_test : (n count : ℕ) → nat_lt n count ≡ true → n < count
 below_by_test n count told = grind (arith, nat_tests)
 
--- a piece that the task is dealt is one of so many
+-- a piece that the task is dealt is one of the `count` pieces
 own_below : (task : Option TaskView) (count n : ℕ) → is_own_piece task count n ≡ true → n < count
 own_below task count n own = below_by_test n count (second_of_both (is_dealt task n) (nat_lt n count) own)
 
--- claims that are the numbers below their number, each once, and go past the pieces
+-- claims that are the numbers below `total`, each once, and go past the pieces, are as many as the pieces at least
 passes_pieces : (count total : ℕ) (claimed : List ℕ) → total ≡ length claimed → IsEachOnceBelow total claimed → GoesPast count claimed → count ≤ total
 passes_pieces count total claimed number once (inr more) = omega arith
 passes_pieces count total claimed number once (inl some) =

@@ -12,7 +12,7 @@ use Rattle.pb_workers.specs.Parts.{PartView}
 abbrev pub HasCut : PartView → Type 0
 HasCut part = part.cut ≢ []
 
--- some element of a list with one more: of the list, or the one
+-- an element of a longer list stands in the shorter one, or is the new one
 any_of_more : {X : Type 0} (P : X → Type 0) (xs : List X) (y : X) → Any P (xs ++ y ∷ []) → Any P xs ⊎ P y
 any_of_more P [] y (zero, x, within, is, holds) = inr (subst P (sym is) holds)
 any_of_more P [] y (suc k, x, within, is, holds) = absurd (omega arith)

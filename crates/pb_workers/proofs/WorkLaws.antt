@@ -50,7 +50,7 @@ done_more d Whole done cut done' cut' i old best names later same sound whole al
 done_more d Cut done cut done' cut' i old best names later same sound whole all =
     subst (λ (ns : List ℕ). All (λ n. IsDone d n best.held) ns) (sym names.0) (stay_done d done old best later same sound all)
 
--- a list with one number more behind it, dealt into two lists of which the first or the second has it
+-- a merge stays one where a number is put at its end and at the end of one of the two lists
 dealt_to_some : (all some others : List ℕ) (n : ℕ) → AreDealt all some others → AreDealt (all ++ n ∷ []) (some ++ n ∷ []) others
 dealt_to_some [] some others n dealt = inl ([], ap (λ (l : List ℕ). l ++ n ∷ []) dealt.0, (refl, dealt.1))
 dealt_to_some (m ∷ all) some others n (inl h) = inl (h.0 ++ n ∷ [], ap (λ (l : List ℕ). l ++ n ∷ []) h.1, dealt_to_some all h.0 others n h.2)
@@ -77,7 +77,7 @@ pub dealt_more : (task : Option TaskView) (count : ℕ) (outcome : Outcome) (don
 dealt_more task count outcome done cut done' cut' claimed after i dealt names claim own =
     subst (λ (l : List ℕ). AreDealt l done' cut') (sym (among_more task count claimed after i true claim own)) (dealt_by_outcome outcome (pieces_among task count claimed) done cut done' cut' i dealt names)
 
--- a number below that of the pieces is a piece
+-- a number below the number of pieces is a piece
 is_piece : (n count : ℕ) → n < count → nat_lt n count ≡ true
 is_piece n count h = search (rules, tests)
 
@@ -148,7 +148,7 @@ counted_of_more budget Cut i n done decisions cut cut_decisions done' decisions'
   used_up = subst (λ (l : List ℕ). All (λ k. k ≡ budget) l) (sym counts.1) (All-push (λ k. k ≡ budget) cut_decisions n h.used_up (sym (used_up refl)));
 }
 
--- the same where there is a budget
+-- they are counted where there is a budget
 pub counted_where : (nodes : Option ℕ) (outcome : Outcome) (i n : ℕ) (done decisions cut cut_decisions done' decisions' cut' cut_decisions' : List ℕ)
     → NamesOneMore outcome i done cut done' cut' → NamesOneMore outcome n decisions cut_decisions decisions' cut_decisions'
     → IfSome nodes (λ budget. n ≤ budget) → (outcome ≡ Cut → nodes ≡ Some n)
@@ -157,7 +157,7 @@ counted_where None outcome i n done decisions cut cut_decisions done' decisions'
 counted_where (Some budget) outcome i n done decisions cut cut_decisions done' decisions' cut' cut_decisions' names counts within used_up h =
     counted_of_more budget outcome i n done decisions cut cut_decisions done' decisions' cut' cut_decisions' names counts within (λ is_cut. let same : Some budget ≡ Some n = used_up is_cut in cc) h
 
--- the same, by what is told of the search
+-- and they are counted by what is told of the search
 pub counted_more : (nodes told : Option ℕ) (outcome : Outcome) (i n : ℕ) (done decisions cut cut_decisions done' decisions' cut' cut_decisions' : List ℕ)
     → told ≡ option_map (λ _. n) nodes → NamesOneMore outcome i done cut done' cut' → IfSome told (λ k. NamesOneMore outcome k decisions cut_decisions decisions' cut_decisions')
     → IfSome nodes (λ budget. n ≤ budget) → (outcome ≡ Cut → nodes ≡ Some n)

@@ -14,7 +14,7 @@ use Rattle.pb_workers.specs.Parts.{PartView, KeepsBudget, all_numbers}
 abbrev pub piece_count : CubeList → ℕ
 piece_count pieces = length pieces.cubes + 1
 
--- the claims that are the number of one of so many pieces and of those that the task is dealt, in order
+-- the claims that are the number of one of `count` pieces and that the task is dealt, in order
 abbrev pub pieces_among : Option TaskView → ℕ → List ℕ → List ℕ
 pieces_among task count claimed = filter (λ n. is_own_piece task count n) claimed
 
@@ -25,7 +25,7 @@ pub record EndsPast (count : ℕ) (claimed : List ℕ) : Type 0 where
   pub ends : claimed ≡ front ++ last ∷ []
   pub no_piece : count ≤ last
 
--- the list is these two lists, dealt into one another, each of them in order
+-- the list is a merge of these two lists, which keeps the order of each
 abbrev pub AreDealt : List ℕ → List ℕ → List ℕ → Type 0
 AreDealt [] some others = (some ≡ []) × (others ≡ [])
 AreDealt (n ∷ all) some others =
@@ -36,8 +36,9 @@ abbrev pub NamesOneMore : Outcome → ℕ → (done cut done' cut' : List ℕ) �
 NamesOneMore Whole piece done cut done' cut' = (done' ≡ done ++ piece ∷ []) × (cut' ≡ cut)
 NamesOneMore Cut piece done cut done' cut' = (done' ≡ done) × (cut' ≡ cut ++ piece ∷ [])
 
--- One worker's whole work: its part names those of its claims that are pieces and that the task is dealt, in order, some as done
--- and, where there is a budget, others as cut, each within the budget. It has at most one claim more than there are pieces, and its last claim is no piece, or it has that many.
+-- One worker's whole work: its part names those of its claims that are pieces and that the task is dealt, in order, some as
+-- done and, where there is a budget, others as cut, each within the budget. It has at most one claim more than there are
+-- pieces, and its last claim is no piece, or it has that many.
 pub record IsWholeWork (p : Problem) (pieces : CubeList) (task : Option TaskView) (nodes : Option ℕ) (part : PartView) (claimed : List ℕ) : Type 0 where
   pub of_instance : part.best.problem ≡ p
   pub of_pieces : part.pieces ≡ pieces

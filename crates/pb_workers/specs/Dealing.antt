@@ -18,7 +18,7 @@ abbrev pub is_dealt : Option TaskView → ℕ → Bool
 is_dealt None i = true
 is_dealt (Some task) i = i % task.tasks == task.number
 
--- whether the number is that of one of so many pieces, and the task is dealt it
+-- whether the number is that of one of `count` pieces, and the task is dealt it
 abbrev pub is_own_piece : Option TaskView → ℕ → ℕ → Bool
 is_own_piece task count i = is_dealt task i && nat_lt i count
 

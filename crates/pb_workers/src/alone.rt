@@ -11,9 +11,9 @@ use pb_normal::normalise;
 use pb_search::{Alone, Outcome, Search};
 use std::alloc::Global;
 
-/// The least assignment, or none where nothing is feasible, as `solve` finds it with one worker. One search goes through the
-/// pieces in order, and starts no thread. Each piece is searched with at most `nodes` decisions, where a budget is given.
-/// Asks for pieces over the instance's variables. Fails where memory is refused.
+/// Finds the least assignment, or none where nothing is feasible, as `solve` does with one worker. One search goes through the
+/// pieces in order, and starts no thread. Each piece is searched with at most `nodes` decisions, where a budget is given. Asks
+/// for pieces over the instance's variables. Fails where memory is refused.
 pub fn solve_alone<'i>(
     alloc: Global,
     inst: &'i Instance,
@@ -46,7 +46,7 @@ fn search_all(search: &mut Search<'_>, count: u32, best: &mut Best<'_>, nodes: O
     for piece in 0..count {
         search.begin(best, &mut Alone, nodes);
         let outcome = search.run(piece, best, &mut Alone, nodes);
-        // By this what is done stays done.
+        // The proof learns by this call that what is held is a solution, so a piece that is done stays done.
         facts_of(best);
         cut |= outcome == Outcome::Cut;
     }

@@ -11,8 +11,8 @@ use std::alloc::Global;
 use std::thread;
 use std::thread::Threads;
 
-/// The whole work of as many workers of the set as the seat has parts, from the worker `first` on, each on a thread of
-/// its own where the system gives one. Their seats come back as one.
+/// Runs as many workers of the set as the seat has parts, from the worker `first` on, each on a thread of its own where the
+/// system gives one. Answers the parts of all, and their seats joined into one.
 pub(crate) fn fork<'c, R: Threads + Sync, C: WorkerSet + Sync>(
     rt: &R,
     alloc: Global,

@@ -1,7 +1,7 @@
-//! Gates, by which a caller sees what workers get.
+//! Gates, through which a caller watches which pieces workers get.
 
-/// Is told of each piece that a worker got, before the worker searches it. All workers share one gate. No answer depends on it:
-/// tests hold workers back by it.
+/// A gate is told of each piece that a worker got, before the worker searches it. All workers share one gate. No answer depends
+/// on it: tests use it to hold workers back.
 pub trait Gate {
     /// The worker got the piece, and searches it after this call.
     fn pass(&self, worker: u32, piece: u32);

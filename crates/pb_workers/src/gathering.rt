@@ -1,4 +1,4 @@
-//! The answer of all workers.
+//! Gathering what all workers found into one answer.
 ghost use Rattle.std.specs.Prelude.{◌≡◌, ◌≢◌, ◌↔◌, ◌∷◌, ◌++◌, [], List, Option, IsTrue, map, All, Any};
 ghost use Rattle.std.specs.Option.{IfSome};
 ghost use Rattle.pb_inst.specs.Incumbent.{Solution, IsSolution};
@@ -10,9 +10,9 @@ use crate::facts::facts_of;
 use crate::part::Part;
 use pb_inst::Best;
 
-/// Afterwards `into` holds the first, by cost and then by the variables, of what it held and what the parts found. Where
-/// the parts are of one list and name all its pieces as done that is the least assignment, or nothing where nothing is
-/// feasible. Answers whether some part names a piece that was cut. Asks that all are of one instance. Takes no memory.
+/// Afterwards `into` holds the first, by cost and then by the variables, of what it held and what the parts found. Where the
+/// parts are of one list and name all its pieces as done, that is the least assignment, or nothing where nothing is feasible.
+/// Answers whether some part names a piece that was cut. Asks that all are of one instance. Takes no memory.
 pub fn gather(into: &mut Best<'_>, parts: &[Part<'_>]) -> bool
     requires one_instance { All (λ part. part.best.problem ≡ into.old.problem) parts.now }
     ensures same_instance { into.new.problem ≡ into.old.problem }
@@ -30,7 +30,7 @@ pub fn gather(into: &mut Best<'_>, parts: &[Part<'_>]) -> bool
     cut
 }
 
-/// Holds the first of what is held and what the other holds.
+/// Takes what the other holds, where that comes before what is held.
 fn take_from(into: &mut Best<'_>, other: &Best<'_>)
     requires { other.now.problem ≡ into.old.problem }
     ensures same_instance { into.new.problem ≡ into.old.problem }

@@ -1,5 +1,5 @@
-//! Workers that search the pieces of an instance at the same time: what each of them does, what they lend each other, how they are
-//! forked, and what all of them found; the tasks among which the pieces are dealt; and one search without any of that.
+//! Workers that search the pieces of an instance at the same time: what each of them does, what they lend each other, how they
+//! are forked, and what all of them found; the tasks among which the pieces are dealt; and one search without any of that.
 #![tactic(auto)]
 
 mod alone;

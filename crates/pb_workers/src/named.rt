@@ -1,4 +1,4 @@
-//! The names of the pieces that a worker got.
+//! The numbers of the pieces that a worker got, by how their searches ended.
 ghost use Rattle.std.specs.Prelude.{◌≡◌, ◌<◌, [], length, IfOk, IfSome, vec_capacity};
 ghost use Rattle.pb_workers.specs.Claims.{NamesOneMore};
 
@@ -30,7 +30,7 @@ impl Named {
         }
     }
 
-    /// Makes room for one number more, however the search of its piece ends, and with a budget for its decisions.
+    /// Makes room for one more number, however the search of its piece ends, and with a budget for the count of its decisions.
     pub(crate) fn reserve(&mut self, nodes: Option<u64>) -> Result<(), Memory>
         ensures same_done { self.new.done.items ≡ self.old.done.items }
         ensures same_cut { self.new.cut.items ≡ self.old.cut.items }
@@ -59,7 +59,7 @@ impl Named {
         Ok(())
     }
 
-    /// Names the piece by how its search ended, and tells its decisions, where they are counted.
+    /// Names the piece as done or as cut, and records its decisions where they are counted.
     pub(crate) fn push_reserved(&mut self, piece: u32, outcome: Outcome, decisions: Option<u64>)
         requires done { length self.old.done.items < vec_capacity self.old.done }
         requires cut { length self.old.cut.items < vec_capacity self.old.cut }

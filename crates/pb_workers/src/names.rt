@@ -1,4 +1,4 @@
-//! The names that parts give the pieces of a task.
+//! The pieces of a task that its parts name, as done or as cut.
 ghost use Rattle.std.specs.List.Sorted.{IsPermutation};
 ghost use Rattle.std.specs.Prelude.{◌≡◌, [], IfOk, OnOk, flat_map};
 ghost use Rattle.pb_workers.specs.Dealing.{AreNamesOf};
@@ -17,7 +17,8 @@ pub(crate) struct Names {
 }
 
 impl Names {
-    /// None yet, with room for so many of either where there is a task, so that no finished work is lost for want of memory.
+    /// No numbers yet. Where there is a task there is room for `pieces` of either kind, so that no finished work is lost for
+    /// want of memory.
     pub(crate) fn with_room(
         alloc: Global,
         task: &Option<Task>,
@@ -36,7 +37,7 @@ impl Names {
         Ok(names)
     }
 
-    /// Takes the names that the parts give, in order, where there is a task.
+    /// Takes over the numbers that the parts name, and sorts them, where there is a task.
     pub(crate) fn take(&mut self, task: &Option<Task>, parts: &[Part<'_>]) -> Result<(), Memory>
         requires none { (self.old.done.items ≡ []) × (self.old.cut.items ≡ []) }
         ensures { OnOk result (AreNamesOf task.now parts.now self.new.done.items self.new.cut.items) }
@@ -49,7 +50,7 @@ impl Names {
         Ok(())
     }
 
-    /// Takes the names that the parts give, one part after the other.
+    /// Takes over the numbers that the parts name, one part after the other.
     fn take_all(&mut self, parts: &[Part<'_>]) -> Result<(), Memory>
         requires none { (self.old.done.items ≡ []) × (self.old.cut.items ≡ []) }
         ensures done { OnOk result (self.new.done.items ≡ flat_map (λ part. part.named) parts.now) }

@@ -30,16 +30,16 @@ pub struct Correspondence<'n, N> {
     pub tasks: u32,
 }
 
-/// A worker's share beyond its board: an exchange of notes, where its task has one. What comes of it is any bits, as with every
-/// share.
+/// A worker's share beyond its board: an exchange of notes, where its task has one. What comes in may be any bits, as with
+/// every share.
 #[derive(Drop)]
 pub struct NoteShare<'n, N: Notes> {
     exchange: Option<Exchange<'n, N>>,
 }
 
 impl<'n, N: Notes> NoteShare<'n, N> {
-    /// The share of the worker of this number on an instance of so many variables. Without a correspondence there is nobody to
-    /// share with. Fails where memory is refused.
+    /// The share of the worker of number `worker` on an instance of `vars` variables. Without a correspondence there is nobody
+    /// to share with. Fails where memory is refused.
     pub fn new(
         alloc: Global,
         correspondence: Option<&Correspondence<'n, N>>,
@@ -88,7 +88,7 @@ impl<'n, N: Notes> Share for NoteShare<'n, N> {
 }
 
 impl<'n, N: Notes> OuterShare for NoteShare<'n, N> {
-    /// So that what others found bounds the piece from its root on.
+    /// The next borrowing looks at notes, so that what others found bounds the piece from its root on.
     fn begin(&mut self) {
         if let Some(exchange) = &mut self.exchange {
             exchange.begin();

@@ -7,9 +7,9 @@ use pb_cubes::Pieces;
 use pb_inst::Best;
 use std::marker::Model;
 
-/// The numbers of the pieces of a list that a worker got, and the best assignment that it found. A piece is named as done
-/// or as cut. No feasible assignment of a piece that is done is before the best one, which is none only where no piece that
-/// is done has a feasible one; nothing is said of a piece that was cut. With a budget the decisions of each search are told.
+/// The numbers of the pieces of a list that a worker got, and the best assignment that it found. A piece is named as done or as
+/// cut. No feasible assignment of a done piece comes before the best one. Where there is no best one, no done piece has a
+/// feasible assignment. Nothing is said of a cut piece. With a budget the decisions of each search are told.
 #[derive(Drop)]
 pub struct Part<'i> {
     list: &'i Pieces,
@@ -51,15 +51,14 @@ impl<'i> Part<'i> {
         &self.named.cut
     }
 
-    /// With a budget, how many decisions the search of each piece that is done made, in the order of `pieces`; without one
-    /// nothing.
+    /// How many decisions the search of each done piece made, in the order of `pieces`. Without a budget the list is empty.
     pub fn decisions(&self) -> &[u64]
         ensures { result.now ≡ self.now.decisions }
     {
         &self.named.decisions
     }
 
-    /// The same of the pieces whose search was cut, in the order of `cut`.
+    /// How many decisions the search of each cut piece made, in the order of `cut`. Without a budget the list is empty.
     pub fn cut_decisions(&self) -> &[u64]
         ensures { result.now ≡ self.now.cut_decisions }
     {

@@ -12,22 +12,22 @@ use pb_inst::{Assignment, Number, next_other};
 use pb_search::Share;
 use std::marker::Model;
 
-/// What a cost is raised by to be a key of the board: 2^63.
+/// What is added to a cost to make a key of the board, 2^63: so the costs of 64 bits with a sign become words without one.
 const KEY_OFFSET: Number = 9_223_372_036_854_775_808;
 
-/// The least cost with a key of its own, -2^63, and the greatest one.
+/// The least cost with a key of its own, -2^63; `HIGHEST` is the greatest one. A key has 64 bits, since it is one atomic word.
 const LOWEST: Number = -9_223_372_036_854_775_808;
 
 const HIGHEST: Number = 9_223_372_036_854_775_807;
 
-/// A worker's ways to the others: its seat on the board, its own row, and the rows of the others, which it reads in turn. Beside
-/// the board it has a share with others who are not on it, `Alone` where there are none.
+/// How a worker reaches the others: by its seat on the board, by its own row, and by the rows of the others, which it reads in
+/// turn. Beside the board it has a share with others who are not on it, `Alone` where there are none.
 #[derive(Drop)]
 pub struct BoardShare<'b, S: OuterShare + Drop> {
     board: &'b Board,
     seat: Seat,
     worker: u32,
-    // the worker whose row was read last, at first this one
+    // the worker whose row was read last, and at first this worker itself
     last_read: u32,
     beside: S,
 }
@@ -41,8 +41,8 @@ impl<'b, S: OuterShare + Drop> Model for BoardShare<'b, S> {
 }
 
 impl<'b, S: OuterShare + Drop> BoardShare<'b, S> {
-    /// The share of a worker below the board's number of workers, with a seat of the board. The share beside the board is told of each
-    /// assignment that is offered, and is asked where the board has nothing to lend.
+    /// The share of a worker below the board's number of workers, with a seat of the board. The share beside the board is told
+    /// of each assignment that is offered, and is asked where the board has nothing to lend.
     pub fn beside(board: &'b Board, seat: Seat, worker: u32, beside: S) -> BoardShare<'b, S>
         requires seat { seat.board ≡ board.now.id }
         requires worker { worker < board.now.workers }
@@ -136,8 +136,8 @@ impl<'b, S: OuterShare + Drop> BoardShare<'b, S> {
     }
 }
 
-/// The key of a cost on the board: the cost and 2^63, cut off at both ends of 64 bits. So keys never fall where costs grow, and
-/// costs from -2^63 to 2^63 - 1 have keys of their own. Of two costs with one key neither is lent for the other.
+/// The key of a cost on the board: the cost plus 2^63, clamped to 64 bits. So keys never fall where costs grow, and costs from
+/// -2^63 to 2^63 - 1 have keys of their own. Of two costs with one key neither is lent for the other.
 fn key_of(cost: Number) -> u64
     ensures key { IsKeyOf cost result }
     ensures rising { (other : ℤ) (key : ℕ) → IsKeyOf other key → cost ≤ℤ other → result ≤ key }

@@ -27,7 +27,7 @@ impl From<Memory> for SolveFault {
 }
 
 /// What the workers found. Where no piece was cut, that is the least assignment, or none where nothing is feasible. The parts
-/// behind it end with the call: an answer that carried them would hold the number of every piece.
+/// behind it are dropped when the call ends, since an answer that carried them would hold the number of every piece.
 #[derive(Drop)]
 pub struct Answer<'i> {
     /// The best assignment that was found, which is feasible.
@@ -36,11 +36,11 @@ pub struct Answer<'i> {
     pub cut: bool,
 }
 
-/// The least assignment, or none where nothing is feasible. Each piece is searched with at most `nodes` decisions, where a
-/// budget is given: a piece that would need more is cut, and then the answer is the best that was found. The workers, numbered from 0, run on threads of their own
-/// where the system gives them; else some of them run one after the other, with the same answer. A worker beyond the number
-/// of pieces is not started: it would get none, and yet take memory for a search of its own, the want of which would end
-/// the run. Asks for pieces over the instance's variables.
+/// Finds the least assignment, or none where nothing is feasible. Each piece is searched with at most `nodes` decisions, where
+/// a budget is given: a piece that would need more is cut, and then the answer is the best that was found. The workers,
+/// numbered from 0, run on threads of their own where the system gives them; else some of them run one after the other, and
+/// their answer is the same. A worker beyond the number of pieces is not started: it would get none, and yet take memory for a
+/// search of its own, and the run would end where that is refused. Asks for pieces over the instance's variables.
 pub fn solve<'i, R: Threads + Sync, G: Gate + Sync>(
     rt: &R,
     alloc: Global,

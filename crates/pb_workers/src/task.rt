@@ -4,8 +4,8 @@ ghost use Rattle.pb_workers.specs.Dealing.{is_dealt};
 
 use std::marker::Model;
 
-/// One of so many tasks, among which the pieces of an instance are dealt in turn: piece 0 to the first, piece 1 to the second,
-/// and so on from the first again. So pieces that lie beside one another, and are often as hard as one another, go to several.
+/// One of several tasks, among which the pieces of an instance are dealt in turn: piece 0 to the first, piece 1 to the second,
+/// and so on from the first again. So adjacent pieces, which are often about as hard as one another, go to different tasks.
 #[derive(Clone, Copy, Debug, PartialEq, Eq)]
 pub struct Task {
     number: u32,
@@ -26,7 +26,7 @@ impl Model for Task {
 }
 
 impl Task {
-    /// The task of this number, from 0 on, of so many. None where its number is not below theirs.
+    /// The task of this number, from 0 on, among `tasks` tasks. None where `number` is not below `tasks`.
     pub fn new(number: u32, tasks: u32) -> Option<Task>
         ensures some { IfSome result (λ task. (task ≡ record { number = number; tasks = tasks }) × (number < tasks)) }
         ensures none { IfNone result (tasks ≤ number) }
@@ -53,7 +53,7 @@ impl Task {
         self.tasks
     }
 
-    /// How many of so many pieces the task is dealt.
+    /// How many of `pieces` pieces the task is dealt.
     pub fn share_of(self, pieces: u32) -> u32
         ensures { result ≤ pieces }
     {

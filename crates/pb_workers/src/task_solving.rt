@@ -26,10 +26,10 @@ pub struct TaskAnswer<'i> {
     pub cut: Vec<u32>,
 }
 
-/// The best assignment that a task finds: every piece that it is dealt is searched, with at most `nodes` decisions where a budget
-/// is given. The workers lend each other what they found, and each of them borrows and lends by its way beyond the board. Whatever
-/// comes by these ways, a piece that is named as done is done, since every assignment that is borrowed is checked.
-/// Asks for pieces over the instance's variables. Fails where memory is refused.
+/// Searches every piece that the task is dealt, with at most `nodes` decisions where a budget is given, and answers the best
+/// assignment that was found. The workers lend each other what they found, and each of them also borrows and lends beyond the
+/// board. Whatever comes in that way, a piece that is named as done is done, since every assignment that is borrowed is
+/// checked. Asks for pieces over the instance's variables. Fails where memory is refused.
 pub fn solve_task<'i, R: Threads + Sync, N: Notes + Sync, G: Gate + Sync>(
     rt: &R,
     alloc: Global,
@@ -62,7 +62,7 @@ pub fn solve_task<'i, R: Threads + Sync, N: Notes + Sync, G: Gate + Sync>(
         names,
         cut: _,
     } = dealt;
-    // By this what some part did is done by the first of all parts.
+    // The proof learns by this call that what is held is a solution, so what some part did is done by the first of all parts.
     facts_of(&best);
     let Names { done, cut } = names;
     Ok(TaskAnswer { best, done, cut })

@@ -1,4 +1,5 @@
 //! Workers on threads of their own, on all pieces of an instance or on those of a task.
+//! Source: [H11]
 ghost use Rattle.std.specs.Prelude.{◌≡◌, ◌≤◌, List, None, false, min, IfOk, IfNone};
 ghost use Rattle.pb_inst.specs.declared.limits.TheConstants.{MAX_WORKERS};
 ghost use Rattle.pb_workers.specs.Dealing.{AreDealtWork, AreNamesOf};
@@ -21,20 +22,20 @@ use pb_search::SearchTables;
 use std::alloc::Global;
 use std::thread::Threads;
 
-/// What workers did of the pieces that they were dealt.
+/// What workers did with the pieces that they were dealt.
 #[derive(Drop)]
 pub(crate) struct Dealt<'i> {
-    /// The first of what they found.
+    /// The first of the assignments that they found.
     pub(crate) best: Best<'i>,
-    /// What they name the pieces of a task; without one nothing.
+    /// The pieces of a task, as they name them; none without a task.
     pub(crate) names: Names,
     /// Whether the search of some piece was cut by its budget.
     pub(crate) cut: bool,
 }
 
-/// The whole work of the workers on the pieces that the task is dealt, and without a task on all of them. The workers, numbered
-/// from 0, run on threads of their own where the system gives them. A worker beyond the number of pieces is not started: it would
-/// get none, and yet take memory for a search of its own. Asks for pieces over the instance's variables.
+/// Searches the pieces that the task is dealt, and without a task all pieces. The workers, numbered from 0, run on threads of
+/// their own where the system gives them. A worker beyond the number of pieces is not started: it would get none, and yet take
+/// memory for a search of its own. Asks for pieces over the instance's variables.
 pub(crate) fn work_together<'i, R: Threads + Sync, N: Notes + Sync, G: Gate + Sync>(
     rt: &R,
     alloc: Global,
@@ -68,7 +69,7 @@ pub(crate) fn work_together<'i, R: Threads + Sync, N: Notes + Sync, G: Gate + Sy
     Ok(Dealt { best, names, cut })
 }
 
-/// How many of so many pieces are dealt, and 1 where there are none.
+/// How many of `pieces` pieces are dealt, and 1 where there are none, since there is at least one worker.
 fn dealt_pieces(task: &Option<Task>, pieces: u32) -> u32
     ensures { 1 ≤ result }
 {

@@ -11,8 +11,8 @@ use pb_board::{Board, Seat};
 use pb_inst::Memory;
 use std::alloc::Global;
 
-/// Workers on the pieces of one instance, all of them or those of a task, who share a board, and have the same budget of decisions
-/// for each piece or none.
+/// Workers on the pieces of one instance, all of them or those of a task. They share a board, and have the same budget of
+/// decisions for each piece or none.
 ///
 /// A closure of the library's `join` keeps its clauses where it captures a type parameter, and loses them where it captures a
 /// type with a lifetime. So `fork` knows workers by this trait alone, and what all are lent stands behind it.

@@ -1,4 +1,5 @@
 //! The whole work of one worker, which claims pieces and searches them.
+//! Source: [G69]
 ghost use Rattle.std.specs.Prelude.{◌≡◌, ◌<◌, ◌≤◌, ◌⊎◌, ◌+◌, ◌^◌, ◌++◌, ◌∷◌, [], length, Option, All, IfOk, IfSome, IfNone};
 ghost use Rattle.pb_normal.specs.NormalForm.{KeepsCost, KeepsFeasible};
 ghost use Rattle.pb_search.specs.Done.{IsDone};
@@ -24,11 +25,11 @@ use pb_notes::Notes;
 use pb_search::{Search, SearchTables};
 use std::alloc::Global;
 
-/// The whole work of one worker: it claims numbers from the board until it gets one that is no piece, and searches each
-/// piece that it got with at most `nodes` decisions, where there is such a budget, of which it tells the gate before. The part
-/// names exactly the claims of the answered seat that are pieces, as done or as cut by the budget, either in order, and with a
-/// budget it tells the decisions of each search: no more than the budget, and all of it where the piece was cut. The worker
-/// builds the tables of its searches for itself; where many share them, `solve` lends them.
+/// The whole work of one worker. It claims numbers from the board until it gets one that is no piece. It tells the gate of each
+/// piece that it got, and then searches it with at most `nodes` decisions, where there is such a budget. The part names exactly
+/// the claims of the answered seat that are pieces, as done or as cut by the budget, either kind in order. With a budget it
+/// tells the decisions of each search: no more than the budget, and all of it where the piece was cut. The worker builds the
+/// tables of its searches for itself; where many share them, `solve` lends them.
 ///
 /// Asks for a normal form of the instance, pieces over its variables, a seat of this board without claims, a board for the
 /// instance's variables, and a worker below the board's number of workers. At `Memory` the seat is dropped.
@@ -150,11 +151,11 @@ impl<'a, 'i, N: Notes, G: Gate> SearchWorkers<'a, 'i, N, G> {
             if !has_piece(&self.task, piece) {
                 continue;
             }
-            // What is refused here is refused before the piece is searched, so that no finished work is lost for it.
+            // Memory is asked for before the piece is searched, so that a refusal loses no finished work.
             named.reserve(self.nodes)?;
             self.gate.pass(share.worker(), piece);
             let outcome = search.run(piece, best, share, self.nodes);
-            // By this what is done stays done.
+            // The proof learns by this call that what is held is a solution, so a piece that is done stays done.
             facts_of(best);
             named.push_reserved(piece, outcome, decisions_of(search, self.nodes));
         }
@@ -192,7 +193,7 @@ fn decisions_of(search: &Search<'_>, nodes: Option<u64>) -> Option<u64>
     }
 }
 
-/// Claims the next number, and answers it where it is a piece's.
+/// Claims the next number, and answers it where it is the number of a piece.
 fn claim_piece<S: OuterShare + Drop>(share: &mut BoardShare<'_, S>, count: u32) -> Option<u32>
     requires { length share.old.seat.claimed < 2 ^ 32 }
     ensures piece { IfSome result (λ piece. (piece < count) × (share.new.seat.claimed ≡ share.old.seat.claimed ++ piece ∷ [])) }

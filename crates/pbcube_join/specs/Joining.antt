@@ -56,7 +56,8 @@ pub record JoinsParts {F : Type 0} (reads : F → Text → List ℕ → F → Ty
   pub from_files : ReadsPartsFor reads lists line problem digest parts before after
   pub tells : TellsOfParts line.format problem digest tasks parts old new joined
 
--- the reports of so many tasks are joined where there is a number of them, and else those of pieces, and the report has this status
+-- the reports of `tasks` tasks are joined where that number is told, and else the reports of pieces, and the report has this
+-- status
 abbrev pub JoinsLine : {F : Type 0} → (F → Text → List ℕ → F → Type 0) → (F → Text → Option (List Text) → F → Type 0) → Line → Option ℕ → F → F → Option (List ℕ) → Option (List ℕ) → Status → Type 0
 JoinsLine reads lists line None before after old new status = (joined : Joined) × JoinsFiles reads lists line before after old new joined × (status ≡ joined.status)
 JoinsLine reads lists line (Some tasks) before after old new status = (joined : JoinedParts) × JoinsParts reads lists line tasks before after old new joined × (status ≡ joined.status)

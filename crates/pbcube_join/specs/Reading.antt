@@ -7,8 +7,8 @@ use Rattle.pb_join.specs.declared.reports.PieceReport.{PieceReport}
 use Rattle.pb_parts.specs.declared.parts.PartReport.{PartReport}
 use Rattle.pb_line.specs.declared.joining.args.Line.{Line}
 
--- The instance is read, then the indexes of the folders that the line names, by which the instance is cut into so many pieces, and
--- then the reports. Each is read from the files that the line names, and no other file is.
+-- The instance is read, then the indexes of the folders that the line names, which tell into how many pieces the instance is
+-- cut, and then the reports. Each is read from the files that the line names, and no other file is.
 pub record ReadsFor {F : Type 0} (reads : F → Text → List ℕ → F → Type 0) (lists : F → Text → Option (List Text) → F → Type 0) (line : Line) (p : Problem) (pieces : ℕ) (reports : List PieceReport) (old new : F) : Type 0 where
   pub digest : List ℕ
   pub after_instance : F
@@ -21,8 +21,8 @@ pub record ReadsFor {F : Type 0} (reads : F → Text → List ℕ → F → Type
   pub counted : CountsPieces reads line.format p.vars digest line.pieces indexes pieces after_names after_indexes
   pub reports_read : ReadsReports reads line.format p.vars names reports after_indexes new
 
--- The instance is read, which has this digest, and then the reports of parts. Each is read from the files that the line names, and no
--- other file is: an index is named, and is not read.
+-- The instance is read, which has this digest, and then the reports of parts. Each is read from the files that the line names,
+-- and no other file is: an index is named, and is not read.
 pub record ReadsPartsFor {F : Type 0} (reads : F → Text → List ℕ → F → Type 0) (lists : F → Text → Option (List Text) → F → Type 0) (line : Line) (p : Problem) (digest : List ℕ) (parts : List PartReport) (old new : F) : Type 0 where
   pub after_instance : F
   pub instance : ReadsInstance reads line.format line.file.now p digest old after_instance

@@ -20,8 +20,8 @@ impl State for TaskState {
     }
 }
 
-/// One line to the standard error with the numbers of those that have to be run again, as the option `--array` of Slurm takes
-/// them: `3,5-7`. A fault of the standard error is ignored.
+/// Writes one line to the standard error with the numbers of those that have to be run again, in the form that the option
+/// `--array` of Slurm takes: `3,5-7`. A fault of the standard error is ignored.
 pub(crate) fn name_open<S: State, E: Write>(of: &str, states: &[S], err: &mut E) {
     let _ = write_open(of, states, err);
 }

@@ -16,7 +16,7 @@ use pb_report::Device;
 use std::alloc::Global;
 use std::io::Write;
 
-/// What was joined of parts.
+/// What came of joining parts.
 #[derive(Drop)]
 pub(crate) struct PartsEnd {
     /// How the report that was written ended, and what became of each task.
@@ -25,8 +25,8 @@ pub(crate) struct PartsEnd {
     pub(crate) pieces: Option<u32>,
 }
 
-/// Reads the instance and the reports of parts that the line names, joins the reports and writes what they make. Where anything is
-/// refused nothing is written.
+/// Reads the instance and the reports of parts that the line names, joins the reports and writes what they make. Where anything
+/// is refused nothing is written.
 pub(crate) fn join_tasks<'a, F: Files, W: Write>(
     alloc: Global,
     line: &Line<'a>,
@@ -89,8 +89,8 @@ fn fault_of<'a>(fault: PartsFault, mut names: Vec<String>) -> ReportsFault<'a>
     }
 }
 
-/// One line to the standard error with the tasks that have to be run again, those that are not finished and have a piece, unless
-/// every piece is done.
+/// Writes one line to the standard error with the tasks that have to be run again, those that are not finished and have a
+/// piece, unless every piece is done.
 pub(crate) fn name_tasks<E: Write>(end: &PartsEnd, err: &mut E) {
     if !end.joined.whole {
         let with_pieces = end.pieces.unwrap_or(u32::MAX) as usize;

@@ -27,9 +27,9 @@ use pb_report::{Device, Status};
 use std::alloc::Global;
 use std::io::{self, Write};
 
-/// Runs the program on its words, its own name first, and answers its exit status. Where the words are refused nothing is
-/// written; nor, where clap has no fault in them, is it after any other fault, unless the output has failed. Where the output notes its
-/// faults, these tell why it failed.
+/// Runs the program on its words, of which the first is its own name, and answers its exit status. Where the words are refused
+/// nothing is written. Nor is anything written after any other fault, unless clap found a fault in the words or the output has
+/// failed. Where the output notes its faults, these tell why it failed.
 pub fn program<'a, F: Files, W: Write, E: Write>(
     alloc: Global,
     words: &'a [&'a str],
@@ -55,15 +55,15 @@ pub fn program<'a, F: Files, W: Write, E: Write>(
     }
 }
 
-/// The program's end where its words found no memory.
+/// The program's end where there was no memory for its words.
 pub fn out_of_memory<E: Write>(err: &mut E) -> u8
     ensures { result ≡ 1 }
 {
     end_at_fault(&ReportsFault::Memory, None, err)
 }
 
-/// Joins what the line names, the reports of tasks where it tells their number and else those of pieces, and names what is
-/// missing or was cut.
+/// Joins what the line names, the reports of tasks where it tells the number of tasks and else those of pieces, and names what
+/// is missing or was cut.
 fn join_asked<'a, F: Files, W: Write, E: Write>(
     alloc: Global,
     line: &Line<'a>,
@@ -91,8 +91,8 @@ fn join_asked<'a, F: Files, W: Write, E: Write>(
     }
 }
 
-/// Reads what the line names, the instance before the indexes and those before the reports, joins the reports and writes what
-/// they make. Where anything is refused nothing is written.
+/// Reads what the line names: the instance, then the indexes, then the reports. Joins the reports and writes what they make.
+/// Where anything is refused nothing is written.
 fn join_line<'a, F: Files, W: Write>(
     alloc: Global,
     line: &Line<'a>,
@@ -152,8 +152,8 @@ fn fault_of<'a>(fault: JoinFault, mut names: Vec<String>) -> ReportsFault<'a>
     }
 }
 
-/// One line to the standard error for each piece that is missing or was cut, and one that names them all, unless every piece is
-/// done.
+/// Writes one line to the standard error for each piece that is missing or was cut, and one that names them all, unless every
+/// piece is done.
 fn name_pieces<E: Write>(joined: &Joined, err: &mut E) {
     for (number, state) in joined.states.iter().enumerate() {
         let _ = name_piece(number, *state, err);
@@ -184,7 +184,8 @@ fn end_without_run<W: Write, E: Write>(fault: &Error, out: &mut Device<W>, err: 
     }
 }
 
-/// One line to the standard error, with the reason where the output failed, unless whoever read it wants no more.
+/// Writes one line to the standard error, with the reason where the output failed, unless whoever reads the output wants no
+/// more of it.
 fn end_at_fault<E: Write>(fault: &ReportsFault<'_>, of_output: Option<io::Error>, err: &mut E) -> u8
     ensures { result ≡ 1 }
 {

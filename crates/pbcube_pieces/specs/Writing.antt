@@ -9,7 +9,7 @@ use Rattle.pb_inst.specs.Problem.{Problem}
 use Rattle.pb_line.specs.Dividing.{IsLineOf, pbcube_pieces}
 use Rattle.pb_line.specs.declared.dividing.args.Line.{Line}
 
--- the files of a line are read, and what they make, so many pieces, is written to the files of its folder
+-- the files of a line are read, and what they make, this number of pieces, is written to the files of its folder
 pub record Divides {F : Type 0} (reads : F → Text → List ℕ → F → Type 0) (makes : F → Text → F → Type 0) (looks : F → Text → Bool → F → Type 0) (writes : F → Text → List ℕ → F → Type 0) (line : Line) (pieces : ℕ) (old new : F) : Type 0 where
   pub problem : Problem
   pub cubes : List (List Literal)
@@ -20,7 +20,8 @@ pub record Divides {F : Type 0} (reads : F → Text → List ℕ → F → Type 
   pub writing : WritesDivided makes looks writes line.format line.out.now problem cubes digest between new
   pub counted : pieces ≡ length cubes + 1
 
--- the same of a line that has the values of the words' matches, and what was written to the output tells how many pieces there are
+-- the same of a line that has the values of the words' matches, and what was written to the output tells how many pieces there
+-- are
 pub record DividesAsAsked {F : Type 0} (reads : F → Text → List ℕ → F → Type 0) (makes : F → Text → F → Type 0) (looks : F → Text → Bool → F → Type 0) (writes : F → Text → List ℕ → F → Type 0) (words : List Text) (old new : F) (old_out new_out : Option (List ℕ)) : Type 0 where
   pub line : Line
   pub asked : IsLineOf (matches_of pbcube_pieces words) line

@@ -15,8 +15,8 @@ use pb_line::{end_at_line, tell_failure};
 use std::alloc::Global;
 use std::io::{self, Write};
 
-/// Runs the program on its words, its own name first, and answers its exit status. How many pieces were written is told on the
-/// output.
+/// Runs the program on its words, of which the first is its own name, and answers its exit status. The output is told how many
+/// pieces were written.
 pub fn program<'a, F: Folders, W: Write, E: Write>(
     alloc: Global,
     words: &'a [&'a str],
@@ -42,7 +42,7 @@ pub fn program<'a, F: Folders, W: Write, E: Write>(
     }
 }
 
-/// The program's end where its words found no memory.
+/// The program's end where there was no memory for its words.
 pub fn out_of_memory<E: Write>(err: &mut E) -> u8
     ensures { result ≡ 1 }
 {
@@ -86,8 +86,8 @@ fn end_without_run<W: Write, E: Write>(fault: &Error, out: &mut W, err: &mut E) 
     }
 }
 
-/// The end where the output did not take all. One line to the standard error with the reason, unless whoever read the output wants
-/// no more.
+/// The end where the output did not take all: one line to the standard error with the reason, unless whoever reads the output
+/// wants no more of it.
 fn end_unwritten<E: Write>(reason: io::Error, err: &mut E) -> u8
     ensures { result ≡ 1 }
 {
@@ -95,7 +95,7 @@ fn end_unwritten<E: Write>(reason: io::Error, err: &mut E) -> u8
     1
 }
 
-/// One line to the standard error.
+/// Writes one line to the standard error.
 fn end_at_fault<E: Write>(fault: &PiecesFault<'_>, err: &mut E) -> u8
     ensures { result ≡ 1 }
 {

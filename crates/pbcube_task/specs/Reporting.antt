@@ -18,9 +18,9 @@ use Rattle.pb_report.specs.declared.statuses.Status.TheVariants.{Unknown, Unsupp
 use Rattle.pb_solve.specs.Budgeted.{found_of, found_report, found_status}
 use Rattle.pb_workers.specs.Dealing.{IsAnswerOfTask}
 
--- What is held, and the pieces that are named as done and as cut, are the answer of the line's task on the instance and the pieces
--- of these cubes. All that is written is the heading that names these pieces, and then the report of what is held, as what was
--- found. Without a budget no piece is named as cut.
+-- What is held, and the pieces that are named as done and as cut, are the answer of the line's task on the instance and the
+-- pieces of these cubes. All that is written is the heading that names these pieces, and then the report of what is held, as
+-- what was found. Without a budget no piece is named as cut.
 pub record ReportsPart (line : Line) (p : Problem) (cubes : List (List Literal)) (digest : List ℕ) (cubes_digest : Option (List ℕ)) (before after : Option (List ℕ)) (ended : Status) : Type 0 where
   pub done : List ℕ
   pub cut : List ℕ

@@ -1,11 +1,11 @@
-//! Where tasks exchange notes.
+//! The places where tasks exchange notes.
 use std::alloc::Global;
 use std::io;
 
 /// Opens places of notes, of the type `N`, by the names of their folders.
 pub trait Places<N> {
-    /// The notes of so many tasks, which number from 0 on, in the folder of this name, for so many workers of one of them. The folder is
-    /// made where it is not there. Fails with the kind `OutOfMemory` for want of memory.
+    /// The notes of `tasks` tasks, numbered from 0, in the folder of this name, for the `workers` workers of the task of number
+    /// `task`. The folder is made where it does not exist. Fails with the kind `OutOfMemory` for want of memory.
     fn open(
         &self,
         alloc: Global,

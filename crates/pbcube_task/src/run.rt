@@ -22,8 +22,8 @@ use std::alloc::Global;
 use std::io::{self, Write};
 use std::thread::Threads;
 
-/// Runs the program on its words, its own name first, and answers its exit status. Whatever the notes are, what is written is
-/// right. Where the output notes its faults, these tell why it failed.
+/// Runs the program on its words, of which the first is its own name, and answers its exit status. Whatever the notes say, what
+/// is written is right. Where the output notes its faults, these tell why it failed.
 pub fn program<
     'a,
     R: Threads + Sync,
@@ -56,7 +56,7 @@ pub fn program<
     }
 }
 
-/// The program's end where its words found no memory.
+/// The program's end where there was no memory for its words.
 pub fn out_of_memory<W: Write, E: Write>(faults: &LastFault, out: &mut Device<W>, err: &mut E) -> u8
     requires { out.old.failed ≡ false }
     ensures { EndsWithoutMemory (W.contents out.old.held) (W.contents out.new.held) result }
@@ -67,7 +67,7 @@ pub fn out_of_memory<W: Write, E: Write>(faults: &LastFault, out: &mut Device<W>
     }
 }
 
-/// Reads what the line names, searches its task, and reports what was found, or why nothing was searched.
+/// Reads what the line names, searches the pieces of its task, and reports what was found, or why nothing was searched.
 fn run_task<
     'a,
     R: Threads + Sync,
@@ -139,8 +139,8 @@ fn end_without_run<W: Write, E: Write>(
     }
 }
 
-/// One line to the standard error with the reason, unless whoever read the output wants no more. A file that cannot be read has its
-/// own reason.
+/// Writes one line to the standard error with the reason, unless whoever reads the output wants no more of it. A file that
+/// cannot be read has a reason of its own.
 fn end_at_fault<E: Write>(fault: ProgramFault<'_>, of_output: Option<io::Error>, err: &mut E) -> u8
     ensures { result ≡ 1 }
 {

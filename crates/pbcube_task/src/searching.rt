@@ -39,7 +39,7 @@ pub fn search<'i, R: Threads + Sync, N: Notes + Sync + Drop, P: Places<N>, E: Wr
     }
 }
 
-/// The notes of the tasks, where the line names a folder and this task has a piece. A folder that cannot be used is told of.
+/// The notes of the tasks, where the line names a folder and this task has a piece. A folder that cannot be used is reported.
 fn place_of<N, P: Places<N>, E: Write>(
     alloc: Global,
     line: &Line<'_>,
@@ -72,12 +72,12 @@ fn place_of<N, P: Places<N>, E: Write>(
     }
 }
 
-/// The number of tasks that have a piece. The others have no notes.
+/// The number of tasks that have a piece. The other tasks have no notes.
 fn tasks_with_pieces(tasks: u32, pieces: u32) -> u32 {
     tasks.min(pieces)
 }
 
-/// Searches with these notes. What was found at last is left there for the tasks that still search.
+/// Searches with these notes. What was found in the end is left there for the tasks that still search.
 fn search_with_notes<'i, R: Threads + Sync, N: Notes + Sync>(
     rt: &R,
     alloc: Global,
@@ -104,7 +104,7 @@ fn search_with_notes<'i, R: Threads + Sync, N: Notes + Sync>(
     Ok(answer)
 }
 
-/// Searches with this correspondence or none.
+/// Searches with this correspondence, or with none.
 fn search_with<'i, R: Threads + Sync, N: Notes + Sync>(
     rt: &R,
     alloc: Global,

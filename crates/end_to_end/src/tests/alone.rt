@@ -1,4 +1,4 @@
-//! Runs on the caller's own thread: the budget is kept there too.
+//! Runs on the caller's own thread, which keep the budget too.
 
 use pb_solve::{Device, Format, Status, run_without_threads};
 use std::alloc::Global;
@@ -15,7 +15,7 @@ struct Row {
 /// A constraint that asks for a decision.
 const CONSTRAINT: &[u8] = b"min: 1 x1 1 x2 ;\n1 x1 1 x2 >= 1 ;\n";
 
-/// Clauses of which a variable stands in both, and a cube that is one assignment.
+/// Two clauses that share a variable, and a cube that is one assignment.
 const CLAUSES: &[u8] = b"p inccnf\n1 2 0\n2 3 0\na 1 2 3 0\n";
 
 const ROWS: [Row; 4] = [
@@ -34,7 +34,7 @@ const ROWS: [Row; 4] = [
         status: Status::Optimum,
         cut: false,
     },
-    // What is found in the piece of the cube is told, and that the remainder was cut.
+    // What is found in the piece of the cube is reported, and also that the remainder was cut.
     Row {
         format: Format::Icnf,
         text: CLAUSES,

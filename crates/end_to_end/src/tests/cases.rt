@@ -1,8 +1,8 @@
-//! Texts with their reports, on which runs are tried whose devices fail.
+//! Texts with their reports, for runs whose devices fail.
 
 use pb_solve::{Format, Status};
 
-/// A text, the report on it without cubes or with such as are accepted, and its status.
+/// A text, its report, which is the same without cubes and with accepted ones, and its status.
 #[derive(Clone, Copy)]
 pub struct Case {
     pub format: Format,
@@ -11,7 +11,7 @@ pub struct Case {
     pub status: Status,
 }
 
-/// An objective and two constraints. Two assignments of three variables cost as little, and the tie decides.
+/// An objective and two constraints. Two assignments of three variables have the least cost, and the tie rule decides.
 pub const COVER: Case = Case {
     format: Format::Opb,
     text: b"* #variable= 3 #constraint= 2\nmin: 2 x1 3 x2 1 x3 ;\n1 x1 1 x2 >= 1 ;\n1 x2 1 x3 >= 1 ;\n",
@@ -47,7 +47,7 @@ pub const NO_HEADER: Case = Case {
     status: Status::Unsupported,
 };
 
-/// A text of comments alone, of which a test gives a long one.
+/// A text of comments alone, which a test makes long.
 pub const NOTHING: Case = Case {
     format: Format::Opb,
     text: b"* a comment\n",

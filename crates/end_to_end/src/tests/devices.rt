@@ -54,7 +54,7 @@ impl Read for Source<'_> {
     }
 }
 
-/// Has room for so many bytes, keeps them back, and lets go of them at a flush.
+/// Has room for `room` bytes, keeps them back, and lets go of them at a flush.
 #[derive(Drop)]
 pub struct Sink {
     pub limits: Limits,

@@ -10,7 +10,8 @@ use std::io::ErrorKind;
 use std::process::Abort;
 use std::thread::Threads;
 
-/// A device that moves so many bytes a call and fails after each number of calls, in runs by so many workers with this split.
+/// A device, how many bytes it moves a call, and the workers and the split of the runs in which it fails after each number of
+/// calls.
 struct Failing(RunFault, usize, u32, u32);
 
 const FAILING: [Failing; 9] = [
@@ -36,7 +37,7 @@ impl Failing {
         }
     }
 
-    /// How many calls of the device a run of the case makes. The last one finds the end, or is the flush.
+    /// How many calls of the device a run of the case makes. The last one finds the end of the text, or is the flush.
     fn calls(&self, case: &Case) -> usize {
         let bytes = match self.0 {
             RunFault::ReadInput => case.text,
@@ -46,7 +47,7 @@ impl Failing {
         bytes.len().div_ceil(self.1.max(1)).saturating_add(1)
     }
 
-    /// Whether each run of the case comes out.
+    /// Whether each run of the case ends as it must.
     fn comes_out<R: Abort + Threads + Sync>(&self, rt: &R, alloc: Global, case: &Case) -> bool {
         let Failing(device, step, workers, split) = *self;
         let calls = self.calls(case);
@@ -77,8 +78,8 @@ fn devices_that_fail_at_any_call(rt: HostRuntime) {
     }
 }
 
-/// The last number of reads after which an input of this text fails that gives as much a read as is asked for. None where a run
-/// does not come out.
+/// The last number of reads after which a fault of the input ends the run on this text, where each read gives as much as is
+/// asked for. None where a run does not end as it must.
 fn last_failing_read<R: Abort + Threads + Sync>(
     rt: &R,
     alloc: Global,
@@ -111,7 +112,7 @@ fn a_long_input_that_fails_at_any_read(rt: HostRuntime) {
     assert!(rt; 0 < last && last < 19, "the last read that fails is {last}");
 }
 
-/// Devices that fail at their first call, and the fault of the run. The input's is before that of the cube file.
+/// Devices that fail at their first call, and the fault of the run. A fault of the input comes before one of the cube file.
 const BROKEN: [(&[RunFault], RunFault); 4] = [
     (&[RunFault::ReadInput], RunFault::ReadInput),
     (
@@ -147,7 +148,7 @@ fn faults_of_any_kind(rt: HostRuntime) {
     }
 }
 
-/// Nothing fails, though the cube file would, and the split is refused: neither is looked at.
+/// Nothing fails, though reading the cube file would, and the split would be refused: neither is looked at.
 #[test]
 fn a_refused_input_leaves_the_cube_file(rt: HostRuntime) {
     for case in [PRODUCT, NO_HEADER] {
@@ -172,7 +173,7 @@ fn a_text_ends_at_its_first_end(rt: HostRuntime) {
     }
 }
 
-/// Nothing of a report is left in an output that keeps back what is not flushed.
+/// A run flushes its report, so that none of it is left in an output that keeps back what is not flushed.
 #[test]
 fn outputs_that_keep_back_what_is_not_flushed(rt: HostRuntime) {
     for case in CASES {

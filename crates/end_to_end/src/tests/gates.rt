@@ -1,4 +1,4 @@
-//! A gate that notes what passes, and holds workers at it until others have passed.
+//! A gate that notes which workers and pieces pass, and holds workers until others have passed.
 
 use pb_workers::Gate;
 use std::sync::atomic::{AtomicBool, AtomicU64, Ordering};
@@ -9,13 +9,13 @@ const MOST_TURNS: u32 = 100_000_000;
 /// What is held at a gate, and until when.
 #[derive(Clone, Copy)]
 pub struct Rule {
-    /// Each pass is held until so many workers have begun.
+    /// Each pass is held until this number of workers have begun.
     pub meeting: usize,
     /// The worker, if any, that the others wait for before they begin.
     pub first: Option<u32>,
     /// Of each pair the pass of the first piece is held until that of the second one has begun.
     pub order: &'static [(u32, u32)],
-    /// The very first pass is held until so many have begun.
+    /// The very first pass is held until this number of passes have begun.
     pub crowd: u64,
 }
 
@@ -51,7 +51,7 @@ impl Passes {
         }
     }
 
-    /// Whether each of so many pieces passed once, and no other one did.
+    /// Whether each of the pieces below `count` passed once, and no other one did.
     pub fn are_each_once(&self, count: usize) -> bool {
         for (i, passes) in self.pieces.iter().enumerate() {
             let want = if i < count { 1 } else { 0 };

@@ -8,8 +8,8 @@ use std::alloc::Global;
 use std::process::Abort;
 use std::thread::Threads;
 
-/// A run by so many workers over these devices, and the one of them that is to fail in it. Where none is, the report of the case
-/// is to be written.
+/// A run by `workers` workers over these devices, and the device that is to fail in it. Where that is none, the report of the
+/// case is to be written.
 #[derive(Clone, Copy)]
 pub struct Trial<'t> {
     pub case: Case,
@@ -50,7 +50,7 @@ pub fn source(text: &[u8]) -> Source<'_> {
 }
 
 impl<'t> Trial<'t> {
-    /// The same with these limits on the device that the fault names.
+    /// The trial with these limits on the device that the fault names.
     pub fn limited(self, device: RunFault, limits: Limits) -> Trial<'t> {
         match device {
             RunFault::ReadInput => Trial {
@@ -75,7 +75,7 @@ impl<'t> Trial<'t> {
         }
     }
 
-    /// Whether the run ends as it is to.
+    /// Whether the run ends as it must.
     pub fn comes_out<R: Abort + Threads + Sync>(&self, rt: &R, alloc: Global) -> bool {
         let options = Options {
             format: self.case.format,

@@ -8,7 +8,7 @@ use pb_workers::BoardShare;
 use std::alloc::Global;
 use std::process::Abort;
 
-/// Whether the first of three workers, which claims a piece before each of its two borrows, is lent what this one offered.
+/// Whether the first of three workers, which claims a piece before each of its two borrows, is lent what the offerer offered.
 fn is_lent_between_claims(rt: &impl Abort, alloc: Global, offerer: u32) -> bool
     requires { offerer < 3 }
 {
@@ -27,7 +27,7 @@ fn is_lent_between_claims(rt: &impl Abort, alloc: Global, offerer: u32) -> bool
     in_first_piece || in_second_piece
 }
 
-// A claim doesn't begin the turn anew: with short pieces, in each of which little is borrowed, every other row is read.
+// A claim does not start the turn again: where pieces are short and little is borrowed in each, every other row is read.
 #[test]
 fn a_claim_leaves_the_turn_of_the_rows(rt: HostRuntime) {
     for offerer in 1..3 {

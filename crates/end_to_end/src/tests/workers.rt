@@ -52,7 +52,7 @@ struct Alone {
     held: (Number, u64),
 }
 
-// A cube of either value of x1 leaves no decision: x2 follows.
+// A cube of either value of x1 leaves no decision, since x2 follows by propagation.
 const ALONE: [Alone; 3] = [
     Alone {
         cubes: TWO_CUBES,
@@ -120,8 +120,8 @@ fn work_alone(rt: HostRuntime) {
     }
 }
 
-/// A text and its cubes, what is held at the gate of so many workers with a budget, how many pieces there are, how many of them
-/// each of the first two may get where that is told, and what is to be held. No piece is to be cut.
+/// A text and its cubes, the number of workers, their budget, what is held at their gate, how many pieces there are, how many
+/// of them each of the first two workers may get where that is told, and what is to be held. No piece is to be cut.
 #[derive(Clone, Copy)]
 struct Together {
     text: &'static [u8],
@@ -135,7 +135,7 @@ struct Together {
 }
 
 impl Together {
-    /// Whether the workers answer this: those that were held met, and each piece passed once.
+    /// Whether the workers answer this, those that were held met, and each piece passed once.
     fn comes_out<R: Abort + Threads + Sync>(&self, rt: &R, alloc: Global) -> bool {
         let workers = Workers::new(self.workers).expect(rt, "a number of workers");
         let instance = read_opb(alloc, self.text).expect(rt, "an instance");
@@ -183,7 +183,7 @@ fn two_workers_meet(rt: HostRuntime) {
 }
 
 /// The very first pass is held until all five have begun. While one worker is held at its first piece the other one gets all
-/// others: with fixed shares they would wait in vain.
+/// the other pieces: with fixed shares both would wait in vain.
 const CROWD: Together = Together {
     cubes: b"a 0\na 0\na 0\na 0\n",
     rule: Rule { crowd: 5, ..FREE },

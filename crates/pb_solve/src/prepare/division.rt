@@ -16,8 +16,8 @@ use pb_read::{ReadFault, ReadKind, read_cubes};
 use pb_report::Refusal;
 use std::alloc::Global;
 
-/// The pieces that the input's own cubes, those of the cube file and those of the split make, in this order.
-/// What is refused is the first of the file, the split and the number of all cubes together.
+/// The pieces that the input's own cubes, those of the cube file and those of the split make, in this order. Where several are
+/// at fault, the cube file is refused first, then the split, then the number of all cubes together.
 pub(crate) fn divide<C: CubeFile>(
     alloc: Global,
     file: &mut C,
@@ -41,7 +41,7 @@ pub(crate) fn divide<C: CubeFile>(
     divide_by_text(alloc, text.as_deref(), instance, input_cubes, split)
 }
 
-/// The same of the cube file's text. Too many cubes are refused before those of the split are made.
+/// The pieces, where the text of the cube file is read already. Too many cubes are refused before those of the split are made.
 fn divide_by_text(
     alloc: Global,
     text: Option<&[u8]>,
@@ -86,7 +86,7 @@ fn cubes_of_file(alloc: Global, text: Option<&[u8]>, vars: u32) -> Result<Vec<Cu
     }
 }
 
-/// How many cubes a split of so many variables makes.
+/// How many cubes a split of `split` variables makes.
 fn number_of_split(split: u32) -> usize
     requires { split ≤ MAX_SPLIT }
     ensures count { result ≡ split_count split }
@@ -116,7 +116,7 @@ fn join(
     Pieces::new(instance.vars(), append(given, split_cubes)?)
 }
 
-/// The cubes of a split of so many variables, and none of 0.
+/// The cubes of a split of `split` variables, and none where that is 0.
 fn cubes_of_split(alloc: Global, instance: &Instance, split: u32) -> Result<Vec<Cube>, CubeFault>
     requires { (split ≤ MAX_SPLIT) × (split ≤ instance.now.vars) }
     ensures of_split { IfOk result (λ cubes. AreOfSplit instance.now split cubes.items) }
@@ -131,7 +131,7 @@ fn cubes_of_split(alloc: Global, instance: &Instance, split: u32) -> Result<Vec<
     }
 }
 
-/// The first cubes and then the second. With no first ones it takes no memory.
+/// The first cubes and then the second. Where there are no first ones it takes no memory.
 fn append(mut first: Vec<Cube>, mut second: Vec<Cube>) -> Result<Vec<Cube>, Memory>
     ensures { IfOk result (λ cubes. cubes.items ≡ first.items ++ second.items) }
 {

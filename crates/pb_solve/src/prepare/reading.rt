@@ -15,8 +15,8 @@ pub(crate) enum ReadStop {
 
 const ROOM: usize = 32_768;
 
-/// All that a device gives. The library's `read_to_end` tries again after `Interrupted`; here each fault of the device ends the
-/// reading, so a run that tells of a fault had one.
+/// All that a device gives. The library's `read_to_end` tries again after `Interrupted`; here any fault of the device ends the
+/// reading, so a run that tells of a fault really had one.
 pub(crate) fn read_all<R: Read>(alloc: Global, input: &mut Device<R>) -> Result<Vec<u8>, ReadStop>
     requires { input.old.failed ≡ false }
     ensures text { IfOk result (λ text. IfSome (R.remaining input.old.held) (λ t. text.items ≡ t)) }
@@ -37,7 +37,7 @@ pub(crate) fn read_all<R: Read>(alloc: Global, input: &mut Device<R>) -> Result<
     }
 }
 
-/// The cube file of a run, or that there is none.
+/// The cube file of a run, or the fact that there is none.
 pub(crate) trait CubeFile {
     // Nothing where there is no file, else its text where the reader tells it.
     ghost text_left: { Self → Option (Option (List ℕ)) };

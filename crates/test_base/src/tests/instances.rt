@@ -21,7 +21,7 @@ const WORKED: Written = Written {
     clauses: &[&[1, -3, 2]],
 };
 
-/// Coefficients that are the ends of 64 bits, the number after them, and small ones.
+/// Coefficients at both ends of 64 bits, the number after each end, and small ones.
 const OF_BOTH_WIDTHS: Written = Written {
     vars: 2,
     objective: None,
@@ -80,7 +80,7 @@ const LEAST_COST: Written = Written {
     clauses: &[],
 };
 
-/// Instances, the values of their three variables, and what these cost where they are feasible.
+/// Instances, values of their three variables, and what these values cost where they are feasible.
 const CHECKED: &[(Written, [bool; 3], Option<Number>)] = &[
     (WORKED, [true, false, true], Some(3)),
     (WORKED, [false, true, false], Some(3)),
@@ -117,7 +117,7 @@ fn all_are_copied(rt: &impl Abort, alloc: Global, instance: &Instance) -> bool {
     true
 }
 
-/// Whether what is built is as it is written, and its terms are copied as they are lent.
+/// Whether what is built is as written, and its terms are copied as they are lent.
 fn is_built(rt: &impl Abort, alloc: Global, written: &Written) -> bool {
     let instance = built(rt, alloc, written);
     is_written(&instance, written) && all_are_copied(rt, alloc, &instance)
@@ -129,7 +129,7 @@ fn what_was_added_is_built(rt: HostRuntime) {
     assert!(rt; is_built(&rt, rt.alloc(), &OF_BOTH_WIDTHS));
 }
 
-/// The instance that the builder makes of so many variables.
+/// The instance of `vars` variables that the builder makes.
 fn finished(rt: &impl Abort, builder: InstanceBuilder, vars: u32) -> Instance {
     builder.finish(vars).ok().expect(rt, "an instance")
 }
@@ -244,7 +244,7 @@ fn nothing_yet<'i>(rt: &impl Abort, alloc: Global, instance: &'i Instance) -> Be
     Best::none(alloc, instance).expect(rt, "a place for the best")
 }
 
-/// How many leading zeros what is held has, where the values are taken.
+/// How many leading zeros the values that are held have, where these values are taken.
 fn taken(best: &mut Best<'_>, values: &Assignment) -> Option<u32>
     requires { length values.now ≡ best.old.problem.vars }
     ensures { best.new.problem ≡ best.old.problem }
@@ -255,8 +255,8 @@ fn taken(best: &mut Best<'_>, values: &Assignment) -> Option<u32>
     None
 }
 
-/// Whether of assignments that cost as much the first is taken, though it comes later, and that before it, and then neither is
-/// nor one that is not feasible.
+/// Whether the later of two assignments with the same cost is taken, then the earlier one, and after that neither the later one
+/// again nor an infeasible one.
 fn are_taken_in_turn(rt: &impl Abort, alloc: Global, best: &mut Best<'_>) -> bool
     requires { best.old.problem.vars ≡ 3 }
 {

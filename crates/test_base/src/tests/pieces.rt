@@ -7,7 +7,7 @@ use pb_inst::{Cube, Instance};
 use std::alloc::{AllocError, Global};
 use std::process::Abort;
 
-/// Instances with as many variables as the header says, and more variables than a split of them may have.
+/// Instances, whose headers tell their variables, and splits of more variables than are allowed.
 const REFUSED: &[(&[u8], u32)] = &[
     (b"", 1),
     (b"* #variable= 3 #constraint= 0\n", 4),

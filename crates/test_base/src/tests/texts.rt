@@ -17,7 +17,7 @@ pub fn instance_of(rt: &impl Abort, alloc: Global, text: &[u8]) -> Instance {
     }
 }
 
-// No instance has so many variables.
+// The number of variables that is told here is greater than any instance has.
 #[test]
 fn cubes_beside_too_many_variables(rt: HostRuntime) {
     let told = read_cubes(rt.alloc(), b"a 1048577 0\n", u32::MAX);

@@ -1,4 +1,4 @@
-//! Instances and cubes as tables write them: whether one is as it is written, and how one is built.
+//! Instances and cubes in the form that tables use: whether one is as written, and how one is built.
 
 use pb_inst::{
     Constraint, Cube, InstFault, Instance, InstanceBuilder, Lit, Number, Relation, SUM_BOUND, Term,

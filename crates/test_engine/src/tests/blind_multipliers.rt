@@ -1,4 +1,4 @@
-//! Bounds by multipliers that are drawn blindly, against a listing of all assignments.
+//! Bounds by multipliers that are drawn blindly, checked against a listing of all assignments.
 
 use super::forms::{Terms, finished, form, multipliers};
 use pb_count::Coefficient;
@@ -8,7 +8,7 @@ use pb_normal::{Form, FormTerm, form_of};
 use std::alloc::Global;
 use std::process::Abort;
 
-/// Numbers that look drawn, the same in each run.
+/// Numbers that look drawn, the same in each run. Source: [K97]
 #[derive(Drop)]
 struct Draws {
     state: u64,
@@ -42,7 +42,7 @@ impl Draws {
         Lit::new(var, positive).expect(rt, "a variable")
     }
 
-    /// So many terms with coefficients of either sign, up to the limit times the unit.
+    /// A sum of `count` terms with coefficients of either sign, up to the limit times the unit.
     fn terms(
         &mut self,
         rt: &impl Abort,
@@ -61,7 +61,7 @@ impl Draws {
     }
 }
 
-/// How great the numbers of a drawn instance are: multiples of a unit, up to so many of them.
+/// How great the numbers of a drawn instance are: multiples of the unit, from minus the limit to the limit.
 #[derive(Clone, Copy)]
 struct Size {
     limit: u64,
@@ -70,7 +70,7 @@ struct Size {
 
 const RELATIONS: [Relation; 3] = [Relation::AtLeast, Relation::AtMost, Relation::Equal];
 
-/// Adds a constraint over so many variables.
+/// Adds a constraint over the variables 1 to `vars`.
 fn add_drawn_row(
     rt: &impl Abort,
     alloc: Global,
@@ -89,7 +89,7 @@ fn add_drawn_row(
         .expect(rt, "a constraint");
 }
 
-/// An instance over so many variables with an objective and as many constraints.
+/// An instance over `vars` variables with an objective and as many constraints.
 fn drawn_instance(
     rt: &impl Abort,
     alloc: Global,
@@ -215,7 +215,7 @@ fn change<C: Coefficient>(
     }
 }
 
-/// Draws an instance and changes of multipliers; answers whether every bound on the way is one.
+/// Draws an instance and changes of multipliers. Answers whether every bound on the way is valid.
 fn bounds_hold<C: Coefficient>(rt: &impl Abort, alloc: Global, seed: u64, size: Size) -> bool {
     let mut draws = Draws { state: seed };
     let vars = 5;
@@ -224,7 +224,7 @@ fn bounds_hold<C: Coefficient>(rt: &impl Abort, alloc: Global, seed: u64, size: 
     changes_hold(rt, alloc, &form, &mut draws, size.limit)
 }
 
-/// Draws changes of multipliers; answers whether every bound on the way is one.
+/// Draws changes of multipliers. Answers whether every bound on the way is valid.
 fn changes_hold<C: Coefficient>(
     rt: &impl Abort,
     alloc: Global,
@@ -246,8 +246,8 @@ fn changes_hold<C: Coefficient>(
     true
 }
 
-/// No multipliers give a bound over the cost of a completion, whatever they are: with small coefficients and with such that
-/// the clamp is met.
+/// No multipliers, whatever they are, give a bound over the cost of a completion: with small coefficients, and with
+/// coefficients so great that the clamp acts.
 #[test]
 fn blind_multipliers(rt: HostRuntime) {
     let alloc = rt.alloc();
@@ -259,7 +259,7 @@ fn blind_multipliers(rt: HostRuntime) {
     }
 }
 
-/// The same with numbers of 128 bits; where they are greatest no scale but 1 fits.
+/// The bounds hold with numbers of 128 bits too; where these are greatest no scale but 1 fits.
 #[test]
 fn blind_multipliers_of_wide_forms(rt: HostRuntime) {
     let alloc = rt.alloc();
@@ -316,12 +316,12 @@ fn rows_are_saturated_while_the_trail_stands(rt: HostRuntime) {
     assert!(rt; multipliers.bound() == 0);
 }
 
-/// A form over one variable, which costs so much.
+/// A form over one variable, which costs `cost`.
 fn costly_form(rt: &impl Abort, alloc: Global, cost: Number) -> Form<u128> {
     form(rt, alloc, 1, &[(cost, 1)], &[(&[(1, 1)], 1)])
 }
 
-/// Where not even costs as they are leave room for reduced costs there are no multipliers.
+/// Where costs leave no room for reduced costs even at a scale of 1, there are no multipliers.
 #[test]
 fn no_scale_fits(rt: HostRuntime) {
     let alloc = rt.alloc();
@@ -330,7 +330,7 @@ fn no_scale_fits(rt: HostRuntime) {
     assert!(rt; made.is_none());
 }
 
-/// The greatest costs for which there are some: a multiplier of all of it gives all of it.
+/// The greatest costs for which there are multipliers. One row raises the bound to 2^105 at most, however great its multiplier.
 #[test]
 fn the_greatest_scaled_costs(rt: HostRuntime) {
     let alloc = rt.alloc();

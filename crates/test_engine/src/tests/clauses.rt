@@ -80,8 +80,8 @@ fn cubes_are_clauses(rt: HostRuntime) {
     }
 }
 
-/// Makes the variables before `last` false one by one, and says whether each time `last` has no value before the rows are
-/// looked at.
+/// Makes the variables before `last` false one by one. Answers whether each time `last` has no value until the rows are
+/// propagated.
 fn refute_all_before(rt: &impl Abort, player: &mut Player, last: i32) -> bool {
     for number in 1..last {
         let fixed = is_fixed(player.assume(rt, number.wrapping_neg()));
@@ -93,7 +93,8 @@ fn refute_all_before(rt: &impl Abort, player: &mut Player, last: i32) -> bool {
     true
 }
 
-/// The same, and whether `last` is true then, and without a value once the last assumption is taken back.
+/// What `refute_all_before` answers, and whether `last` is true at the end, and has no value once the last assumption is
+/// undone.
 fn last_is_forced(rt: &impl Abort, player: &mut Player, last: i32) -> bool {
     let refuted = refute_all_before(rt, player, last);
     let forced = matches!(player.value(rt, last.unsigned_abs()), Some(true));

@@ -8,7 +8,7 @@ use std::alloc::Global;
 use std::process::Abort;
 
 /// A form, cubes that are to be false, and what is done with an engine over them. A test that is such a table is proved in far
-/// less time than one that calls the engine itself: it holds no engine that it would have to let go.
+/// less time than one that calls the engine itself, since it holds no engine that it would have to drop.
 #[derive(Clone, Copy)]
 pub struct Course<'c> {
     pub vars: u32,
@@ -38,7 +38,7 @@ pub enum Move<'c> {
 }
 
 impl<'c> Course<'c> {
-    /// Whether all moves come out as they are to.
+    /// Whether all moves come out as they must.
     pub fn comes_out(&self, rt: &impl Abort, alloc: Global) -> bool {
         let form = form(rt, alloc, self.vars, self.costs, self.rows);
         let cubes = cubes(rt, alloc, self.cubes);
@@ -47,7 +47,7 @@ impl<'c> Course<'c> {
     }
 }
 
-/// Makes the moves, and says whether each comes out as it is to.
+/// Makes the moves. Answers whether each comes out as it must.
 fn all_come_out(rt: &impl Abort, player: &mut Player, moves: &[Move<'_>]) -> bool {
     for made in moves {
         if !comes_out(rt, player, *made) {
@@ -57,7 +57,7 @@ fn all_come_out(rt: &impl Abort, player: &mut Player, moves: &[Move<'_>]) -> boo
     true
 }
 
-/// Makes the move, and says whether it comes out as it is to.
+/// Makes the move. Answers whether it comes out as it must.
 fn comes_out(rt: &impl Abort, player: &mut Player, made: Move<'_>) -> bool {
     match made {
         Move::Assume(number) => is_fixed(player.assume(rt, number)),

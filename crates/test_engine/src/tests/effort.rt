@@ -2,7 +2,7 @@
 
 use pb_lagrange::Effort;
 
-/// The effort of so many nodes, at each of which multipliers looked at so many terms, beside rows of `all` terms.
+/// The effort of `nodes` nodes, at each of which multipliers looked at `terms` terms, beside rows of `all` terms.
 fn used_beside(all: u64, nodes: u32, terms: usize) -> Effort {
     let mut effort = Effort::new(all);
     for _ in 0..nodes {
@@ -12,13 +12,13 @@ fn used_beside(all: u64, nodes: u32, terms: usize) -> Effort {
     effort
 }
 
-/// The same beside no rows.
+/// The effort where there are no rows beside.
 fn used_at(nodes: u32, terms: usize) -> Effort {
     used_beside(0, nodes, terms)
 }
 
-/// Where multipliers cost much and close nothing they are left, but for a part of what the search costs; what they may cost
-/// beside is the same again once the search has gone on.
+/// Where multipliers cost much and close nothing they are no longer used, except for a share of what the search itself costs:
+/// so they may be used again once the search has gone on.
 #[test]
 fn what_saves_nothing_is_left(rt: HostRuntime) {
     let mut effort = used_at(1_000, 10);
@@ -32,7 +32,8 @@ fn what_saves_nothing_is_left(rt: HostRuntime) {
     assert!(rt; effort.is_open());
 }
 
-/// Beside many terms they may cost more at first, and are left all the same, and for good but for a part of the work.
+/// Beside many terms multipliers may cost more at first. Where they close nothing they are given up all the same, and for good
+/// except for that share.
 #[test]
 fn a_great_credit_ends(rt: HostRuntime) {
     let mut effort = used_beside(100_000, 300, 100_000);
@@ -50,7 +51,7 @@ fn a_great_credit_ends(rt: HostRuntime) {
     assert!(rt; uses < 400);
 }
 
-/// A closing that is tried out costs the search what the subtree takes without it, and all closings after it count as much.
+/// A trial tells what the search takes for a subtree without a closing, and all closings after it count as saving that much.
 #[test]
 fn what_saves_more_than_it_costs_stays(rt: HostRuntime) {
     let mut effort = Effort::new(0);
@@ -73,7 +74,7 @@ fn what_saves_more_than_it_costs_stays(rt: HostRuntime) {
     assert!(rt; closed > 1_800);
 }
 
-/// A trial ends once it took twice what a closing costs on the average, or once the search is back above its node.
+/// A trial ends once it took twice what a closing costs on average, or once the search is back above its node.
 #[test]
 fn a_trial_ends(rt: HostRuntime) {
     let mut effort = used_at(15, 1_000);

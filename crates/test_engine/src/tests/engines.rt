@@ -15,7 +15,7 @@ const COSTS: Terms<'static> = &[(1, 3)];
 
 const ROWS: &[(Terms<'static>, Number)] = &[(&[(3, 1), (2, 2), (1, 3)], 4)];
 
-/// So many times as much, for which 64 bits are not enough.
+/// A factor so great that 64 bits do not hold what is multiplied by it.
 const TIMES: Number = 1 << 62;
 
 const WIDE_COSTS: Terms<'static> = &[(TIMES, 3)];

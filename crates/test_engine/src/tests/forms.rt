@@ -18,7 +18,7 @@ pub fn lit(rt: &impl Abort, number: i32) -> Lit {
     Lit::new(number.unsigned_abs(), number > 0).expect(rt, "a variable")
 }
 
-/// Whether nothing stands against what a step fixed.
+/// Whether a step ended without a conflict.
 pub fn is_fixed(step: Step) -> bool {
     matches!(step, Step::Fixed)
 }
@@ -60,7 +60,7 @@ fn instance(
     finished(rt, builder, vars)
 }
 
-/// The instance that the builder makes of so many variables.
+/// The instance of `vars` variables that the builder makes.
 pub fn finished(rt: &impl Abort, builder: InstanceBuilder, vars: u32) -> Instance {
     builder.finish(vars).ok().expect(rt, "an instance")
 }
@@ -89,7 +89,7 @@ pub fn normal(
     normalise(alloc, &instance).expect(rt, "memory")
 }
 
-/// Multipliers of the form that have room for so many changes.
+/// Multipliers of the form, with room for `room` changes.
 pub fn multipliers<C: Coefficient>(
     rt: &impl Abort,
     alloc: Global,
@@ -130,7 +130,7 @@ fn is_within(lits: &[Lit], vars: u32) -> bool
     true
 }
 
-/// Whether the literals of all cubes are.
+/// Whether the literals of all cubes are of the variables 1 to `vars`.
 pub fn are_within(cubes: &[Cube], vars: u32) -> bool
     ensures { result ≡ true → All (λ cube. All (λ l. l.var ≤ vars) cube) cubes.now }
 {

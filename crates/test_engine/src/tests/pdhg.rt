@@ -8,7 +8,8 @@ use pb_saddle::Pdhg;
 use std::alloc::Global;
 use std::process::Abort;
 
-/// Each two of three variables need one; each costs 2 units. The least costs of the relaxation are 3 units, at a half of each.
+/// Of each two of three variables one is needed, and each costs 2 units. The least cost of the relaxation is 3 units, at a half
+/// of each.
 fn triangle<C: Coefficient>(rt: &impl Abort, alloc: Global, unit: Number) -> Form<C> {
     let cost = unit.saturating_mul(2);
     let objective: Terms<'_> = &[(cost, 1), (cost, 2), (cost, 3)];
@@ -20,7 +21,7 @@ fn triangle<C: Coefficient>(rt: &impl Abort, alloc: Global, unit: Number) -> For
     form(rt, alloc, 3, objective, rows)
 }
 
-/// Looks whether the bound comes to 3 units within a part of one.
+/// Checks that the bound rises to 3 units, less a sixteenth of a unit at most.
 fn rises<C: Coefficient>(rt: &impl Abort, alloc: Global, unit: Number) {
     let form: Form<C> = triangle(rt, alloc, unit);
     let mut multipliers = multipliers(rt, alloc, &form, 8);
@@ -39,7 +40,7 @@ fn the_bound_comes_to_that_of_the_relaxation(rt: HostRuntime) {
     rises::<Magnitude>(&rt, rt.alloc(), 1 << 90);
 }
 
-/// Where one variable is true the two others have one row left, which costs 2 more.
+/// Where one variable is true only one row of the two others is left, which costs 2 more.
 #[test]
 fn met_rows_are_left_out(rt: HostRuntime) {
     let alloc = rt.alloc();
@@ -57,7 +58,7 @@ fn met_rows_are_left_out(rt: HostRuntime) {
     assert!(rt; pdhg.planned(2).is_none());
 }
 
-/// A point that is whole tells each value, and those that cost most to leave come first.
+/// A point of whole values plans each of them, and first those that would cost most to leave.
 #[test]
 fn a_point_is_planned_by_what_it_leaves_open(rt: HostRuntime) {
     let alloc = rt.alloc();
@@ -76,7 +77,7 @@ fn a_point_is_planned_by_what_it_leaves_open(rt: HostRuntime) {
     }
 }
 
-/// Whether multipliers refute that of three variables so many are true, and so many false.
+/// Whether multipliers refute that of three variables at least `some` are true, and at least `others` are false.
 fn is_refuted(rt: &impl Abort, alloc: Global, some: Number, others: Number) -> bool {
     let rows: &[(Terms<'_>, Number)] = &[
         (&[(1, 1), (1, 2), (1, 3)], some),

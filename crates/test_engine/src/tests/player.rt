@@ -1,4 +1,4 @@
-//! An engine and a propagator that are called alike.
+//! An engine and a propagator that get the same calls.
 
 use super::forms::{are_within, is_fixed, is_lit, lit};
 use pb_count::Coefficient;
@@ -17,7 +17,7 @@ pub struct Player<C: Coefficient = u64> {
     propagator: Propagator<C>,
 }
 
-// By hand, so that a test that lets go of a player sees one call.
+// Written by hand, so that a test that drops a player sees one call.
 impl<C: Coefficient> Drop for Player<C> {
     fn drop(self) {
         let Player {
@@ -62,7 +62,7 @@ impl<C: Coefficient> Player<C> {
         step
     }
 
-    /// Takes back every assumption above the level.
+    /// Undoes every assumption above the level.
     pub fn undo_to(&mut self, rt: &impl Abort, level: u32) {
         assert!(rt; level <= self.engine.level());
         assert!(rt; level <= self.propagator.level());
@@ -153,7 +153,7 @@ impl<C: Coefficient> Player<C> {
         self.engine.bound()
     }
 
-    /// Whether there are multipliers and they have saved what they cost.
+    /// Whether there are multipliers, and they have saved as much as they cost.
     pub fn multipliers_pay(&self) -> bool {
         self.engine.multipliers_pay()
     }

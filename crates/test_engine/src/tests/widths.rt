@@ -32,7 +32,7 @@ fn step<C: Coefficient>(rt: &impl Abort, player: &mut Player<C>, number: i32) {
     }
 }
 
-/// What an engine says as it assumes all variables one after another with one sign, and takes them all back.
+/// What an engine says as it assumes all variables one after another with one sign, and undoes them all.
 fn course<C: Coefficient>(
     rt: &impl Abort,
     alloc: Global,
@@ -105,7 +105,7 @@ fn first_bound(rt: &impl Abort, alloc: Global, costs: Terms<'_>) -> (Number, boo
     (player.bound(), player.multipliers_pay())
 }
 
-/// Costs beyond 64 bits are counted, with multipliers where a scale of 1 at least fits beside them, and without elsewhere.
+/// Costs beyond 64 bits are counted: with multipliers where at least a scale of 1 fits, and else without.
 #[test]
 fn bounds_by_costs_beyond_64_bits(rt: HostRuntime) {
     let found = first_bound(&rt, rt.alloc(), &[(1 << 100, 1), (1 << 101, 2)]);

@@ -1,4 +1,4 @@
-//! Instances of costs and of pairs of literals, of which one has to be true.
+//! Instances of costs, and of pairs of literals of which one has to be true.
 
 use pb_inst::{Instance, InstanceBuilder, Lit, Number, Term};
 use std::alloc::Global;
@@ -52,12 +52,12 @@ pub fn instance(rt: &impl Abort, alloc: Global, cover: Cover<'_>) -> Instance {
     finished(rt, builder, cover.vars)
 }
 
-/// A ring of so many variables. The cost of each is 1 more than its place times the factor leaves over by 11.
+/// A ring of `size` variables. The cost of each is its place times the factor, modulo 11, plus 1.
 #[derive(Clone, Copy)]
 pub struct Ring<'a> {
     pub size: i32,
     pub factor: i32,
-    /// Numbers of steps by which two variables are a pair.
+    /// Two variables are a pair where one of these numbers of steps leads from one to the other.
     pub steps: &'a [i32],
     /// Pairs that begin at this place or behind it are there twice.
     pub doubled: i32,

@@ -21,8 +21,8 @@ pub struct Notes {
     pub last_offered: Number,
 }
 
-/// Hands over values in turn, beginning anew after the last ones. Without any it may pretend that it handed something over, and
-/// leave the bits as they are.
+/// Hands over values in turn, and begins again after the last ones. Where there are none, it may pretend that it handed
+/// something over, and leave the bits as they are.
 #[derive(Clone, Copy)]
 pub struct Lender<'a> {
     lent: &'a [Values],

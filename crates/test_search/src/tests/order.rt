@@ -10,22 +10,22 @@ use std::process::Abort;
 /// What is done with an order, or what it is to tell.
 #[derive(Clone, Copy)]
 enum Step<'a> {
-    /// All but so many variables come in this order, and are passed over.
+    /// These variables come in this order and are passed over; then this number of variables are left.
     Passes(u32, &'a [u32]),
     /// This literal comes first.
     First(i32),
     /// Nothing comes first, and nothing is left once that is passed over.
     Empty,
     Bump(i32),
-    /// What was passed over is put back, until so many are left.
+    /// What was passed over is put back, until this number of variables are left.
     Return(u32),
-    /// Decisions for these literals raised the bound so much, in turn, so many times.
+    /// Decisions for these literals in turn raised the bound by these gains, this number of times.
     Learn(&'a [(i32, Gain)], u32),
     LeadByGains,
 }
 
-/// The weights that variables add to the one row, their costs, and the steps. Before any conflict variables that cost the same come
-/// by their weights.
+/// The weights that variables add to the one row, their costs, and the steps. Before any conflict, variables that cost the same
+/// are ordered by their weights.
 type Case<'a> = (&'a [(Number, i32)], &'a [(Number, i32)], &'a [Step<'a>]);
 
 /// The greatest activity comes first.
@@ -77,7 +77,7 @@ const NOT_THERE: Case<'_> = (
     &[Step::Bump(3), Step::Passes(0, &[2, 1])],
 );
 
-/// What two variables gained counts beside their activities where it is to, in both directions.
+/// What two variables gained counts beside their activities once gains lead, in both directions.
 const GAINS: Case<'_> = (
     &[(3, 1), (5, 2), (4, 3), (4, 4)],
     &[(1, 1), (1, 2), (1, 3), (1, 4)],
@@ -110,7 +110,7 @@ fn order_of(
     Order::new(alloc, &form, &[]).expect(rt, "memory")
 }
 
-/// Passes over these variables and says whether they came first, in this order, and so many are left then.
+/// Passes over these variables. Answers whether they came first, in this order, and `left` variables are left then.
 fn passes(order: &mut Order, left: u32, vars: &[u32]) -> bool {
     let mut is_right = true;
     for var in vars {
@@ -123,7 +123,7 @@ fn passes(order: &mut Order, left: u32, vars: &[u32]) -> bool {
     is_right && order.left() == left
 }
 
-/// Decisions for these literals raised the bound so much, in turn, so many times.
+/// Decisions for these literals in turn raised the bound by these gains, `times` times.
 fn learn(rt: &impl Abort, order: &mut Order, gains: &[(i32, Gain)], times: u32) {
     for _ in 0..times {
         for (number, gain) in gains {

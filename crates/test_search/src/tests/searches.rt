@@ -17,7 +17,7 @@ pub type Run = (Option<u64>, bool, u64);
 /// A run without a budget, which counts nothing.
 pub const WHOLE: Run = (None, false, 0);
 
-/// Searches with each budget, one after the other, and says whether each run ends as it is to.
+/// Searches with each budget, one after the other. Answers whether each run ends as it must.
 fn run_each(
     search: &mut Search<'_>,
     runs: &[Run],
@@ -35,7 +35,7 @@ fn run_each(
     is_right
 }
 
-/// The same with a search of the whole instance.
+/// Makes a search of the whole instance, and runs it as `run_each` does.
 pub fn search_each(
     rt: &impl Abort,
     alloc: Global,

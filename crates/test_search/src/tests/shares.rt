@@ -27,8 +27,8 @@ const FIRST_OR_LAST: Cover<'_> = Cover {
 /// What is held at first, if anything is, what is handed over in turn, and whether the share pretends where that is nothing.
 type Lending<'a> = (Option<Values>, &'a [Values], bool);
 
-/// Infeasible bits are dropped, and a costly assignment is improved. What is held is replaced by what costs as much and comes first,
-/// whether the share has nothing to hand over or pretends that it handed something over.
+/// Infeasible bits are dropped, and a costly assignment is improved. What is held is replaced by what costs the same and comes
+/// first, whether the share has nothing to hand over or pretends that it handed something over.
 const TO_TIED: &[Lending<'_>] = &[
     (None, &[(0, 0)], false),
     (None, &[(0b111, 0)], false),
@@ -76,7 +76,8 @@ fn whatever_is_handed_over_the_least_is_found(rt: HostRuntime) {
     assert!(rt; ends_with(&rt, alloc, FIRST_OR_LAST, TO_FIRST_OR_LAST, (1, 0, 1)));
 }
 
-/// What the share was asked and told by so many searches of the tied instance, each with what the one before it left.
+/// What the share was asked and told by `count` searches of the tied instance, each of which begins with what the one before it
+/// left.
 fn told_by_searches(rt: &impl Abort, alloc: Global, count: u32) -> Notes {
     let tied = instance(rt, alloc, TIED);
     let mut share = Lender::new(&[], false);
@@ -100,8 +101,8 @@ fn the_share_is_asked_and_told(rt: HostRuntime) {
     assert!(rt; twice.offered == once.offered);
 }
 
-/// What is found where these values are handed over in turn. The search asks for more than five of them, and for so many at
-/// most.
+/// What is found where these values are handed over in turn. The search asks for more than five of them, and at most `most`
+/// times.
 fn found_on_the_way(
     rt: &impl Abort,
     alloc: Global,

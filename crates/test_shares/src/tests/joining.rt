@@ -1,4 +1,5 @@
-//! Reports of more variables than the instance has. No program joins them, since each reads reports as of the instance's variables.
+//! Reports of more variables than the instance has. No program joins such reports, since each reads them as reports of the
+//! instance's variables.
 ghost use Rattle.pb_parts.specs.Parts.{IsFit};
 
 use pb_inst::Instance;
@@ -30,7 +31,7 @@ fn pair(rt: &impl Abort, alloc: Global) -> Instance {
     instance
 }
 
-/// The claim of a text, as a parameter: what is proved of a text that is known takes five times as long.
+/// The claim of a text, which is a parameter because proofs of a known text take five times as long.
 fn claim_of(rt: &impl Abort, alloc: Global, text: &[u8]) -> Claim {
     read_report(alloc, Format::Opb, 3, text).expect(rt, "a report")
 }

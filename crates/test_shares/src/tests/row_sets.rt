@@ -23,7 +23,7 @@ fn set_of(rt: &impl Abort, alloc: Global, rows: usize, members: &[usize]) -> Row
     set
 }
 
-/// Makes the row a member of the set of so many rows, or takes it out, if there is such a row.
+/// Makes the row a member of the set of `rows` rows, or takes it out, if there is such a row.
 fn put(set: &mut RowSet, rows: usize, row: usize, member: bool)
     requires { length set.old ≡ rows }
     ensures { length set.new ≡ rows }
@@ -33,7 +33,7 @@ fn put(set: &mut RowSet, rows: usize, row: usize, member: bool)
     }
 }
 
-/// The first member from a row on. It has no contract, whose clauses would make the proofs of the tests long.
+/// The first member from a row on. It has no contract, since its clauses would make the proofs of the tests long.
 fn next(set: &RowSet, from: usize) -> Option<usize> {
     set.next(from)
 }
@@ -51,11 +51,11 @@ fn goes_from_member_to_member(rt: HostRuntime) {
     assert!(rt; next(&set, 5_001) == Some(270_001));
 }
 
-/// So many rows that a look at each word of them takes a thousand times as long as one at the groups of groups.
+/// A number of rows at which looking at each word takes a thousand times as long as looking at the groups of groups.
 const MANY_ROWS: usize = 1 << 26;
 
-// No contract bounds time: a gap is passed by its groups, and so two hundred thousand times in a moment. Word by word that
-// would take more than the minute that a test is given.
+// No contract bounds time. A gap is passed by its groups, so two hundred thousand gaps are passed in a moment. Word by word
+// that would take more than the minute that a test is given.
 #[test]
 fn a_gap_is_passed_by_its_groups(rt: HostRuntime) {
     let set = set_of(&rt, rt.alloc(), MANY_ROWS, &[3, MANY_ROWS - 1]);

@@ -5,8 +5,8 @@ use pb_inst::{InstFault, Lit, Number, Relation};
 use pb_session::{Session, SessionFault};
 use pb_solve::Status;
 
-// The test holds its session with no way out before its end, and calls it through helpers without a contract: it looks at answers
-// alone, and the clauses of the calls would make its proof ten times as long.
+// The test holds its session with no way out before its end, and calls it through helpers without a contract: it looks at
+// answers alone, and the clauses of the calls would make its proof ten times as long.
 
 /// Tells a sum of positive variables with these coefficients.
 fn tell(session: &mut Session, sum: &[(Number, u32)]) -> Result<(), SessionFault> {

@@ -16,7 +16,7 @@ type Words = [u64; 2];
 /// Whether something was borrowed, and the assignment after it, which was 0 before.
 type Borrowed = (bool, Words);
 
-/// What one of so many workers offers, in turn, and what another one may then borrow below two costs.
+/// What one of `workers` workers offers, in turn, and what another one may then borrow below two costs.
 #[derive(Clone, Copy)]
 struct Exchange {
     workers: u32,

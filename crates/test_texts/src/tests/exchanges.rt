@@ -141,7 +141,7 @@ enum Move {
     Borrow(Number, Option<u64>),
     /// All calls before the next look. They lend nothing.
     Pause(Number),
-    /// A call with an assignment of one variable more, of these bits, lends nothing. Then it is offered.
+    /// A call with an assignment of one more variable, of these bits, lends nothing. Then that assignment is offered.
     Longer(u64),
     /// A piece begins.
     Begin,
@@ -218,7 +218,7 @@ fn goes(
     true
 }
 
-/// The place of the first move that went otherwise than it says, in an exchange of so many tasks.
+/// The place of the first move that went otherwise than it says, in an exchange of `tasks` tasks.
 fn first_otherwise(rt: &impl Abort, alloc: Global, tasks: u32, moves: &[Move]) -> Option<usize> {
     let shelf = Shelf::new(alloc);
     let mut exchange = Exchange::new(alloc, &shelf, DIGEST, VARS, TASK, tasks, 0).expect(

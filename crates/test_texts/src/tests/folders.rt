@@ -47,7 +47,7 @@ enum Step {
     Ask(u32, Call),
     /// This is put there under a name, or is to be there.
     Name(&'static str, Thing),
-    /// There are so many files.
+    /// There are this number of files.
     Files(usize),
 }
 
@@ -142,7 +142,7 @@ const SCENES: &[(&str, &[Step])] = &[
             Step::Files(2),
         ],
     ),
-    // What lies in the place of a draft is not opened: nothing is written through a link.
+    // A file that lies in the place of a draft is not opened: nothing is written through a link.
     (
         "drafts are made anew",
         &[

@@ -12,7 +12,7 @@ pub const DIGEST: [u8; 32] = [0x9f; 32];
 const FIRST_LINE: &[u8] =
     b"pbcube note of instance 9f9f9f9f9f9f9f9f9f9f9f9f9f9f9f9f9f9f9f9f9f9f9f9f9f9f9f9f9f9f9f9f\n";
 
-/// The assignment of so many variables whose values are the bits of the number, from the lowest on.
+/// The assignment of `vars` variables whose values are the bits of the number, from the lowest on.
 pub fn assignment(rt: &impl Abort, alloc: Global, vars: u32, bits: u64) -> Assignment {
     let mut values = Assignment::new(alloc, vars).expect(rt, "memory");
     for place in 0..vars.min(64) {
@@ -50,7 +50,7 @@ pub fn below_first_line(rt: &impl Abort, alloc: Global, rest: &[u8]) -> Vec<u8> 
     text
 }
 
-/// The cost of a note of so many variables, and its values as bits; none of another text.
+/// The cost of a note of `vars` variables, and its values as bits; none of another text.
 fn told(rt: &impl Abort, alloc: Global, vars: u32, text: &[u8]) -> Option<(Number, u64)> {
     let note = read_note(&DIGEST, vars, text)?;
     let mut values = Assignment::new(alloc, vars).expect(rt, "memory");

@@ -88,7 +88,7 @@ const CASES: &[Case] = &[
 const WORKED: &str =
     "c part 2 of 16 of instance 9f86d081884c7d659a2feaa0c55ad015a3bf4f1b2b0b822cd15d6c15b0f00a08\nc pieces 65 split 6 cubes none\nc done 2 18 34\nc cut 50\no -12\ns SATISFIABLE\nv x1 -x2 x3\n";
 
-/// What is put in place of which words of the worked report, and the fault that it has then.
+/// What replaces which words of the worked report, and the fault of the report with it.
 const SPOILED: &[(&str, &str, PartKind, u64)] = &[
     (WORKED, "", PartKind::Heading, 1),
     (WORKED, "\n", PartKind::Heading, 1),
