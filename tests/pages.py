@@ -4,8 +4,8 @@
     tests/pages.py [--write]
 
 docs/COMMANDS.md shows the commands of tests/lib/shown_commands.py, which tests/runs/examples.py runs; it must be what --write writes
-there. Each link of a page leads to a file, and where it names a heading that page has it. Each page of docs/ that a file which git
-keeps names is there, and README.md links to each.
+there. Each link of a page leads to a file, and where it names a heading that page has it. A file of a crate that docs/ names, as
+`pb_read/opb`, is there, and so is each page of docs/ that a file which git keeps names. README.md links to each page.
 """
 import re
 import sys
@@ -60,6 +60,14 @@ def broken_links(page):
             yield f"{name}: {target.relative_to(TOP)} has no heading {heading}"
 
 
+def unknown_code(page):
+    """Files and folders of crates that the page names, as `crate/file` for crates/crate/src/file.rt, and that are not there."""
+    for crate, file in re.findall(r"`(pb_\w+|pbcube\w*)/([a-z][a-z_/]*)`", page.read_text()):
+        places = (f"src/{file}.rt", file)
+        if not any((TOP / "crates" / crate / it).exists() for it in places):
+            yield f"{page.relative_to(TOP)}: there is no {crate}/{file}"
+
+
 def unknown_pages(files):
     """Files that name a page of docs/ that is not there."""
     for path in files:
@@ -84,7 +92,8 @@ def main(words):
     files = kept()
     pages = [it for it in files if it.suffix == ".md"]
     stale = [] if COMMANDS.exists() and COMMANDS.read_text() == commands_page() else ["docs/COMMANDS.md is not as it is written by --write"]
-    faults = [*stale, *(fault for page in pages for fault in broken_links(page)), *unknown_pages(files), *unlinked_pages()]
+    of_pages = [fault for page in pages for fault in (*broken_links(page), *unknown_code(page))]
+    faults = [*stale, *of_pages, *unknown_pages(files), *unlinked_pages()]
     print(*[f"pages: {it}" for it in faults], f"pages: {len(pages)} pages, {len(SHOWN)} commands, {len(faults)} faults", sep="\n")
     return 1 if faults else 0
 
