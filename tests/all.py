@@ -61,6 +61,8 @@ STEPS = [
     Step("plants", "tests/plants.py --check"),
     Step("wrong", "tests/wrong.py --check"),
     Step("promises", "tests/promises.py"),
+    Step("references", "tests/references.py"),
+    Step("pages", "tests/pages.py"),
     Step("threads", "tests/runs/threads.py", is_alone=True),
 ]
 

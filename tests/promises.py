@@ -4,9 +4,9 @@
     tests/promises.py [--write]
 
 In docs/PROMISES.md the last cell of a table that has the head Contract names functions, and after a colon their clauses; the heading
-above it names their crates. Each function must be there and have each clause. What that page and
-docs/PLANTING.md name without quotes, as tie_prefers_one, must be a clause, a test, a must-fail edit or a plant. docs/EDITS.md lists all
-edits, tests and plants; it must be what --write writes there.
+above it names their crates. Each function must be there and have each clause. What that page and docs/DEVELOPMENT.md name without
+quotes, as tie_prefers_one, must be a clause, a test, a must-fail edit or a plant. tests/EDITS.md lists all edits, tests and plants;
+it must be what --write writes there.
 """
 import re
 import sys
@@ -17,10 +17,10 @@ from lib import TOP, edits
 from lib.code import CRATES, code_of, crates
 
 PLANTS = TOP / "tests/plants"
-EDITS, PROMISES, PLANTING = (TOP / f"docs/{name}.md" for name in ("EDITS", "PROMISES", "PLANTING"))
+EDITS, PROMISES, DEVELOPMENT = (TOP / f"{name}.md" for name in ("tests/EDITS", "docs/PROMISES", "docs/DEVELOPMENT"))
 HEAD = """# Edits, tests and plants
 
-`tests/promises.py --write` writes this page. [PROMISES.md](PROMISES.md) has the promises, [PLANTING.md](PLANTING.md) tells of plants.
+`tests/promises.py --write` writes this page. [PROMISES.md](../docs/PROMISES.md) has the promises, [DEVELOPMENT.md](../docs/DEVELOPMENT.md#planting-bugs) tells of plants.
 
 ## Must-fail edits
 
@@ -59,7 +59,7 @@ def plants():
 
 
 def listed():
-    """What docs/EDITS.md has to be."""
+    """What tests/EDITS.md has to be."""
     gate, apart = (in_lists((it.crate, f"{it.name} (`{it.function}`)") for it in some) for some in (edits.of_the_gate(), edits.apart()))
     tests = in_lists((crate, name) for crate in crates() for names in code_of(crate).tests.values() for name in names)
     bugs = in_lists((path.parent.name, path.stem) for path, _, _ in plants())
@@ -117,7 +117,7 @@ def unknown_names():
     for crate in crates():
         code = code_of(crate)
         known.update(*code.tests.values(), *code.clauses.values())
-    for page in (PROMISES, PLANTING):
+    for page in (PROMISES, DEVELOPMENT):
         text = page.read_text()
         files = [it for it in re.findall(r"`((?:tests|bindings)/[a-z_./]+)`", text) if not (TOP / it).exists()]
         names = re.findall(r"\b[a-z]\w*_\w+", re.sub(r"`[^`]*`|\(\S+\)|(?m:^ {4}.*$)", "", text))
@@ -128,7 +128,7 @@ def unknown_names():
 def main(words):
     if words == ["--write"]:
         EDITS.write_text(listed())
-    stale = [] if EDITS.exists() and EDITS.read_text() == listed() else ["docs/EDITS.md is not as it is written by --write"]
+    stale = [] if EDITS.exists() and EDITS.read_text() == listed() else ["tests/EDITS.md is not as it is written by --write"]
     faults = [*stale, *broken_contracts(), *unknown_names()]
     print(*[f"promises: {it}" for it in faults], f"promises: {len(list(contracts()))} held to the code, {len(faults)} faults", sep="\n")
     return 1 if faults else 0

@@ -74,6 +74,12 @@ def version():
     return (TOP / "VERSION").read_text().strip()
 
 
+def kept():
+    """The files that git keeps and that are there."""
+    listed = ran(["git", "ls-files", "-z"], cwd=TOP).out
+    return [path for name in listed.split("\0") if name and (path := TOP / name).is_file()]
+
+
 def reason(number):
     """How a program tells why the system refused a call, by the number of the error."""
     return f"{os.strerror(number)} (os error {number})"

@@ -1,8 +1,8 @@
 #!/usr/bin/env python3
-"""Runs the built program on the examples, on the commands that README.md and docs/COMMANDS.md show, on words that are no text and on
-those that ask for its version, and pbcube_task on its commands there, and prints what differs, which manifest or page has another
-version than the file VERSION, which manual page other options than the help of its program, and which commands for a fresh clone
-README.md does not name.
+"""Runs the built program on the examples, on the commands that README.md and docs/COMMANDS.md show (shown_commands.py), on words that
+are no text and on those that ask for its version, and pbcube_task on its commands there, and prints what differs, which manifest or
+page has another version than the file VERSION, which manual page other options than the help of its program, and which commands for a
+fresh clone README.md does not name.
 
     tests/runs/examples.py [PROGRAM ..]
 
@@ -20,6 +20,7 @@ sys.dont_write_bytecode = True
 sys.path.insert(0, str(Path(__file__).resolve().parents[1]))
 from lib import PROGRAMS, STATUSES, TOP, built, name_of, program, ran, side_by_side, version
 from lib.examples import divisions_of, examples, with_workers
+from lib.shown_commands import SHOWN
 
 SPLITS = (0, 1, 6)  # of six variables: more pieces than workers
 FRESH = ["./pbcube examples/tie.opb", "./test quick", "./test"]  # a newcomer's first commands: the program, and its tests
@@ -38,20 +39,20 @@ def example_rows():
             yield words, out, "", status
 
 
-def lines_of(found):
-    """The lines of the file that is named, as a row of a table has them."""
-    return " / ".join(f"`{line}`" for line in (TOP / found[1]).read_text().splitlines())
+def shown_rows(name):
+    """The same for each command of the program of this name that docs/COMMANDS.md shows."""
+    for it in SHOWN:
+        if it.name == name:
+            yield it.words, it.out, it.complaint, it.status
 
 
-def command_rows(name, pages):
-    """The same for each row `command`, what it prints, status of the tables of these pages, of the program of this name. What a
-    file has may stand for lines that it prints."""
-    tables = [re.findall(rf"^\| `{name} (.+?)` \| (.+) \| (\d+) \|$", (TOP / page).read_text(), re.M) for page in pages]
-    if not all(tables):
-        sys.exit(f"examples: one of {', '.join(pages)} has no table of commands of {name}")
-    rows = dict.fromkeys(row for table in tables for row in table)
-    for words, printed, status in rows:
-        written, _, said = re.sub(r"what `(.+?)` has", lines_of, printed).partition("on standard error")
+def readme_rows():
+    """The same for each row `pbcube ..`, what it prints, status of the table of commands in README.md."""
+    table = re.findall(r"^\| `pbcube (.+?)` \| (.+) \| (\d+) \|$", (TOP / "README.md").read_text(), re.M)
+    if not table:
+        sys.exit("examples: README.md has no table of commands")
+    for words, printed, status in table:
+        written, _, said = printed.partition("on standard error")
         lines, complaints = (re.findall(r"`([^`]+)`", it) for it in (written, said))
         yield words.split(), "".join(f"{line}\n" for line in lines), complaints[0] if said else "", int(status)
 
@@ -125,10 +126,10 @@ def differences(program, words, out, complaint, status, text=b""):
 
 def main(words):
     programs = [Path(it).resolve() for it in words]
-    commands = command_rows("pbcube", ("README.md", "docs/COMMANDS.md"))
+    commands = [*readme_rows(), *shown_rows("pbcube")]
     rows = [*example_rows(), *commands, *word_rows(), *version_rows(), *piped_rows()]
     stale = [*other_versions(), *other_first_commands(), *other_options(programs or map(program, PROGRAMS))]
-    of_task = [] if programs else itertools.product(built(["pbcube_task"]), command_rows("pbcube_task", ["docs/COMMANDS.md"]))
+    of_task = [] if programs else itertools.product(built(["pbcube_task"]), shown_rows("pbcube_task"))
     runs = [*itertools.product(programs or built(), rows), *of_task]
     found = side_by_side(lambda run: differences(run[0], *run[1]), runs)
     for (path, row), lines in zip(runs, found):
