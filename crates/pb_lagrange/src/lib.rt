@@ -4,7 +4,7 @@
 //! hands on what `Multipliers` tells: that a raised bound is still a lower bound (`Relaxation::raise`), that a fixed literal is
 //! forced (`Relaxation::fixed_literal`), and that nothing completes a trail of which `Relaxation::improve_multipliers` says so.
 //! Nothing else in the crate carries a promise, so another recipe changes no proof above.
-//! Source: [G74]
+//! Source: [G74], [HK71]
 #![tactic(auto)]
 
 mod effort;
