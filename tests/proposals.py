@@ -45,6 +45,7 @@ CONSTANTS = {  # what they are in the copy
     ("pb_dual/src/multipliers.rt", "FIXING_WINDOW"): 2,
     ("pb_control/src/root_work.rt", "LEAST_VARIABLES"): 0,
     ("pb_control/src/root_work.rt", "LEAST_DECISIONS"): 0,
+    ("pb_control/src/root_work.rt", "EARLY_OF_A_PIECE"): 1,
     ("pb_control/src/probing.rt", "LEAST_CREDIT"): 0,
     ("pb_control/src/probing.rt", "LEAST_CREDIT_OF_A_DECISION"): 0,
 }

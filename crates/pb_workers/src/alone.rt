@@ -4,6 +4,7 @@ ghost use Rattle.pb_workers.specs.Parts.{AreSearched, IsAnswerOf, KeepsBudget, P
 ghost use Rattle.pb_cubes.specs.Solving.{HoldsLeast};
 
 use crate::facts::facts_of;
+use crate::piece::search_piece;
 use crate::solving::{Answer, SolveFault};
 use pb_cubes::Pieces;
 use pb_inst::{Best, Instance};
@@ -44,8 +45,7 @@ fn search_all(search: &mut Search<'_>, count: u32, best: &mut Best<'_>, nodes: O
 {
     let mut cut = false;
     for piece in 0..count {
-        search.begin(best, &mut Alone, nodes);
-        let outcome = search.run(piece, best, &mut Alone, nodes);
+        let outcome = search_piece(search, piece, best, &mut Alone, nodes);
         // The proof learns by this call that what is held is a solution, so a piece that is done stays done.
         facts_of(best);
         cut |= outcome == Outcome::Cut;

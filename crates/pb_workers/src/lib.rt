@@ -11,6 +11,7 @@ mod named;
 mod names;
 mod note_share;
 mod part;
+mod piece;
 mod sharing;
 mod solving;
 mod task;

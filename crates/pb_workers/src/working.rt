@@ -14,6 +14,7 @@ use crate::gate::Gate;
 use crate::named::Named;
 use crate::note_share::{Correspondence, NoNotes, NoteShare, OuterShare};
 use crate::part::Part;
+use crate::piece::search_piece;
 use crate::sharing::BoardShare;
 use crate::task::{Task, has_piece};
 use crate::worker_set::WorkerSet;
@@ -144,7 +145,6 @@ impl<'a, 'i, N: Notes, G: Gate> SearchWorkers<'a, 'i, N, G> {
     {
         let mut named = Named::new(alloc);
         for _turn in 0..u64::from(count) + 1 {
-            search.begin(best, share, self.nodes);
             let Some(piece) = claim_piece(share, count) else {
                 return Ok(named);
             };
@@ -154,7 +154,7 @@ impl<'a, 'i, N: Notes, G: Gate> SearchWorkers<'a, 'i, N, G> {
             // Memory is asked for before the piece is searched, so that a refusal loses no finished work.
             named.reserve(self.nodes)?;
             self.gate.pass(share.worker(), piece);
-            let outcome = search.run(piece, best, share, self.nodes);
+            let outcome = search_piece(search, piece, best, share, self.nodes);
             // The proof learns by this call that what is held is a solution, so a piece that is done stays done.
             facts_of(best);
             named.push_reserved(piece, outcome, decisions_of(search, self.nodes));

@@ -20,14 +20,14 @@ loop-piece-init c = record {
 
 pub loop-piece-preserved : goal.loop-piece-preserved
 loop-piece-preserved c =
-    let ran = c.run-outcome in let kept = c.loop-piece.invariant in
+    let ran = c.search_piece-outcome in let kept = c.loop-piece.invariant in
     let d : Division = c.args.search.now.division in
     let same : c.loop-piece.search.division ≡ d = kept.same_search in
     let is_cut : IsTrue c.eq-cut.result ↔ (ran.result ≡ Cut) = search rules in
     record {
       same_instance = ran.ensures.same_instance ∙ kept.same_instance;
       same_search = ran.ensures.unchanged ∙ same;
-      searched = one_more_searched d c.loop-piece.piece c.args.nodes ran.result ran.new.self.decisions c.loop-piece.cut c.eq-cut.result c.loop-piece.best.held ran.new.best is_cut
+      searched = one_more_searched d c.loop-piece.piece c.args.nodes ran.result ran.new.search.decisions c.loop-piece.cut c.eq-cut.result c.loop-piece.best.held ran.new.best is_cut
           (subst (λ (e : Division). IsNotAfter e.problem c.loop-piece.best.held ran.new.best.held) same ran.ensures.not_after)
           (ran.ensures.same_instance ∙ kept.same_instance ∙ c.requires.same_instance) c.facts_of.ensures
           (λ whole. subst (λ (e : Division). IsDone e c.loop-piece.piece ran.new.best.held) same (ran.ensures.done whole))

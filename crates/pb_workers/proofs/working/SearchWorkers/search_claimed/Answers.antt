@@ -24,25 +24,25 @@ loop-turn-init g c = record {
 pub claim_piece-requires : goal.claim_piece-requires
 claim_piece-requires g c = omega arith
 
-pub run-outcome-requires-clause-piece : goal.run-outcome-requires-clause-piece
-run-outcome-requires-clause-piece g c =
+pub search_piece-outcome-requires-clause-piece : goal.search_piece-outcome-requires-clause-piece
+search_piece-outcome-requires-clause-piece g c =
     let below = c.in-Some.ensures.piece.0 in
     let number : length c.loop-turn.search.division.cubes ≡ length c.args.search.now.division.cubes = ap (λ (d : Division). length d.cubes) c.loop-turn.invariant.same_search in
     omega arith
 
-pub run-outcome-requires-clause-same_instance : goal.run-outcome-requires-clause-same_instance
-run-outcome-requires-clause-same_instance g c =
+pub search_piece-outcome-requires-clause-same_instance : goal.search_piece-outcome-requires-clause-same_instance
+search_piece-outcome-requires-clause-same_instance g c =
     c.loop-turn.invariant.same_instance ∙ c.requires.same_instance ∙ sym (ap (λ (d : Division). d.problem) c.loop-turn.invariant.same_search)
 
 pub push_reserved-requires-clause-counts : goal.push_reserved-requires-clause-counts
-push_reserved-requires-clause-counts g c = room_told _ c.args.self.now.nodes c.decisions_of.result c.run-outcome.new.self.decisions c.decisions_of.ensures c.in_ok-reserve.ensures.counts
+push_reserved-requires-clause-counts g c = room_told _ c.args.self.now.nodes c.decisions_of.result c.search_piece-outcome.new.search.decisions c.decisions_of.ensures c.in_ok-reserve.ensures.counts
 
 pub loop-turn-preserved : goal.loop-turn-preserved
 loop-turn-preserved g c =
-    let ran = c.run-outcome in
+    let ran = c.search_piece-outcome in
     let d : Division = c.args.search.now.division in
     let same_search : c.loop-turn.search.division ≡ d = c.loop-turn.invariant.same_search in
-    let search : ran.new.self.division ≡ d = ran.ensures.unchanged ∙ same_search in
+    let search : ran.new.search.division ≡ d = ran.ensures.unchanged ∙ same_search in
     let claim : ran.new.share.seat.claimed ≡ c.loop-turn.share.seat.claimed ++ c.in-Some.piece ∷ [] = ran.ensures.kept.claimed ∙ c.in-Some.ensures.piece.1 in
     let one = c.claim_piece.ensures.one in
     let same : length ran.new.share.seat.claimed ≡ length c.claim_piece.new.share.seat.claimed = ap length ran.ensures.kept.claimed in
@@ -61,7 +61,7 @@ loop-turn-preserved g c =
       named = dealt_more c.args.self.now.task c.args.count ran.result c.loop-turn.named.done.items c.loop-turn.named.cut.items c.push_reserved.new.self.done.items c.push_reserved.new.self.cut.items c.loop-turn.share.seat.claimed ran.new.share.seat.claimed c.in-Some.piece
           c.loop-turn.invariant.named names claim (own_piece c.args.self.now.task c.args.count c.in-Some.piece c.has_piece.result c.has_piece.ensures c.in-Some.ensures.piece.0 ∙ c.if-not-has_piece.false);
       uncut = uncut_more c.args.self.now.nodes ran.result c.in-Some.piece c.loop-turn.named.done.items c.loop-turn.named.cut.items c.push_reserved.new.self.done.items c.push_reserved.new.self.cut.items names (whole_by _ c.args.self.now.nodes ran.result ran.ensures.no_budget) c.loop-turn.invariant.uncut;
-      budget = counted_more c.args.self.now.nodes c.decisions_of.result ran.result c.in-Some.piece ran.new.self.decisions
+      budget = counted_more c.args.self.now.nodes c.decisions_of.result ran.result c.in-Some.piece ran.new.search.decisions
           c.loop-turn.named.done.items c.loop-turn.named.decisions.items c.loop-turn.named.cut.items c.loop-turn.named.cut_decisions.items
           c.push_reserved.new.self.done.items c.push_reserved.new.self.decisions.items c.push_reserved.new.self.cut.items c.push_reserved.new.self.cut_decisions.items
           c.decisions_of.ensures names counts ran.ensures.within ran.ensures.cut c.loop-turn.invariant.budget;
