@@ -89,9 +89,11 @@ impl<'a> Search<'a> {
         self.decisions
     }
 
-    /// Begins the search of the whole instance, where there is a cube, and keeps what it fixes for good: the pieces are then
-    /// searched below that. The best assignment is not after what it was. It asks the share and tells it as `run` does. With a
-    /// budget for each piece it does nothing, since a budget is for pieces alone. Takes no memory.
+    /// Begins the search of the whole instance, where there is a cube, and keeps what it fixes for good: the pieces are then searched
+    /// below that. Where it has begun before, it does nothing, unless the best cost has fallen since: then it adds what this cost fixes
+    /// at the root. So a call before each piece does what is due. With a budget for each piece it does nothing at all, since then
+    /// nothing is searched outside pieces. The best assignment is not after what it was. The share is asked and told as by `run`. Takes
+    /// no memory.
     pub fn begin<S: Share>(&mut self, best: &mut Best<'_>, share: &mut S, nodes: Option<u64>)
         requires { best.old.problem ≡ self.old.division.problem }
         ensures not_after { IsNotAfter self.old.division.problem best.old.held best.new.held }

@@ -61,8 +61,8 @@ impl<'a> WholeRoot<'a> {
         })
     }
 
-    /// Begins the search of the whole, and keeps what it fixed. Where it has begun, and the best cost has fallen since, it fixes at the
-    /// root what that cost fixes more.
+    /// Begins the search of the whole, and keeps what it fixed. Where it has begun before, it goes no further than the root, and adds what
+    /// the best cost fixes there.
     pub fn begin<C: Coefficient, S: Share>(
         &mut self,
         state: &mut SearchState<C>,
@@ -77,7 +77,7 @@ impl<'a> WholeRoot<'a> {
         ensures kept { S.keeps share.old share.new }
         ensures same_lending { S.lends share.new ≡ S.lends share.old }
     {
-        // A call tells that what is held is a solution.
+        // The proof learns by this call that what is held is a solution.
         let _ = best.cost();
         self.serve(best);
         let turns = if self.has_begun { 0 } else { FIRST_TURNS };
@@ -89,8 +89,13 @@ impl<'a> WholeRoot<'a> {
 
     /// Whether the search of the whole is to begin, or the best cost has fallen since it did.
     pub fn is_due(&self, best: &Best<'_>) -> bool {
-        let cost = best.cost();
-        !self.has_begun || (cost.is_some() && self.best.cost().is_none_or(|before| cost < Some(before)))
+        let Some(cost) = best.cost() else {
+            return !self.has_begun;
+        };
+        match self.best.cost() {
+            Some(before) if self.has_begun => cost < before,
+            _ => true,
+        }
     }
 
     /// Forgets what is fixed if the best assignment of that time comes before this one, since then it need not be.
