@@ -28,7 +28,7 @@ HEAD = """# Commands and what they print
 
 def printed(shown):
     """What the command prints, as a cell of the table tells it."""
-    lines = f"the contents of `{shown.file}`" if shown.file else " / ".join(f"`{line}`" for line in shown.lines)
+    lines = f"contents of `{shown.file}`" if shown.file else " / ".join(f"`{line}`" for line in shown.lines)
     complaint = f"on standard error: `{shown.complaint}`" if shown.complaint else ""
     return ", and ".join(filter(None, (lines, complaint)))
 

@@ -20,11 +20,11 @@ PLANTS = TOP / "tests/plants"
 EDITS, PROMISES, DEVELOPMENT = (TOP / f"{name}.md" for name in ("tests/EDITS", "docs/PROMISES", "docs/DEVELOPMENT"))
 HEAD = """# Edits, tests and plants
 
-`tests/promises.py --write` generates this page. [PROMISES.md](../docs/PROMISES.md) has the promises, and [DEVELOPMENT.md](../docs/DEVELOPMENT.md#planting-bugs) explains plants.
+`tests/promises.py --write` generates this page. [PROMISES.md](../docs/PROMISES.md) has the promises, [DEVELOPMENT.md](../docs/DEVELOPMENT.md#planting-bugs) explains plants.
 
 ## Must-fail edits
 
-An edit is a wrong body, for the function named after it, that the prover must refuse. Its first line names the clause that refuses it.
+An edit is a wrong body of the function named after it. The prover must refuse it by the clause in its first line.
 
 ### In the gate
 
@@ -46,7 +46,7 @@ The gate runs them all.
 BUGS = """
 ## Plants
 
-Each `tests/plants/LIST/PLANT.plant` is a bug that no contract refuses.
+No contract refuses the bug `tests/plants/LIST/PLANT.plant`.
 
 """
 
