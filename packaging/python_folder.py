@@ -1,4 +1,4 @@
-"""Prints the folder below a prefix, as a path from there on, in which this Python looks for packages, or else would by custom."""
+"""Prints the folder below a prefix, relative to it, in which this Python looks for packages, or else the customary one."""
 import os
 import site
 import sys

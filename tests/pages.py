@@ -1,11 +1,11 @@
 #!/usr/bin/env python3
-"""Holds the pages to each other and to what they are made of, and prints what differs.
+"""Checks the pages against each other and against what they are made from, and prints what differs.
 
     tests/pages.py [--write]
 
-docs/COMMANDS.md shows the commands of tests/lib/shown_commands.py, which tests/runs/examples.py runs; it must be what --write writes
-there. Each link of a page leads to a file, and where it names a heading that page has it. A file of a crate that docs/ names, as
-`pb_read/opb`, is there, and so is each page of docs/ that a file which git keeps names. README.md links to each page.
+docs/COMMANDS.md shows the commands of tests/lib/shown_commands.py, which tests/runs/examples.py runs; it must be what --write writes.
+Each link of a page leads to a file, and if it names a heading, that page has it. Each crate file that a page names, such as
+`pb_read/opb`, exists, and so does each page of docs/ that a file in git names. README.md links to each page.
 """
 import re
 import sys
@@ -19,7 +19,7 @@ COMMANDS, README = TOP / "docs/COMMANDS.md", TOP / "README.md"
 LINK = re.compile(r"\]\((?!\w+:)([^)#\s]*)(?:#([^)\s]+))?\)")
 HEAD = """# Commands and what they print
 
-`tests/pages.py --write` writes this page of `tests/lib/shown_commands.py`. The gate runs each row, and those of the [README](../README.md), on the built program (`tests/runs/examples.py`), and compares bytes and exit status. `/` stands between lines.
+`tests/pages.py --write` generates this page from `tests/lib/shown_commands.py`. The gate runs each row, and those of the [README](../README.md), on the built program (`tests/runs/examples.py`), and compares bytes and exit status. `/` separates lines.
 
 | Command | Prints | Status |
 |---|---|---|
@@ -28,7 +28,7 @@ HEAD = """# Commands and what they print
 
 def printed(shown):
     """What the command prints, as a cell of the table tells it."""
-    lines = f"what `{shown.file}` has" if shown.file else " / ".join(f"`{line}`" for line in shown.lines)
+    lines = f"contents of `{shown.file}`" if shown.file else " / ".join(f"`{line}`" for line in shown.lines)
     complaint = f"on standard error: `{shown.complaint}`" if shown.complaint else ""
     return ", and ".join(filter(None, (lines, complaint)))
 

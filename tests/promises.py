@@ -1,12 +1,12 @@
 #!/usr/bin/env python3
-"""Holds the pages of promises to the code, and prints what differs.
+"""Checks the pages of promises against the code, and prints what differs.
 
     tests/promises.py [--write]
 
-In docs/PROMISES.md the last cell of a table that has the head Contract names functions, and after a colon their clauses; the heading
-above it names their crates. Each function must be there and have each clause. What that page and docs/DEVELOPMENT.md name without
-quotes, as tie_prefers_one, must be a clause, a test, a must-fail edit or a plant. tests/EDITS.md lists all edits, tests and plants;
-it must be what --write writes there.
+In docs/PROMISES.md the cells below the head Contract name functions, and after a colon their clauses; the section's heading names
+their crates. Each function must exist and have each clause. Names without quotes on that page and in docs/DEVELOPMENT.md, such as
+tie_prefers_one, must be a clause, a test, a must-fail edit or a plant. tests/EDITS.md lists all edits, tests and plants; it must be
+what --write writes.
 """
 import re
 import sys
@@ -20,11 +20,11 @@ PLANTS = TOP / "tests/plants"
 EDITS, PROMISES, DEVELOPMENT = (TOP / f"{name}.md" for name in ("tests/EDITS", "docs/PROMISES", "docs/DEVELOPMENT"))
 HEAD = """# Edits, tests and plants
 
-`tests/promises.py --write` writes this page. [PROMISES.md](../docs/PROMISES.md) has the promises, [DEVELOPMENT.md](../docs/DEVELOPMENT.md#planting-bugs) tells of plants.
+`tests/promises.py --write` generates this page. [PROMISES.md](../docs/PROMISES.md) has the promises, [DEVELOPMENT.md](../docs/DEVELOPMENT.md#planting-bugs) explains plants.
 
 ## Must-fail edits
 
-An edit is a wrong body that the prover must refuse, in the function behind it. By which clause, its first line tells.
+An edit is a wrong body of the function named after it. The prover must refuse it by the clause in its first line.
 
 ### In the gate
 
@@ -34,19 +34,19 @@ An edit is a wrong body that the prover must refuse, in the function behind it. 
 APART = """
 ### After a change
 
-`tests/wrong.py CRATE` tries each `tests/wrong/CRATE/EDIT.edit`, once the crate's contracts were changed.
+After a change of a crate's contracts, `tests/wrong.py CRATE` tries each `tests/wrong/CRATE/EDIT.edit`.
 
 """
 TESTS = """
 ## Tests
 
-The gate runs each.
+The gate runs them all.
 
 """
 BUGS = """
 ## Plants
 
-`tests/plants/LIST/PLANT.plant`, which no contract refuses.
+No contract refuses the bug `tests/plants/LIST/PLANT.plant`.
 
 """
 

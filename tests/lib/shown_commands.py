@@ -1,4 +1,4 @@
-"""The commands that docs/COMMANDS.md shows, with what each prints. `tests/pages.py --write` makes that page of them."""
+"""The commands that docs/COMMANDS.md shows, with what each prints. `tests/pages.py --write` makes that page from them."""
 from dataclasses import dataclass
 
 from . import TOP
