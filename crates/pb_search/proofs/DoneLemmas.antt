@@ -131,3 +131,7 @@ pub closed_done : (d : Division) (i : ℕ) (root : List Literal) (closed : Bool)
 closed_done d i root closed best e sound fixed is =
     done_from d i best.held (subst (λ (x : Problem). IfSome best.held (λ t. IsSolution x t)) e sound)
     (λ a h better. fixed.none_better is a (record { for_all_variables = h.for_all_variables; feasible = h.feasible; improvement = better }))
+
+-- an assignment that meets the rows of an engine over the instance, and is before what is held, makes the fixed literals true
+pub fixed_under : (p : Problem) (s : EngineState) (literals : List Literal) (closed : Bool) (held : Option Solution) (a : List Bool) → IsEngineOf p s → IsFixedFor p literals closed held → SatisfiesUnder s [] a → IsImprovement p a held → MakesTrue a literals
+fixed_under p s literals closed held a engine fixed h better = fixed.fixed a (record { for_all_variables = h.solution.for_all_variables ∙ engine.vars; feasible = engine.feasible a h.solution.meets_rows; improvement = better })

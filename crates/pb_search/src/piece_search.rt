@@ -135,9 +135,11 @@ impl<'a, C: Coefficient> PieceSearch<'a, C> {
         let Some(state) = &mut self.cube else {
             return;
         };
-        if whole.is_due(best) {
-            whole.begin(state, best, share);
+        if !whole.is_due(best) {
+            return;
         }
+        whole.serve(best);
+        whole.begin(state, best, share);
     }
 
     /// Searches a piece: that of a cube, or the remainder as the last one; or stops where it would need one decision more than

@@ -61,8 +61,8 @@ impl<'a> WholeRoot<'a> {
         })
     }
 
-    /// Begins the search of the whole, and keeps what it fixed. Where it has begun before, it goes no further than the root, and adds what
-    /// the best cost fixes there.
+    /// Begins the search of the whole, and keeps what it fixed. Where it has begun before, it goes no further than the root, and adds
+    /// what the best cost fixes there. Asks for literals that serve the best assignment.
     pub fn begin<C: Coefficient, S: Share>(
         &mut self,
         state: &mut SearchState<C>,
@@ -71,15 +71,13 @@ impl<'a> WholeRoot<'a> {
     )
         requires state { IsCubeState best.old.problem state.old }
         requires same_instance { self.old.best.problem ≡ best.old.problem }
+        requires fixed { IsFixedFor best.old.problem self.old.literals self.old.closed best.old.held }
         ensures state { IsCubeState best.old.problem state.new }
         ensures same_instance { self.new.best.problem ≡ self.old.best.problem }
         ensures moves_on { MovesOn best.old best.new }
         ensures kept { S.keeps share.old share.new }
         ensures same_lending { S.lends share.new ≡ S.lends share.old }
     {
-        // The proof learns by this call that what is held is a solution.
-        let _ = best.cost();
-        self.serve(best);
         let turns = if self.has_begun { 0 } else { FIRST_TURNS };
         self.has_begun = true;
         let outcome = begin_whole(state, &mut self.literals, best, share, turns);

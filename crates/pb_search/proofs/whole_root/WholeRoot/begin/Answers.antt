@@ -8,8 +8,19 @@ use Rattle.pb_subtree.specs.Held.{IsNotAfter}
 use Rattle.pb_subtree.specs.Solutions.{SatisfiesUnder}
 use Rattle.pb_subtree.specs.declared.outcome.Outcome.TheVariants.{Whole}
 use Rattle.pb_search.specs.Root.{Root, IsBetter, IsFixedFor}
+use Rattle.pb_search.proofs.DoneLemmas.{fixed_under}
 use Rattle.pb_search.proofs.RootLemmas.{better_than_earlier}
 use Rattle.pb_search.proofs.whole_root.WholeRoot.begin.Goals as goal
+
+pub begin_whole-outcome-requires-clause-variables : goal.begin_whole-outcome-requires-clause-variables
+begin_whole-outcome-requires-clause-variables g c =
+    let fixed : IsFixedFor c.args.best.now.problem c.self.inside.literals.items c.self.inside.is_closed c.args.best.now.held = subst (λ (r : Root). IsFixedFor c.args.best.now.problem r.literals r.closed c.args.best.now.held) (sym c.self.view_is) c.requires.fixed in
+    subst (λ (n : ℕ). All (λ (l : Literal). l.var ≤ n) c.self.inside.literals.items) (sym c.requires.state.state.engine.vars) fixed.variables
+
+pub begin_whole-outcome-requires-clause-root : goal.begin_whole-outcome-requires-clause-root
+begin_whole-outcome-requires-clause-root g c a h better =
+    let fixed : IsFixedFor c.args.best.now.problem c.self.inside.literals.items c.self.inside.is_closed c.args.best.now.held = subst (λ (r : Root). IsFixedFor c.args.best.now.problem r.literals r.closed c.args.best.now.held) (sym c.self.view_is) c.requires.fixed in
+    fixed_under c.args.best.now.problem c.args.state.now.engine c.self.inside.literals.items c.self.inside.is_closed c.args.best.now.held a c.requires.state.state.engine fixed h better
 
 pub invariant_of-self : goal.invariant_of-self
 invariant_of-self g c =
