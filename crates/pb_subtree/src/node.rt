@@ -134,7 +134,8 @@ pub fn search_subtree<C: Coefficient, S: Share>(
 {
     state.root_work.begin(goal, run.left, turns);
     while let Some(branch) = next_branch(state, best, share, run) {
-        if goal.is_reached(best, run.left) || is_out_of_turns(state, turns, branch) {
+        let leaves = leaves_whole(state, share, turns, branch);
+        if leaves || goal.is_reached(best, run.left) {
             return Outcome::Cut;
         }
         decide(
@@ -148,13 +149,20 @@ pub fn search_subtree<C: Coefficient, S: Share>(
     Outcome::Whole
 }
 
-/// Whether turns are counted, none is left, and the next decision has both values to try: one with a single value costs no turn.
-fn is_out_of_turns<C: Coefficient>(
+/// Whether turns are counted, and the share says that the search is to end. It is asked only where the next decision has both values to
+/// try, since one with a single value is still part of what the root fixes.
+fn leaves_whole<C: Coefficient, S: Share>(
     state: &SearchState<C>,
+    share: &mut S,
     turns: Option<u32>,
     next: Branch,
 ) -> bool
-    ensures { result ≡ true → turns ≢ None }
+    ensures turns { result ≡ true → turns ≢ None }
+    ensures kept { S.keeps share.old share.new }
+    ensures same_lending { S.lends share.new ≡ S.lends share.old }
 {
-    turns.is_some() && !next.flipped && state.root_work.has_no_turns()
+    if turns.is_none() || next.flipped {
+        return false;
+    }
+    share.leaves_whole(state.root_work.has_no_turns())
 }
