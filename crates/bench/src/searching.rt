@@ -37,10 +37,6 @@ impl Share for Counter {
         self.asked = self.asked.saturating_add(1);
         false
     }
-
-    fn leaves_whole(&mut self, has_no_turns: bool) -> bool {
-        has_no_turns
-    }
 }
 
 /// The remainder of no cubes where k is 0, and else the pieces of the split; none where there is no such split.

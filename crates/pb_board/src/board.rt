@@ -204,14 +204,6 @@ impl Board {
         self.table.shared.load::<Read>(&mut seat.token, LEAST)
     }
 
-    /// How many numbers were claimed so far, by whichever seats. One load of the claim counter, of which nothing is promised.
-    pub fn claimed(&self, seat: &mut Seat) -> u64
-        requires { seat.old.board ≡ self.now.id }
-        ensures { seat.new ≡ seat.old }
-    {
-        self.table.shared.load::<Count>(&mut seat.token, COUNTER)
-    }
-
     /// Writes the bits into a row. Asks for a row below the number of workers, and for `vars` bits. One store for each
     /// word; another worker that reads the row meanwhile may get old words and new ones together.
     pub fn write_row(&self, seat: &mut Seat, row: u32, bits: &Assignment)

@@ -134,8 +134,7 @@ pub fn search_subtree<C: Coefficient, S: Share>(
 {
     state.root_work.begin(goal, run.left, turns);
     while let Some(branch) = next_branch(state, best, share, run) {
-        let leaves = leaves_whole(state, share, turns, branch);
-        if leaves || goal.is_reached(best, run.left) {
+        if goal.is_reached(best, run.left) || is_out_of_turns(state, turns, branch.flipped) {
             return Outcome::Cut;
         }
         decide(
@@ -149,20 +148,14 @@ pub fn search_subtree<C: Coefficient, S: Share>(
     Outcome::Whole
 }
 
-/// Whether turns are counted, and the share says that the search is to end. It is asked only where the next decision has both values to
-/// try, since one with a single value is still part of what the root fixes.
-fn leaves_whole<C: Coefficient, S: Share>(
+/// Whether turns are counted and none is left. A decision with a single value to try, which is `forced`, costs no turn: it is still part of
+/// what the root fixes.
+fn is_out_of_turns<C: Coefficient>(
     state: &SearchState<C>,
-    share: &mut S,
     turns: Option<u32>,
-    next: Branch,
+    forced: bool,
 ) -> bool
-    ensures turns { result ≡ true → turns ≢ None }
-    ensures kept { S.keeps share.old share.new }
-    ensures same_lending { S.lends share.new ≡ S.lends share.old }
+    ensures { result ≡ true → turns ≢ None }
 {
-    if turns.is_none() || next.flipped {
-        return false;
-    }
-    share.leaves_whole(state.root_work.has_no_turns())
+    turns.is_some() && !forced && state.root_work.has_no_turns()
 }

@@ -24,12 +24,6 @@ pub trait Share {
         ensures lent { IsTrue result → IsTrue (lends self.old) }
         ensures same_length { length into.new ≡ length into.old };
 
-    /// Whether the search of the whole is to end, so that the search of its pieces begins. `has_no_turns` says that it was about to
-    /// flip a decision as often as is usual before that. The answer is no more than a hint.
-    fn leaves_whole(&mut self, has_no_turns: bool) -> bool
-        ensures kept { keeps self.old self.new }
-        ensures same_lending { lends self.new ≡ lends self.old };
-
     ghost keeps_itself: { (s : Self) → keeps s s };
 
     ghost keeps_onward: { (s t u : Self) → keeps s t → keeps t u → keeps s u };
@@ -52,9 +46,5 @@ impl Share for Alone {
 
     fn borrow(&mut self, _below: Number, _into: &mut Assignment) -> bool {
         false
-    }
-
-    fn leaves_whole(&mut self, has_no_turns: bool) -> bool {
-        has_no_turns
     }
 }

@@ -85,10 +85,6 @@ impl<'n, N: Notes> Share for NoteShare<'n, N> {
             None => false,
         }
     }
-
-    fn leaves_whole(&mut self, has_no_turns: bool) -> bool {
-        has_no_turns
-    }
 }
 
 impl<'n, N: Notes> OuterShare for NoteShare<'n, N> {

@@ -29,8 +29,6 @@ pub struct BoardShare<'b, S: OuterShare + Drop> {
     worker: u32,
     // the worker whose row was read last, and at first this worker itself
     last_read: u32,
-    // after how many claims of all workers this one leaves the search of the whole; 0 where it leaves that after the usual turns
-    leaves_at: u64,
     beside: S,
 }
 
@@ -55,7 +53,6 @@ impl<'b, S: OuterShare + Drop> BoardShare<'b, S> {
             seat,
             worker,
             last_read: worker,
-            leaves_at: 0,
             beside,
         }
     }
@@ -67,14 +64,6 @@ impl<'b, S: OuterShare + Drop> BoardShare<'b, S> {
         self.worker
     }
 
-    /// The worker goes on with the search of the whole until all workers together have claimed `count` numbers, or after the usual
-    /// turns where that is 0.
-    pub fn stay_until(&mut self, count: u64)
-        ensures { self.new ≡ self.old }
-    {
-        self.leaves_at = count;
-    }
-
     /// The seat, with all that it claimed and offered.
     pub fn into_seat(self) -> Seat
         ensures { result ≡ self.entry.seat }
@@ -84,7 +73,6 @@ impl<'b, S: OuterShare + Drop> BoardShare<'b, S> {
             seat,
             worker: _,
             last_read: _,
-            leaves_at: _,
             beside: _,
         } = self;
         seat
@@ -125,14 +113,6 @@ impl<'b, S: OuterShare + Drop> Share for BoardShare<'b, S> {
     /// whoever is beside the board.
     fn borrow(&mut self, below: Number, into: &mut Assignment) -> bool {
         self.borrow_from_row(below, into) || self.beside.borrow(below, into)
-    }
-
-    /// A worker that stays with the whole leaves it once all pieces are claimed.
-    fn leaves_whole(&mut self, has_no_turns: bool) -> bool {
-        if self.leaves_at == 0 {
-            return has_no_turns;
-        }
-        self.board.claimed(&mut self.seat) >= self.leaves_at
     }
 }
 

@@ -26,11 +26,6 @@ use pb_notes::Notes;
 use pb_search::{Search, SearchTables};
 use std::alloc::Global;
 
-/// From how many workers on the first one stays with the search of the whole until all pieces are claimed. The variables of a split may
-/// say little of an instance, and then its pieces take several times as long as the whole: whichever of the two ends first ends the
-/// other. One of four workers is a small price for that.
-const LEAST_WORKERS_TO_STAY: u32 = 4;
-
 /// The whole work of one worker. It claims numbers from the board until it gets one that is no piece. It tells the gate of each
 /// piece that it got, and then searches it with at most `nodes` decisions, where there is such a budget. The part names exactly
 /// the claims of the answered seat that are pieces, as done or as cut by the budget, either kind in order. With a budget it
@@ -123,19 +118,8 @@ impl<'a, 'i, N: Notes, G: Gate> SearchWorkers<'a, 'i, N, G> {
         let beyond = NoteShare::new(alloc, self.notes, self.inst.vars(), worker)?;
         let mut share = BoardShare::beside(self.board, seat, worker, beyond);
         let count = self.pieces.len();
-        share.stay_until(self.claims_to_stay(worker));
-        search.begin(&mut best, &mut share, self.nodes);
         let named = self.search_claimed(alloc, &mut search, count, &mut best, &mut share)?;
         Ok((Part::new(self.pieces, named, best), share.into_seat()))
-    }
-
-    /// After how many claims the worker leaves the search of the whole, where it stays with that, and else 0. Tasks have further workers
-    /// on other machines, all of which would stay.
-    fn claims_to_stay(&self, worker: u32) -> u64 {
-        let stays = worker == 0
-            && self.task.is_none()
-            && self.board.workers().get() >= LEAST_WORKERS_TO_STAY;
-        if stays { u64::from(self.pieces.len()) } else { 0 }
     }
 
     /// Searches the pieces that the share claims and the task is dealt, each within the budget, and answers their numbers.

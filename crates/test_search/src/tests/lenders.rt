@@ -79,8 +79,4 @@ impl<'a> Share for Lender<'a> {
         self.next += 1;
         true
     }
-
-    fn leaves_whole(&mut self, has_no_turns: bool) -> bool {
-        has_no_turns
-    }
 }

@@ -10,14 +10,14 @@ use Rattle.pb_workers.proofs.working.SearchWorkers.work_of.Goals as goal
 
 pub new-requires-2 : goal.new-requires-2
 new-requires-2 g c =
-    let of_instance : c.search_claimed.new.best.problem ≡ c.args.self.now.inst.now = c.search_claimed.ensures.same_instance ∙ (c.begin.ensures.same_instance ∙ ap (λ (b : Incumbent). b.problem) c.in_ok-best.ensures) in
-    let is : c.begin.new.self.division ≡ record { problem = c.search_claimed.new.best.problem; cubes = c.args.self.now.pieces.now.cubes } =
-    ap (λ (s : Searcher). s.division) (c.begin.ensures.unchanged ∙ c.in_ok-search.ensures) ∙ (c.args.self.now.tables_of_all ∙ ap (λ (p : Problem). let d : Division = record { problem = p; cubes = c.args.self.now.pieces.now.cubes } in d) (sym of_instance)) in
-    part_done c.begin.new.self.division c.args.self.now.pieces.now c.in_ok-named.named.done.items c.in_ok-named.named.cut.items c.in_ok-named.named.decisions.items c.in_ok-named.named.cut_decisions.items c.search_claimed.new.best is c.in_ok-named.ensures.done
+    let of_instance : c.search_claimed.new.best.problem ≡ c.args.self.now.inst.now = c.search_claimed.ensures.same_instance ∙ ap (λ (b : Incumbent). b.problem) c.in_ok-best.ensures in
+    let is : c.in_ok-search.search.division ≡ record { problem = c.search_claimed.new.best.problem; cubes = c.args.self.now.pieces.now.cubes } =
+    ap (λ (s : Searcher). s.division) c.in_ok-search.ensures ∙ (c.args.self.now.tables_of_all ∙ ap (λ (p : Problem). let d : Division = record { problem = p; cubes = c.args.self.now.pieces.now.cubes } in d) (sym of_instance)) in
+    part_done c.in_ok-search.search.division c.args.self.now.pieces.now c.in_ok-named.named.done.items c.in_ok-named.named.cut.items c.in_ok-named.named.decisions.items c.in_ok-named.named.cut_decisions.items c.search_claimed.new.best is c.in_ok-named.ensures.done
 
 pub returns : goal.returns
 returns g c =
-    let of_instance : c.search_claimed.new.best.problem ≡ c.args.self.now.inst.now = c.search_claimed.ensures.same_instance ∙ (c.begin.ensures.same_instance ∙ ap (λ (b : Incumbent). b.problem) c.in_ok-best.ensures) in
+    let of_instance : c.search_claimed.new.best.problem ≡ c.args.self.now.inst.now = c.search_claimed.ensures.same_instance ∙ ap (λ (b : Incumbent). b.problem) c.in_ok-best.ensures in
     let claims : length c.into_seat.result.claimed ≡ length c.search_claimed.new.share.seat.claimed = ap (λ (s : SeatView). length s.claimed) c.into_seat.ensures in
     let most = c.in_ok-named.ensures.most in
     record {
