@@ -172,8 +172,7 @@ impl<'a, C: Coefficient> PieceSearch<'a, C> {
                     return Outcome::Whole;
                 };
                 let cube = cube.lits();
-                let outcome =
-                    search_under(state, root, cube, best, share, Goal::Least, None, left);
+                let outcome = search_under(state, root, cube, best, share, Goal::Least, None, left);
                 state.begin_piece();
                 outcome
             }

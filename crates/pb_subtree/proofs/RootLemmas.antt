@@ -89,8 +89,7 @@ front_true a (suc i) (x ∷ xs) h = All-cons (True a) x (take i xs) (h 0 x (omeg
 pub literals_next : (a : List Bool) (first literals old new : List Literal) (i : ℕ) (l : Literal) → i < length literals → l ≡ slice_index_or literals i l → (MakesTrue a old ↔ (MakesTrue a first × MakesTrue a (take i literals))) → (MakesTrue a new ↔ (MakesTrue a old × True a l)) → MakesTrue a new ↔ (MakesTrue a first × MakesTrue a (take (i + 1) literals))
 literals_next a first literals old new i l lt is both kept =
     let e : take (i + 1) literals ≡ take i literals ++ l ∷ [] = take_more literals i l lt ∙ ap (λ (x : Literal). take i literals ++ x ∷ []) (sym is) in
-    let n = all_next a (take i literals) (take (i + 1) literals) l e in
-    (
+    let n = all_next a (take i literals) (take (i + 1) literals) l e in (
       (λ h. (let k = kept.0 h in let m = both.0 k.0 in (m.0, n.1 (m.1, k.1)))),
       (λ h. (let k = n.0 h.1 in kept.1 (both.1 (h.0, k.0), k.1))),
     )
@@ -103,8 +102,7 @@ All_back P (x ∷ xs) ys h = All_back P xs ys (λ k d lt. h (suc k) d (omega ari
 -- the literals of the root and then those of the cube, where nothing was assumed before
 pub root_and_cube : (a : List Bool) (none mid end root cube : List Literal) → none ≡ [] → (MakesTrue a mid ↔ (MakesTrue a none × MakesTrue a root)) → (MakesTrue a end ↔ (MakesTrue a mid × MakesTrue a cube)) → MakesTrue a end ↔ MakesTrue a (root ++ cube)
 root_and_cube a none mid end root cube empty first second =
-    let nothing : MakesTrue a none = subst (λ (x : List Literal). MakesTrue a x) (sym empty) (All-nil (True a)) in
-    (
+    let nothing : MakesTrue a none = subst (λ (x : List Literal). MakesTrue a x) (sym empty) (All-nil (True a)) in (
       (λ h. (let k = second.0 h in All-append (True a) root cube (first.0 k.0).1 k.1)),
       (λ h. second.1 (first.1 (nothing, All_front (True a) root cube h), All_back (True a) root cube h)),
     )

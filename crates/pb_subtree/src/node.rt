@@ -150,11 +150,7 @@ pub fn search_subtree<C: Coefficient, S: Share>(
 
 /// Whether turns are counted and none is left. A decision with a single value to try, which is `forced`, costs no turn: it is still part of
 /// what the root fixes.
-fn is_out_of_turns<C: Coefficient>(
-    state: &SearchState<C>,
-    turns: Option<u32>,
-    forced: bool,
-) -> bool
+fn is_out_of_turns<C: Coefficient>(state: &SearchState<C>, turns: Option<u32>, forced: bool) -> bool
     ensures { result ≡ true → turns ≢ None }
 {
     turns.is_some() && !forced && state.root_work.has_no_turns()

@@ -1,4 +1,4 @@
-use Rattle.std.proofs.Common.{◌≡◌, ◌++◌, ◌≤◌, ◌∙◌, [], ℕ, List, Bool, All, Option, subst, sym}
+use Rattle.std.proofs.Common.{rules, ◌≡◌, ◌++◌, [], List, Bool, Option, subst, sym}
 use Rattle.std.proofs.lemmas.List.Elements.{All-nil, All-append}
 use Rattle.pb_inst.specs.Literal.{Literal}
 use Rattle.pb_inst.specs.Cubes.{MakesTrue}
@@ -16,10 +16,21 @@ root_true : (p : Problem) (s : EngineState) (root : List Literal) (old new : Opt
 root_true p s root old new a later fixed h better = fixed a h (improvement_on_earlier p a old new later better)
 
 -- so it is a solution under the root
-under_root : (s : EngineState) (root : List Literal) (a : List Bool) → SatisfiesUnder s [] a → MakesTrue a root → SatisfiesUnder s (root ++ []) a
-under_root s root a h makes_true = record { solution = h.solution; makes_true = All-append (λ l. literal_value a l ≡ 1) root [] makes_true (All-nil (λ l. literal_value a l ≡ 1)) }
+under_root : (s : EngineState) (root assumed : List Literal) (a : List Bool) → assumed ≡ root → SatisfiesUnder s [] a → MakesTrue a root → SatisfiesUnder s (assumed ++ []) a
+under_root s root assumed a is h makes_true = subst (λ (xs : List Literal). SatisfiesUnder s (xs ++ []) a) (sym is) (record { solution = h.solution; makes_true = All-append (λ l. literal_value a l ≡ 1) root [] makes_true (All-nil (λ l. literal_value a l ≡ 1)) })
 
-pub returns-clause-searched : goal.returns-clause-searched
-returns-clause-searched g c whole a h better =
+pub returns-else-eq-clause-searched : goal.returns-else-eq-clause-searched
+returns-else-eq-clause-searched g c whole a h better =
     let found = c.search_under-outcome in
-    found.ensures.searched whole a (under_root c.args.state.now.engine c.args.root.now.items a h (root_true c.args.best.now.problem c.args.state.now.engine c.args.root.now.items c.args.best.now.held found.new.best.held a found.ensures.ended.moves_on.not_after c.requires.root h better)) better
+    let makes_true = root_true c.args.best.now.problem c.args.state.now.engine c.args.root.now.items c.args.best.now.held found.new.best.held a found.ensures.ended.moves_on.not_after c.requires.root h better in
+    found.ensures.searched whole a (under_root c.args.state.now.engine c.args.root.now.items c.deref.result.now a c.deref.ensures h makes_true) better
+
+pub returns-else-eq-clause-root : goal.returns-else-eq-clause-root
+returns-else-eq-clause-root g c a h better =
+    root_true c.args.best.now.problem c.args.state.now.engine c.args.root.now.items c.args.best.now.held c.search_under-outcome.new.best.held a c.search_under-outcome.ensures.ended.moves_on.not_after c.requires.root h better
+
+pub returns-then-eq-clause-root : goal.returns-then-eq-clause-root
+returns-then-eq-clause-root g c a h better =
+    let found = c.search_under-outcome in
+    let makes_true = root_true c.args.best.now.problem c.args.state.now.engine c.args.root.now.items c.args.best.now.held found.new.best.held a found.ensures.ended.moves_on.not_after c.requires.root h better in
+    c.note_fixed.ensures.fixed a ((found.ensures.broken_off (search rules)).all_open a (under_root c.args.state.now.engine c.args.root.now.items c.deref.result.now a c.deref.ensures h makes_true) better) makes_true

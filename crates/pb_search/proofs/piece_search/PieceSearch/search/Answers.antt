@@ -20,9 +20,10 @@ use Rattle.pb_search.proofs.piece_search.PieceSearch.search.Goals as goal
 
 pub invariant_of-self-in-Rest : goal.invariant_of-self-in-Rest
 invariant_of-self-in-Rest g c =
-    let e : c.args.best.now.problem ≡ c.self.inside.instance.now = c.requires.same_instance ∙ sym (ap (λ (x : Division). x.problem) c.self.view_is) in
-    (rest_laid_out c.self.inside.instance.now c.self.inside.pieces.now c.self.inside.cube c.self.inside.rest c.search_under.new.state c.self.invariant.0 (subst (λ (x : Problem). IsStateOf x c.search_under.new.state) e c.search_under.ensures.ended.made_for) c.search_under.ensures.ended.constraints,
-    subst (λ (p : Problem). IfSome c.serve.new.whole (λ w. w.best.problem ≡ p)) e c.serve.ensures.same_instance)
+    let e : c.args.best.now.problem ≡ c.self.inside.instance.now = c.requires.same_instance ∙ sym (ap (λ (x : Division). x.problem) c.self.view_is) in (
+      rest_laid_out c.self.inside.instance.now c.self.inside.pieces.now c.self.inside.cube c.self.inside.rest c.search_under.new.state c.self.invariant.0 (subst (λ (x : Problem). IsStateOf x c.search_under.new.state) e c.search_under.ensures.ended.made_for) c.search_under.ensures.ended.constraints,
+      subst (λ (p : Problem). IfSome c.serve.new.whole (λ w. w.best.problem ≡ p)) e c.serve.ensures.same_instance,
+    )
 
 pub returns-in-Some-clause-searched : goal.returns-in-Some-clause-searched
 returns-in-Some-clause-searched g c =
