@@ -23,7 +23,7 @@ pub returns-else-eq-clause-searched : goal.returns-else-eq-clause-searched
 returns-else-eq-clause-searched g c whole a h better =
     let found = c.search_under-outcome in
     let makes_true = root_true c.args.best.now.problem c.args.state.now.engine c.args.root.now.items c.args.best.now.held found.new.best.held a found.ensures.ended.moves_on.not_after c.requires.root h better in
-    found.ensures.searched whole a (under_root c.args.state.now.engine c.args.root.now.items c.deref.result.now a c.deref.ensures h makes_true) better
+    found.ensures.searched whole a (under_root c.args.state.now.engine c.args.root.now.items c.deref.result.now a c.deref.ensures.value h makes_true) better
 
 pub returns-else-eq-clause-root : goal.returns-else-eq-clause-root
 returns-else-eq-clause-root g c a h better =
@@ -33,4 +33,4 @@ pub returns-then-eq-clause-root : goal.returns-then-eq-clause-root
 returns-then-eq-clause-root g c a h better =
     let found = c.search_under-outcome in
     let makes_true = root_true c.args.best.now.problem c.args.state.now.engine c.args.root.now.items c.args.best.now.held found.new.best.held a found.ensures.ended.moves_on.not_after c.requires.root h better in
-    c.note_fixed.ensures.fixed a ((found.ensures.broken_off (search rules)).all_open a (under_root c.args.state.now.engine c.args.root.now.items c.deref.result.now a c.deref.ensures h makes_true) better) makes_true
+    c.note_fixed.ensures.fixed a ((found.ensures.broken_off (search rules)).all_open a (under_root c.args.state.now.engine c.args.root.now.items c.deref.result.now a c.deref.ensures.value h makes_true) better) makes_true
