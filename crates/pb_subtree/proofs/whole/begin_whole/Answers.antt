@@ -5,9 +5,11 @@ use Rattle.pb_inst.specs.Cubes.{MakesTrue}
 use Rattle.pb_inst.specs.Incumbent.{Solution}
 use Rattle.pb_inst.specs.Meaning.{literal_value}
 use Rattle.pb_inst.specs.Problem.{Problem}
+use Rattle.pb_control.specs.declared.branch.Branch.{Branch}
 use Rattle.pb_engine.specs.EngineState.{EngineState}
 use Rattle.pb_prune.specs.Held.{IsImprovement, IsNotAfter}
 use Rattle.pb_prune.specs.Solutions.{SatisfiesUnder}
+use Rattle.pb_subtree.specs.Paths.{LiesOpen}
 use Rattle.pb_subtree.proofs.HeldLemmas.{improvement_on_earlier}
 use Rattle.pb_subtree.proofs.whole.begin_whole.Goals as goal
 
@@ -33,4 +35,5 @@ pub returns-then-eq-clause-root : goal.returns-then-eq-clause-root
 returns-then-eq-clause-root g c a h better =
     let found = c.search_under-outcome in
     let makes_true = root_true c.args.best.now.problem c.args.state.now.engine c.args.root.now.items c.args.best.now.held found.new.best.held a found.ensures.ended.moves_on.not_after c.requires.root h better in
-    c.note_fixed.ensures.fixed a ((found.ensures.broken_off (search rules)).all_open a (under_root c.args.state.now.engine c.args.root.now.items c.deref.result.now a c.deref.ensures.value h makes_true) better) makes_true
+    let lies : LiesOpen a found.new.state.branches.items = (found.ensures.broken_off (search rules)).all_open a (under_root c.args.state.now.engine c.args.root.now.items c.deref.result.now a c.deref.ensures.value h makes_true) better in
+    c.note_fixed.ensures.fixed a (subst (λ (path : List Branch). LiesOpen a path) (sym c.deref-then-eq.ensures.value) lies) makes_true
