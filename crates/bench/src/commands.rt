@@ -3,15 +3,15 @@
 ghost use Rattle.std.specs.Prelude.{◌≤◌, length};
 
 use crate::rounds::Course;
+use crate::searching::Way;
 
 /// What is to be measured.
 #[derive(Clone, Copy)]
 pub enum Command {
     /// A reader: that of cubes, or that of the format in which the text begins.
     Read { is_cubes: bool },
-    /// The search of the pieces of a split over k variables, each piece with a search of its own or all with one search.
-    /// Without a split the instance is one piece.
-    Search { k: u32, is_anew: bool },
+    /// The search of the pieces of a split.
+    Search { way: Way },
     /// This number of rounds on an engine; where it is 0 only the normal form is made.
     Engine { course: Course, rounds: u32 },
     /// A whole run.
@@ -50,14 +50,25 @@ fn spelled(line: &str) -> Command {
             is_cubes: words.next() == Some("cubes"),
         },
         "search" => Command::Search {
-            k: number_of(words.next()),
-            is_anew: words.next().is_some(),
+            way: way_of(words.next(), words.next(), false),
+        },
+        "pieces" => Command::Search {
+            way: way_of(words.next(), words.next(), true),
         },
         "engine" => Command::Engine {
             course: course_of(words.next()),
             rounds: number_of(words.next()),
         },
         _ => Command::Solve,
+    }
+}
+
+/// The way to search in pieces of a split over as many variables as the first word spells, each anew where there is another word.
+fn way_of(k: Option<&str>, anew: Option<&str>, is_told: bool) -> Way {
+    Way {
+        k: number_of(k),
+        is_anew: anew.is_some(),
+        is_told,
     }
 }
 

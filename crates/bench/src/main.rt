@@ -3,6 +3,7 @@
 //! ```text
 //! read [cubes]
 //! search [K [anew]]
+//! pieces K [anew]
 //! engine one|ordered|shuffled ROUNDS
 //! ```
 //!
@@ -29,7 +30,7 @@ fn main(rt: HostRuntime) -> io::Result<()> {
     let (command, rest) = command_of(&text);
     match command {
         Command::Read { is_cubes } => reading::run(&rt, rest, is_cubes),
-        Command::Search { k, is_anew } => searching::run(&rt, rest, k, is_anew),
+        Command::Search { way } => searching::run(&rt, rest, way),
         Command::Engine { course, rounds } => engine::run(&rt, rest, course, rounds),
         Command::Solve => {
             let mut out = Device::new(rt.stdout());

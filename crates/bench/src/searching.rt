@@ -1,6 +1,8 @@
-//! Searches the instance of a text. Says on standard error what was found, how many decisions and how much time that took, how
-//! often the incumbent was improved, and how often other searches were asked for theirs. A search of each piece anew knows
-//! nothing of the conflicts and multipliers of the pieces before.
+//! Searches the instance of a text as a run does: before each piece the root of the whole as far as that is due. Says on standard
+//! error what was found, how many decisions and how much time that took, how often the incumbent was improved, and how often other
+//! searches were asked for theirs. A search of each piece anew knows nothing of the conflicts and multipliers of the pieces before.
+//! Where there are cubes it says on standard output about how many of the decisions were made at the root of the whole, the first
+//! phase, and before that, where it is asked to, what each piece took.
 
 ghost use Rattle.std.specs.Prelude.{◌≡◌, ◌+◌, ◌≤◌, false, length, IfSome};
 
@@ -12,6 +14,20 @@ use pb_search::{Search, SearchTables, Share};
 use std::alloc::Global;
 use std::io;
 use std::time::{CpuClock, Duration};
+
+/// How many decisions a search makes from one question to the share to the next.
+const INTERVAL: u64 = 256;
+
+/// How an instance is searched.
+#[derive(Clone, Copy)]
+pub struct Way {
+    /// Over how many variables it is split into pieces. Without a split it is one piece.
+    pub k: u32,
+    /// Whether each piece has a search of its own, and not all have one.
+    pub is_anew: bool,
+    /// Whether a line tells of each piece.
+    pub is_told: bool,
+}
 
 /// Counts the assignments that it is offered, and how often it is asked for one, and lends nothing.
 #[derive(Clone, Copy)]
@@ -50,71 +66,147 @@ fn pieces_of(alloc: Global, instance: &Instance, k: u32) -> Option<Pieces>
     Pieces::new(instance.vars(), cubes).ok()
 }
 
-/// What a measured search found, and the processor time that it took.
+/// How many decisions were made, and the processor time that they took.
+#[derive(Clone, Copy)]
+struct Spent {
+    decisions: u64,
+    taken: Duration,
+}
+
+impl Spent {
+    fn none() -> Spent {
+        Spent {
+            decisions: 0,
+            taken: Duration::ZERO,
+        }
+    }
+
+    /// Both together.
+    fn plus(self, more: Spent) -> Spent {
+        Spent {
+            decisions: self.decisions.saturating_add(more.decisions),
+            taken: self.taken.saturating_add(more.taken),
+        }
+    }
+}
+
+/// What a measured search found, what the first phase and the pieces took, and what its share counted.
 #[derive(Clone, Copy)]
 struct Measured {
     cost: Option<Number>,
-    decisions: u64,
-    improvements: u64,
-    asked: u64,
-    searching: Duration,
+    first: Spent,
+    pieces: Spent,
+    counter: Counter,
 }
 
-/// Searches the pieces from `first` up to `end` in order, and counts the decisions.
-fn search_pieces(
+impl Measured {
+    /// Nothing has been searched.
+    fn none() -> Measured {
+        Measured {
+            cost: None,
+            first: Spent::none(),
+            pieces: Spent::none(),
+            counter: Counter {
+                offered: 0,
+                asked: 0,
+            },
+        }
+    }
+}
+
+/// Where pieces are told of, searches the root of the whole as far as that is due, as a run does, and says about how many decisions
+/// that made: the share is asked at the beginning and after each interval. None where the clock is refused.
+fn begin(
+    rt: &HostRuntime,
     search: &mut Search<'_>,
-    first: u32,
-    end: u32,
     best: &mut Best<'_>,
+    is_told: bool,
     counter: &mut Counter,
-) -> u64
-    requires pieces { end ≤ length search.old.division.cubes + 1 }
+) -> Option<Spent>
     requires same_instance { best.old.problem ≡ search.old.division.problem }
     ensures same_instance { best.new.problem ≡ best.old.problem }
+    ensures unchanged { search.new ≡ search.old }
 {
-    let mut decisions = 0_u64;
-    for piece in first..end {
-        search.run(piece, best, counter, Some(u64::MAX));
-        decisions = decisions.saturating_add(search.decisions());
+    if !is_told {
+        return Some(Spent::none());
     }
-    decisions
+    let asked = counter.asked;
+    let start = rt.process_cpu_time().ok()?;
+    search.begin(best, counter, None);
+    let taken = rt.process_cpu_time().ok()?.saturating_sub(start);
+    let intervals = counter.asked.saturating_sub(asked).saturating_sub(1);
+    Some(Spent {
+        decisions: intervals.saturating_mul(INTERVAL),
+        taken,
+    })
 }
 
-/// Searches, as `search_pieces` does, and adds what it did and the time to what was measured; none where the clock is refused.
-fn timed(
+/// Searches the piece, and before it the root of the whole as far as that is due. Says what the root took and what the piece took;
+/// none where the clock is refused.
+fn search_piece(
+    rt: &HostRuntime,
+    search: &mut Search<'_>,
+    piece: u32,
+    best: &mut Best<'_>,
+    is_told: bool,
+    counter: &mut Counter,
+) -> Option<(Spent, Spent)>
+    requires piece { piece ≤ length search.old.division.cubes }
+    requires same_instance { best.old.problem ≡ search.old.division.problem }
+    ensures same_instance { best.new.problem ≡ best.old.problem }
+    ensures unchanged { search.new.division ≡ search.old.division }
+{
+    let first = begin(rt, search, best, is_told, counter)?;
+    let start = rt.process_cpu_time().ok()?;
+    search.run(piece, best, counter, Some(u64::MAX));
+    let taken = rt.process_cpu_time().ok()?.saturating_sub(start);
+    let decisions = search.decisions();
+    Some((first, Spent { decisions, taken }))
+}
+
+/// Tells what the piece took.
+fn tell_piece(rt: &HostRuntime, piece: u32, spent: Spent) -> io::Result<()> {
+    let Spent { decisions, taken } = spent;
+    let seconds = taken.as_secs_f64();
+    println!(rt; "piece {piece}: {decisions} decisions, {seconds:.6} s")
+}
+
+/// Searches the pieces from `first` up to `end` in order, and adds what that took to what was measured; none where the clock or a
+/// line is refused.
+fn search_pieces(
     rt: &HostRuntime,
     search: &mut Search<'_>,
     first: u32,
     end: u32,
     best: &mut Best<'_>,
+    is_told: bool,
     measured: &mut Measured,
 ) -> Option<()>
     requires pieces { end ≤ length search.old.division.cubes + 1 }
     requires same_instance { best.old.problem ≡ search.old.division.problem }
     ensures same_instance { best.new.problem ≡ best.old.problem }
 {
-    let mut counter = Counter {
-        offered: 0,
-        asked: 0,
-    };
-    let start = rt.process_cpu_time().ok()?;
-    let decisions = search_pieces(search, first, end, best, &mut counter);
-    let taken = rt.process_cpu_time().ok()?.saturating_sub(start);
+    for piece in first..end {
+        let (root, spent) = search_piece(rt, search, piece, best, is_told, &mut measured.counter)?;
+        measured.first = measured.first.plus(root);
+        measured.pieces = measured.pieces.plus(spent);
+        if is_told {
+            tell_piece(rt, piece, spent).ok()?;
+        }
+    }
     measured.cost = best.cost();
-    measured.decisions = measured.decisions.saturating_add(decisions);
-    measured.improvements = measured.improvements.saturating_add(counter.offered);
-    measured.asked = measured.asked.saturating_add(counter.asked);
-    measured.searching = measured.searching.saturating_add(taken);
     Some(())
 }
 
-/// Searches the pieces from `first` up to `end` with a search of their own; none where memory or the clock is refused.
+/// Searches the pieces from `first` up to `end` with a search of their own, as `search_pieces` does; none where memory is refused
+/// either.
 fn search_range(
     rt: &HostRuntime,
     tables: &SearchTables<'_>,
     first: u32,
     end: u32,
     best: &mut Best<'_>,
+    is_told: bool,
     measured: &mut Measured,
 ) -> Option<()>
     requires pieces { end ≤ length tables.now.cubes + 1 }
@@ -122,7 +214,7 @@ fn search_range(
     ensures same_instance { best.new.problem ≡ best.old.problem }
 {
     let mut search = Search::over(rt.alloc(), tables).ok()?;
-    timed(rt, &mut search, first, end, best, measured)
+    search_pieces(rt, &mut search, first, end, best, is_told, measured)
 }
 
 /// Searches the pieces below `count`, each anew or all with one search.
@@ -130,23 +222,22 @@ fn search_all(
     rt: &HostRuntime,
     tables: &SearchTables<'_>,
     count: u32,
-    is_anew: bool,
+    way: Way,
     best: &mut Best<'_>,
 ) -> Option<Measured>
     requires pieces { count ≤ length tables.now.cubes + 1 }
     requires same_instance { best.old.problem ≡ tables.now.problem }
 {
-    let mut measured = Measured {
-        cost: None,
-        decisions: 0,
-        improvements: 0,
-        asked: 0,
-        searching: Duration::ZERO,
-    };
+    let Way {
+        k: _,
+        is_anew,
+        is_told,
+    } = way;
+    let mut measured = Measured::none();
     let searches = if is_anew { count } else { 1 };
     for i in 0..searches {
         let (first, end) = if is_anew { (i, i + 1) } else { (0, count) };
-        search_range(rt, tables, first, end, best, &mut measured)?;
+        search_range(rt, tables, first, end, best, is_told, &mut measured)?;
     }
     Some(measured)
 }
@@ -156,7 +247,7 @@ fn measure_pieces(
     rt: &HostRuntime,
     instance: &Instance,
     pieces: &Pieces,
-    is_anew: bool,
+    way: Way,
 ) -> Option<Measured>
     requires { pieces.now.vars ≡ instance.now.vars }
 {
@@ -165,36 +256,49 @@ fn measure_pieces(
     };
     let tables = SearchTables::new(rt.alloc(), instance, &normal, pieces).ok()?;
     let mut best = Best::none(rt.alloc(), instance).ok()?;
-    search_all(rt, &tables, pieces.len(), is_anew, &mut best)
+    search_all(rt, &tables, pieces.len(), way, &mut best)
 }
 
-/// Searches the instance, each piece anew or all with one search; none where memory or the clock is refused, or there is no such
-/// split.
-fn measure(rt: &HostRuntime, instance: &Instance, k: u32, is_anew: bool) -> Option<Measured> {
-    let pieces = pieces_of(rt.alloc(), instance, k)?;
-    measure_pieces(rt, instance, &pieces, is_anew)
+/// Searches the instance in this way; none where memory, the clock or a line is refused, or there is no such split.
+fn measure(rt: &HostRuntime, instance: &Instance, way: Way) -> Option<Measured> {
+    let pieces = pieces_of(rt.alloc(), instance, way.k)?;
+    measure_pieces(rt, instance, &pieces, way)
 }
 
 /// Searches the text's instance, as `measure` does; none where the text cannot be read either.
-fn measure_text(rt: &HostRuntime, text: &[u8], k: u32, is_anew: bool) -> Option<Measured> {
+fn measure_text(rt: &HostRuntime, text: &[u8], way: Way) -> Option<Measured> {
     let instance = instance_of(rt.alloc(), text)?;
-    measure(rt, &instance, k, is_anew)
+    measure(rt, &instance, way)
 }
 
-/// Searches the text's instance in the pieces of its split over k variables.
-pub fn run(rt: &HostRuntime, text: &[u8], k: u32, is_anew: bool) -> io::Result<()> {
-    match measure_text(rt, text, k, is_anew) {
-        Some(
-            Measured {
-                cost,
-                decisions,
-                improvements,
-                asked,
-                searching,
-            },
-        ) => eprintln!(rt;
-            "cost {cost:?}, {decisions} decisions, searched in {searching:?}, {improvements} improvements, asked {asked} times"
-        ),
-        None => eprintln!(rt; "the text cannot be searched"),
+/// Tells what the first phase took.
+fn tell_first(rt: &HostRuntime, first: Spent) -> io::Result<()> {
+    let Spent { decisions, taken } = first;
+    let seconds = taken.as_secs_f64();
+    println!(rt; "first phase: about {decisions} decisions, {seconds:.6} s")
+}
+
+/// Tells what was found, and what all searches together took.
+fn tell(rt: &HostRuntime, measured: Measured) -> io::Result<()> {
+    let Measured {
+        cost,
+        first,
+        pieces,
+        counter: Counter { offered, asked },
+    } = measured;
+    let Spent { decisions, taken } = first.plus(pieces);
+    eprintln!(rt;
+        "cost {cost:?}, {decisions} decisions, searched in {taken:?}, {offered} improvements, asked {asked} times"
+    )
+}
+
+/// Searches the text's instance in this way.
+pub fn run(rt: &HostRuntime, text: &[u8], way: Way) -> io::Result<()> {
+    let Some(measured) = measure_text(rt, text, way) else {
+        return eprintln!(rt; "the text cannot be searched");
+    };
+    if way.is_told {
+        tell_first(rt, measured.first)?;
     }
+    tell(rt, measured)
 }
