@@ -27,11 +27,17 @@ INTERVAL = 256  # decisions after which a search asks again
 
 @dataclass(frozen=True)
 class Effort:
-    """Instances, how many decisions the searches of all of them may take together, and by how many variables each is split into pieces."""
+    """Instances, how many decisions the searches of all of them may take together, by how many variables each is split into pieces, and
+    whether the search of the whole begins before them."""
 
     most: int
     instances: list
     split: int = 0
+    begins: bool = False
+
+    def command(self):
+        """What asks `bench` for the search. `pieces` begins with the whole before the pieces, as a run does."""
+        return f"{'pieces' if self.begins else 'search'} {self.split}"
 
 
 @dataclass(frozen=True)
@@ -95,6 +101,9 @@ FAMILIES = {
     # A split leaves nothing beside its cubes, and the search of the remainder finds that in a few turns. If its root were worked on as
     # that of a cube is, all pieces together would take four and eleven times as many decisions.
     "what a split leaves is seen to be empty": [Effort(1_820, [ring_cover(160)], split=3), Effort(330, [gated_cover(60, 8)], split=5)],
+    # The root of the whole closes nearly all of a long ring, and its pieces are searched below that. Where each begins anew at its own
+    # root they take over a hundred times as many decisions.
+    "pieces are searched below the whole": [Effort(2_560, [ring_cover(240), ring_cover(390)], split=4, begins=True)],
     # Thirteen things find no room in four bins of three each. Thing by thing two million decisions tell that; the multipliers do once
     # the search has gone on for a while.
     "a packing without room is refuted": [Effort(2_820, [packing(13, 4, 3)])],
@@ -122,10 +131,10 @@ FAMILIES = {
 }
 
 
-def told(program, instance, split):
+def told(program, instance, command):
     """What the program tells of the search of the instance; none where it does not end in time."""
     try:
-        said = ran([program], input=f"search {split}\n{instance.text()}".encode()).err
+        said = ran([program], input=f"{command}\n{instance.text()}".encode()).err
     except subprocess.TimeoutExpired:
         said = ""
     words = re.fullmatch(r"cost (.+), (\d+) decisions, searched in .+, (\d+) improvements, asked (\d+) times\n", said)
@@ -134,7 +143,7 @@ def told(program, instance, split):
 
 def told_of_all(program, effort):
     """The same of each instance of the effort."""
-    return [told(program, it, effort.split) for it in effort.instances]
+    return [told(program, it, effort.command()) for it in effort.instances]
 
 
 def counted(told):
