@@ -24,7 +24,7 @@ HEAD = """# Edits, tests and plants
 
 ## Must-fail edits
 
-An edit is a wrong body of the function named after it. The prover must refuse it by the clause in its first line.
+An edit is a wrong body of the function in parentheses. The prover must refuse it by the clause that its first line names.
 
 ### In the gate
 
@@ -34,7 +34,7 @@ An edit is a wrong body of the function named after it. The prover must refuse i
 APART = """
 ### After a change
 
-After a change of a crate's contracts, `tests/wrong.py CRATE` tries each `tests/wrong/CRATE/EDIT.edit`.
+Run `tests/wrong.py CRATE` after a change of a crate's contracts: it tries each `tests/wrong/CRATE/EDIT.edit`.
 
 """
 TESTS = """
@@ -46,7 +46,7 @@ The gate runs them all.
 BUGS = """
 ## Plants
 
-No contract refuses the bug `tests/plants/LIST/PLANT.plant`.
+Each `tests/plants/LIST/PLANT.plant` is a bug that no contract refuses; a test or run must.
 
 """
 
