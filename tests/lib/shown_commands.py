@@ -52,7 +52,7 @@ SHOWN = [
     Shown("pbcube nothing.opb", complaint="pbcube: cannot read nothing.opb", status=1),
     Shown(
         "pbcube_task --split 2 --task 1 --tasks 2 examples/tie.opb",
-        (PART.format(1), "c pieces 5 split 2 cubes none", "c done 1 3", "c cut", "o 3", "s SATISFIABLE", "v x1 -x2 x3"),
+        (PART.format(1), "c pieces 5 split 2 cubes none", "c done 1 3", "c cut", "o 3", "s SATISFIABLE", "v -x1 x2 -x3"),
         status=10,
     ),
     Shown(

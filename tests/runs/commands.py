@@ -422,7 +422,8 @@ WITHOUT_NOTES = "pbcube_task: cannot use tie.opb, so no notes are exchanged: "
 TASK = [
     Row("--task 0 --tasks 1 tie.opb", part("0 of 1", FILES["tie.opb"], "1 split 0 cubes none", " 0") + ATTAINED, status=10),
     Row("--split 1 --task 1 --tasks 2 tie.opb", part("1 of 2", FILES["tie.opb"], "3 split 1 cubes none", " 1") + ATTAINED, status=10),
-    Row("--split 1 --task 2 --tasks 3 tie.opb", part("2 of 3", FILES["tie.opb"], "3 split 1 cubes none", " 2") + "s UNKNOWN\n"),
+    Row("--split 1 --task 2 --tasks 3 tie.opb", part("2 of 3", FILES["tie.opb"], "3 split 1 cubes none", " 2") + ATTAINED, status=10),
+    Row("--split 1 --nodes 9 --task 2 --tasks 3 tie.opb", part("2 of 3", FILES["tie.opb"], "3 split 1 cubes none", " 2") + "s UNKNOWN\n"),
     Row(
         "--cubes good.cubes --workers 2 --task 1 --tasks 2 tie.opb",
         part("1 of 2", FILES["tie.opb"], f"2 split 0 cubes {digest_of('good.cubes')}", " 1") + ATTAINED,
@@ -430,6 +431,11 @@ TASK = [
     ),
     Row(
         "--format icnf --task 0 --tasks 4294967295 own_cube.icnf",
+        part("0 of 4294967295", FILES["own_cube.icnf"], "2 split 0 cubes none", " 0") + "s SATISFIABLE\nv -1 2 0\n",
+        status=10,
+    ),
+    Row(
+        "--format icnf --nodes 9 --task 0 --tasks 4294967295 own_cube.icnf",
         part("0 of 4294967295", FILES["own_cube.icnf"], "2 split 0 cubes none", " 0") + "s SATISFIABLE\nv 1 -2 0\n",
         status=10,
     ),

@@ -41,9 +41,9 @@ REQUESTS = {
     "chain": 130,
     "clauses": 126,
     "colours": 133,
-    "cubes": 353,
-    "cubes_of_a_contradiction": 371,
-    "cubes_of_last_variables": 193,
+    "cubes": 355,
+    "cubes_of_a_contradiction": 375,
+    "cubes_of_last_variables": 195,
     "descent": 148,
     "garden": 155,
     "groups": 150,
@@ -82,7 +82,7 @@ def runs(room):
     cubes = ("--cubes", room / "some.cubes", room / "some.opb")
     yield Run("a long text", (room / "long.opb",), 10, 88, 128.0)
     yield Run("long rows", ("--nodes", "0", room / "wide.opb"), 0, 207, 15.7)
-    yield Run("many cubes", cubes, 10, 16_199, 1.6)
+    yield Run("many cubes", cubes, 10, 16_201, 1.6)
     yield Run("many cubes, two workers", ("--workers", "2", *cubes), 10, 16_263, 1.6)
     for name, requests in REQUESTS.items():
         text = (TOP / "tests/work" / name).read_text()

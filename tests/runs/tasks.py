@@ -35,6 +35,8 @@ DEALT = [
     (9, 10, None, ()),
     (4_294_967_294, 4_294_967_295, None, ()),
 ]
+# Decisions that are enough for each piece here. With a budget nothing is searched outside the pieces of a task.
+AMPLE = ["--nodes", "1000"]
 # What the notes of all other tasks say, a cost and values, and the claim of a task whose one piece has nothing in it: that of an
 # assignment that is feasible, of one that is not, and of one whose cost is another.
 NOTED = [
@@ -145,7 +147,7 @@ def wrongly_dealt(task, room):
         notes.mkdir()
         for other in range(8):
             (notes / f"{other}.note").write_text(f"pbcube note of instance {digest(TWO_OF_THREE)}\n{note}")
-        ended = ran([*command, "--task", "8", "--tasks", "9", "--exchange", notes])
+        ended = ran([*command, *AMPLE, "--task", "8", "--tasks", "9", "--exchange", notes])
         if ended.out != heading + claim:
             yield f"the note {note!r}: {ended}"
 
@@ -173,7 +175,7 @@ def wrong_pieces(task, folder):
     for text, claims in WORKED:
         file.write_text(text)
         for number, values in enumerate(claims):
-            said = ran([task, "--format", "icnf", "--tasks", str(len(claims)), "--task", str(number), file])
+            said = ran([task, "--format", "icnf", *AMPLE, "--tasks", str(len(claims)), "--task", str(number), file])
             if not is_owed(said, text, number, len(claims), None, values):
                 yield f"piece {number} of {text!r}: {said}"
     cubes = "".join(f"a {' '.join(map(str, it))} 0\n" for it in itertools.product(*((it, -it) for it in BESIDE)))
