@@ -31,7 +31,7 @@ const MOST_LEAVES: u32 = 64;
 const CREDIT_OF_DIVES: u32 = 6;
 
 /// How many times the search of a piece is about to flip a decision before work at its root is considered, where the whole was begun
-/// before: what such work closes, the root of the whole mostly closed.
+/// before: what such work closes, the root of the whole mostly closed. As many as the whole had; not compared with others.
 const EARLY_OF_A_PIECE: usize = 256;
 
 /// What a dive costs.
@@ -140,8 +140,8 @@ impl RootWork {
             Goal::Least | Goal::AtMost(_) => MOST_LEAVES,
         };
         self.is_open = false;
-        // What the cubes of a split leave is empty, and no work at its root tells that. Its search does, which flips a decision
-        // at most once for each cube.
+        // What the cubes of a split leave is empty, and no work at its root tells that. Its search does, which as a rule flips
+        // a decision once for each cube.
         self.early = self.cubes;
         if self.has_begun_whole {
             self.early = self.early.max(EARLY_OF_A_PIECE);

@@ -46,7 +46,6 @@ pub struct Multipliers<C: Coefficient = u64> {
     root: usize,
 }
 
-// Written by hand, so that whoever drops multipliers sees one call, and not one for each part.
 impl<C: Coefficient> Drop for Multipliers<C> {
     fn drop(self) {
         let Multipliers {

@@ -34,7 +34,6 @@ impl Model for Engine {
     ghost view = { λ e. either e.at_width };
 }
 
-// By hand, so that dropping an engine is one call wherever it is done.
 impl Drop for Engine {
     fn drop(self) {
         let Engine { at_width: _ } = self;

@@ -37,7 +37,6 @@ pub struct EngineAt<C: Coefficient = u64> {
     standing: Option<Number>,
 }
 
-// By hand, so that a caller that drops an engine sees one call, and not each of its parts.
 impl<C: Coefficient> Drop for EngineAt<C> {
     fn drop(self) {
         let EngineAt {

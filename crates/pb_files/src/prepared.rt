@@ -11,7 +11,6 @@ pub struct Prepared {
     pub cubes_digest: Option<[u8; 32]>,
 }
 
-// Written by hand, so that each drop of it is one call.
 impl Drop for Prepared {
     fn drop(self) {
         let Prepared {

@@ -7,7 +7,6 @@ pub struct Whole {
     pub digest: [u8; 32],
 }
 
-// Written by hand, so that each drop of it is one call.
 impl Drop for Whole {
     fn drop(self) {
         let Whole {

@@ -74,7 +74,6 @@ pub struct Relaxation<C: Coefficient = u64> {
     was_used: bool,
 }
 
-// By hand, as for `Multipliers`.
 impl<C: Coefficient> Drop for Relaxation<C> {
     fn drop(self) {
         let Relaxation {

@@ -56,7 +56,6 @@ impl<C: Coefficient> Model for Form<C> {
     ghost invariant = { λ f. IsNormalWithin C.limit (record { vars = (arc_value f.parts).vars; rows = (arc_value f.parts).rows; base = (arc_value f.parts).base; objective = (arc_value f.parts).objective.items }) };
 }
 
-// Written by hand, so that code that drops a form calls this, and does not drop each part itself.
 impl<C: Coefficient> Drop for Form<C> {
     fn drop(self) {
         let Form { parts: _ } = self;

@@ -37,7 +37,6 @@ impl Model for Normal {
     ghost view = { λ n. either n.form };
 }
 
-// Written by hand, so that code that drops it calls this, and does not tell the two widths apart itself.
 impl Drop for Normal {
     fn drop(self) {
         let Normal { form: _ } = self;

@@ -43,7 +43,6 @@ impl Model for Order {
     ghost view = { λ _. tt };
 }
 
-// By hand, so that letting go of an order is a call wherever it is done, and its parts are written out here alone.
 impl Drop for Order {
     fn drop(self) {
         let Order {

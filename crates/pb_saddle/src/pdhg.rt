@@ -67,7 +67,6 @@ pub struct Pdhg {
     plan: Plan,
 }
 
-// Written by hand, so that whoever drops it sees one call, and not one for each part.
 impl Drop for Pdhg {
     fn drop(self) {
         let Pdhg {

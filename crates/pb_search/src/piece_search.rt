@@ -66,7 +66,6 @@ impl<'a, C: Coefficient> Model for PieceSearch<'a, C> {
     ghost invariant = { λ s. IsLaidOut s.instance.now s.pieces.now s.cube s.rest × IfSome s.whole (λ w. w.best.problem ≡ s.instance.now) };
 }
 
-// By hand, so that letting go of a search is a call wherever it is done, and its parts are written out here alone.
 impl<'a, C: Coefficient> Drop for PieceSearch<'a, C> {
     fn drop(self) {
         let PieceSearch {

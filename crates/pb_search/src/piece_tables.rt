@@ -37,7 +37,6 @@ impl<'a, C: Coefficient> Model for PieceTables<'a, C> {
     ghost invariant = { λ t. AreTables t.instance.now t.pieces.now (arc_value t.rows) (arc_value t.none) (arc_value t.rest) };
 }
 
-// By hand, so that letting go of tables is a call wherever it is done, and their parts are written out here alone.
 impl<'a, C: Coefficient> Drop for PieceTables<'a, C> {
     fn drop(self) {
         let PieceTables {

@@ -30,7 +30,6 @@ impl<'a> Model for Search<'a> {
     ghost view = { λ s. record { division = either s.at_width; decisions = s.decisions } };
 }
 
-// By hand, so that letting go of a search is a call wherever it is done.
 impl<'a> Drop for Search<'a> {
     fn drop(self) {
         let Search {

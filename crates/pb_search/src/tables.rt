@@ -26,7 +26,6 @@ impl<'a> Model for SearchTables<'a> {
     ghost view = { λ t. either t.at_width };
 }
 
-// By hand, so that letting go of tables is a call wherever it is done.
 impl<'a> Drop for SearchTables<'a> {
     fn drop(self) {
         let SearchTables { at_width: _ } = self;

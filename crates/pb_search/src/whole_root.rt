@@ -12,7 +12,8 @@ use pb_subtree::{Outcome, SearchState, Share, begin_whole};
 use std::alloc::Global;
 use std::marker::Model;
 
-/// How many times the search of the whole is about to flip a decision before that of the pieces begins. Chosen by hand.
+/// How many times the search of the whole is about to flip a decision before that of the pieces begins. One worker took a tenth more
+/// seconds for a split of 4 with 64, and with 1,024.
 const FIRST_TURNS: u32 = 256;
 
 /// Literals that are fixed for good, the best assignment when they were, and whether the whole was searched then: a feasible assignment
@@ -34,7 +35,6 @@ impl<'a> Model for WholeRoot<'a> {
     ghost invariant = { λ r. IsFixedFor r.best.problem r.literals.items r.is_closed r.best.held };
 }
 
-// By hand, so that letting go of it is a call wherever it is done.
 impl<'a> Drop for WholeRoot<'a> {
     fn drop(self) {
         let WholeRoot {

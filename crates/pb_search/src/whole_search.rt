@@ -27,7 +27,6 @@ impl Model for WholeSearch {
     ghost view = { λ s. either s.at_width };
 }
 
-// By hand, so that letting go of a search is a call wherever it is done.
 impl Drop for WholeSearch {
     fn drop(self) {
         let WholeSearch { at_width: _ } = self;

@@ -29,7 +29,6 @@ impl<C: Coefficient> Model for WholeSearchAt<C> {
     ghost invariant = { λ s. IsMade s.state.engine.form [] s.state };
 }
 
-// By hand, so that letting go of a search is a call wherever it is done, and its parts are written out here alone.
 impl<C: Coefficient> Drop for WholeSearchAt<C> {
     fn drop(self) {
         let WholeSearchAt { state: _ } = self;

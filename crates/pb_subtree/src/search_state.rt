@@ -26,8 +26,6 @@ pub struct SearchState<C: Coefficient> {
     pub dive: DivePath,
 }
 
-// By hand, so that letting go of a state is a call wherever it is done, and its parts are written out here alone. Or else what a
-// derive writes would stand at each early return too, with all parts of the parts, and make most of what is to be proved.
 impl<C: Coefficient> Drop for SearchState<C> {
     fn drop(self) {
         let SearchState {
