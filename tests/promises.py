@@ -24,7 +24,7 @@ HEAD = """# Edits, tests and plants
 
 ## Must-fail edits
 
-An edit is a wrong body of the function in parentheses. The prover must refuse it by the clause that its first line names.
+An edit is a wrong body of the function in parentheses. The first line of the edit's file names a clause, by which the prover must refuse the edit.
 
 ### In the gate
 
@@ -34,19 +34,19 @@ An edit is a wrong body of the function in parentheses. The prover must refuse i
 APART = """
 ### After a change
 
-Run `tests/wrong.py CRATE` after a change of a crate's contracts: it tries each `tests/wrong/CRATE/EDIT.edit`.
+After a change to the contracts of CRATE, run `tests/wrong.py CRATE`: it tries each `tests/wrong/CRATE/EDIT.edit`.
 
 """
 TESTS = """
 ## Tests
 
-The gate runs them all.
+The gate runs all tests of each crate that is named here.
 
 """
 BUGS = """
 ## Plants
 
-Each `tests/plants/LIST/PLANT.plant` is a bug that no contract refuses; a test or run must.
+Each `tests/plants/LIST/PLANT.plant` is a bug that breaks no contract, so a test or a script must find it.
 
 """
 
