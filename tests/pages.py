@@ -19,7 +19,7 @@ COMMANDS, README = TOP / "docs/COMMANDS.md", TOP / "README.md"
 LINK = re.compile(r"\]\((?!\w+:)([^)#\s]*)(?:#([^)\s]+))?\)")
 HEAD = """# Commands and what they print
 
-`tests/pages.py --write` generates this page from `tests/lib/shown_commands.py`. The gate runs each row, and those of the [README](../README.md), on the built program (`tests/runs/examples.py`), and compares bytes and exit status. `/` separates lines.
+`tests/pages.py --write` generates this page from `tests/lib/shown_commands.py`. The gate runs the command in each row, here and in the [README](../README.md), with the built program (`tests/runs/examples.py`). It compares the bytes printed and the exit status. In the second column `/` separates lines.
 
 | Command | Prints | Status |
 |---|---|---|
