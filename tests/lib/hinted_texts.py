@@ -5,6 +5,22 @@ IS_MARKED = "begins with a byte order mark: save it as ASCII, without one"
 NO_PRODUCT = "no product is read: write a variable of its own for it"
 NO_SOFT = "no soft constraint is read: give each a variable that satisfies it, with its weight in min:"
 TO_MOST = "variables are numbered from 1 to 1048576"
+NO_LP = "begins as LP, which is not read: the client pbcube-lp solves it"
+NO_MPS = "begins as MPS, which is not read: save it as LP, which the client pbcube-lp solves"
+WEIGH = "write a number before each literal, as 1 x1"
+SIGN = "write the sign with a number, without a space, as -1 x1"
+PART = "write a space between a number and its literal, and no *, as 2 x1"
+MAKE_WHOLE = "numbers are whole: multiply all numbers of the statement by the same one"
+RENAME = "variables are named x1, x2 and so on"
+AT_LEAST = "write >= and the least number allowed, as >= 2 for > 1"
+AT_MOST = "write <= and the greatest number allowed, as <= 1 for < 2"
+MOVE_LEFT = "one number alone stands on the right: write all literals on the left"
+RELATE = "end a constraint with >=, <= or =, and a number"
+END = "end the statement before it with ;"
+MINIMISE = "write min: of the negated sum"
+SMALL_SUMS = "the numbers of a statement, without their signs, add up to at most 2^126 - 1: take smaller units"
+LIMITS = "there are at most 1048576 variables, 4194304 constraints, 1048575 cubes and 16777216 terms"
+CUBE_LINE = "a cube is a line of its own: a, its literals and 0"
 
 # What a text begins as or is compressed by: the format that the command line tells, the text, and what is said of its file.
 BEGUN = [
@@ -14,23 +30,56 @@ BEGUN = [
     ("opb", b"\x1f\x8b\x08\x00", "is compressed by gzip: gunzip it first"),
     ("cnf", b"\xfd7zXZ\x00\x00\x04", "is compressed by xz: unxz it first"),
     ("opb", b"BZh91AY&SY", "is compressed by bzip2: bunzip2 it first"),
+    ("cnf", b"\x28\xb5\x2f\xfd\x04\x88", "is compressed by zstd: unzstd it first"),
+    ("opb", b"\\ a model\nMinimize\n obj: 2 x + 3 y\nSubject To\n x + y >= 1\nBinaries\n x y\nEnd\n", NO_LP),
+    ("cnf", b"max\n 3 x\nst\n x <= 1\nEnd\n", NO_LP),
+    ("opb", b"* a model\nNAME          model\nROWS\n N  cost\n", NO_MPS),
     ("opb", b"\xef\xbb\xbf1 x1 >= 1 ;\n", IS_MARKED),
     ("icnf", b"\xff\xfep\x00", IS_MARKED),
     ("cnf", b"c a comment\np wcnf 2 2 9\n9 1 2 0\n1 -1 0\n", IS_WCNF),
     ("opb", b"c a comment\nh 1 2 0\n1 -1 0\n", IS_WCNF),
 ]
 
-# Which word cannot stand there: the format, the text, and what is said of the word, or nothing.
+# Which word cannot stand there, or which rule is broken: the format, the text, and what is said of it, or nothing.
 PLACED = [
-    ("opb", b"* a comment\n\n1 x1 2 x2 >= +1*x1 ;\n", "line 3, column 14: '+1*x1'"),
-    ("opb", b"1 x1 >= 1 ; * note\n", "line 1, column 13: '*'"),
-    ("opb", b"max: 1 x1 ;\n1 x1 >= 1 ;\n", "line 1, column 1: 'max:': write min: of the negated sum"),
+    ("opb", b"* a comment\n\n1 x1 2 x2 >= +1*x1 ;\n", f"line 3, column 14: '+1*x1': {PART}"),
+    ("opb", b"1 x1 >= 1 ; * note\n", "line 1, column 13: '*': write a comment on a line of its own"),
+    ("opb", b"max: 1 x1 ;\n1 x1 >= 1 ;\n", f"line 1, column 1: 'max:': {MINIMISE}"),
+    ("opb", b"maximize: 1 x1 ;\n1 x1 >= 1 ;\n", f"line 1, column 1: 'maximize:': {MINIMISE}"),
+    ("opb", b"minimize: 1 x1 ;\n1 x1 >= 1 ;\n", "line 1, column 1: 'minimize:': write min:"),
+    ("opb", b"MIN: 1 x1 ;\n1 x1 >= 1 ;\n", "line 1, column 1: 'MIN:': write min:"),
     ("opb", b"* a comment\nsoft: 9 ;\n[2] 1 x1 >= 1 ;\n", f"line 2, column 1: 'soft:': {NO_SOFT}"),
-    ("opb", b"min: 1 x1 ;\n1 x1\n* between\n 2 x2 > 1 ;\n", "line 4, column 7: '>'"),
+    ("opb", b"min: 1 x1 ;\n1 x1\n* between\n 2 x2 > 1 ;\n", f"line 4, column 7: '>': {AT_LEAST}"),
+    ("opb", b"1 x1 1 x2 <2 ;\n", f"line 1, column 11: '<': {AT_MOST}"),
+    ("opb", b"1 x1 => 1 ;\n", "line 1, column 6: '=>': write >="),
+    ("opb", b"1 x1 =< 1 ;\n", "line 1, column 6: '=<': write <="),
+    ("opb", b"1 x1 == 1 ;\n", "line 1, column 6: '==': write ="),
+    ("opb", b"x1 + x2 >= 1 ;\n", f"line 1, column 1: 'x1': {WEIGH}"),
+    ("opb", b"min: -x1 ;\n", f"line 1, column 6: '-x1': {WEIGH}"),
+    ("opb", b"1 x1 + 1 x2 >= 1 ;\n", f"line 1, column 6: '+': {SIGN}"),
+    ("opb", b"1 x1 >= - 1 ;\n", f"line 1, column 9: '-': {SIGN}"),
+    ("opb", b"2*x1 >= 1 ;\n", f"line 1, column 1: '2*x1': {PART}"),
+    ("opb", b"1 x1 -2~x2 >= 1 ;\n", f"line 1, column 6: '-2~x2': {PART}"),
+    ("opb", b"2 * x1 >= 1 ;\n", f"line 1, column 3: '*': {PART}"),
+    ("opb", b"1 x1 * x2 >= 1 ;\n", f"line 1, column 6: '*': {NO_PRODUCT}"),
+    ("opb", b"min: 1.5 x1 ;\n", f"line 1, column 6: '1.5': {MAKE_WHOLE}"),
+    ("opb", b"1 x1 >= 0.5 ;\n", f"line 1, column 9: '0.5': {MAKE_WHOLE}"),
+    ("opb", b"1 apple >= 1 ;\n", f"line 1, column 3: 'apple': {RENAME}"),
+    ("opb", b"1 x1 >= x2 ;\n", f"line 1, column 9: 'x2': {MOVE_LEFT}"),
+    ("opb", b"1 x1 >= 1 x2 ;\n", f"line 1, column 11: 'x2': {MOVE_LEFT}"),
+    ("opb", b"1 x1 1 x2 ;\n", f"line 1, column 11: ';': {RELATE}"),
+    ("opb", b"1 x1 >= 1\n1 x2 >= 1 ;\n", f"line 2, column 1: '1': {END}"),
     ("opb", b"min: 1 x1\n 2 x2 ; foo >= 1 ;\n", "line 2, column 9: 'foo'"),
     ("cnf", b"p cnf 2 1\na 1 0\n", "line 2, column 1: 'a'"),
-    ("opb", b"1 x1>=1;2 ~x2=;\n", "line 1, column 15: ';'"),
-    ("opb", b"1 x1 >= 1", ""),
+    ("opb", b"1 x1>=1;2 ~x2=;\n", f"line 1, column 15: ';': {RELATE}"),
+    ("opb", b"1 x1 >= 1", "line 1: end each statement with ;"),
+    ("cnf", b"p cnf 2 1\n1 2\n", "line 2: end each clause and each cube with 0"),
+    ("opb", b"1 x1 >= 1 ;\nmin: 1 x1 ;\n", "line 2: put the one objective in front of all constraints"),
+    ("opb", b"1 x1 >= 1 ;\n85070591730234615865843651857942052863 x1 >= 1 ;", f"line 2: {SMALL_SUMS}"),
+    ("opb", b"* #variable= 1048577 #constraint= 0\n", f"line 1: {LIMITS}"),
+    ("cnf", b"1 2 0\n", "line 1: write p cnf VARIABLES CLAUSES before all clauses"),
+    ("icnf", b"1 2 0\n", "line 1: write p inccnf before all clauses"),
+    ("icnf", b"p inccnf\na 1 0\n1 2 0\n", "line 3: put all clauses before the first cube"),
     ("opb", b"1 x1 x2 >= 1 ;", f"line 1, column 6: 'x2': {NO_PRODUCT}"),
     ("opb", b"min: 1 x1; 1 x1>=1;\n2 x1 3 ~x2\n* x3 x3\n  ~x1 >= 1 ;\n", f"line 4, column 3: '~x1': {NO_PRODUCT}"),
     ("opb", b"1 x1 >= 1 ;\n1 x1 1 x2\n* x0\n2 ~x01048577>=1;\n", f"line 4, column 3: '~x01048577': {TO_MOST}"),
@@ -38,7 +87,8 @@ PLACED = [
     ("opb", b"1 x99999999999999999999999999 >= 1 ;", f"line 1, column 3: 'x99999999999999999999999999': {TO_MOST}"),
     ("cnf", b"c 9\np cnf 2 2\n1 2 0\n-1\nc 9\n-3 0\n", "line 6, column 1: '-3': variables are numbered from 1 to 2"),
     ("icnf", b"p inccnf\n9 2 0\na 1 -1048577 0\n", f"line 3, column 5: '-1048577': {TO_MOST}"),
-    ("cnf", b"p cnf 2 3\n1 2 0\n", ""),
+    ("cnf", b"c 0 0\np cnf 2 3\n1 2 0 -1 00\n%\n0\n", "line 3: the header says 3 clauses, and there are 2"),
+    ("cnf", b"p cnf 2 1\n1 0\n2 0\n", "line 3: the header says 1 clauses, and there are 2"),
     ("cnf", b"p cnf 2 2\n1 2 0\n-1\n+2 0\n", "line 4, column 1: '+2'"),
     ("icnf", b"p inccnf\n1 2 0\na 1 x 0\n", "line 3, column 5: 'x'"),
     ("cnf", b"p cnf 1 1\n-0 0\n", "line 2, column 1: '-0'"),

@@ -21,7 +21,7 @@ sys.dont_write_bytecode = True
 sys.path.insert(0, str(Path(__file__).resolve().parents[1]))
 from lib import PROGRAMS, built, name_of, ran, reason, side_by_side, version
 from lib.formats import Refused, read
-from lib.hinted_texts import BEGUN, IS_MARKED, IS_WCNF, NO_PRODUCT, NO_SOFT, PLACED, TO_MOST
+from lib.hinted_texts import BEGUN, IS_MARKED, IS_WCNF, MINIMISE, NO_PRODUCT, NO_SOFT, PART, PLACED, TO_MOST
 from lib.reports import TIE, digest, index_of, part, run_again
 
 FULL = "/dev/full"  # takes no byte
@@ -265,7 +265,7 @@ PBCUBE = [
     # refused texts, with a hint where there is one
     PRODUCT,
     hinted("over.opb", "BadVariable", f"line 1, column 8: 'x0': {TO_MOST}"),
-    hinted("maximum.opb", "Syntax", "line 1, column 1: 'max:': write min: of the negated sum"),
+    hinted("maximum.opb", "Syntax", f"line 1, column 1: 'max:': {MINIMISE}"),
     hinted("soft.opb", "Syntax", f"line 1, column 1: 'soft:': {NO_SOFT}"),
     hinted("marked.opb", "Syntax", f"marked.opb {IS_MARKED}"),
     hinted("weighted.wcnf", "Unfinished", f"weighted.wcnf {IS_WCNF}"),
@@ -281,7 +281,7 @@ PBCUBE = [
         f"c refused: Unfinished at line 1\n{UNSUPPORTED}",
         "pbcube: one_clause.cnf begins as DIMACS CNF: --format cnf reads it\n",
     ),
-    Row("older_spelling.opb", f"c refused: Syntax at line 2\n{UNSUPPORTED}", "pbcube: line 2, column 1: '+1*x1'\n"),
+    Row("older_spelling.opb", f"c refused: Syntax at line 2\n{UNSUPPORTED}", f"pbcube: line 2, column 1: '+1*x1': {PART}\n"),
     Row(
         "--format cnf tie.opb",
         f"c refused: BadHeader at line 1\n{UNSUPPORTED}",

@@ -18,12 +18,21 @@ pub enum Beginning {
     /// It has the first bytes of what bzip2 writes.
     #[error("is compressed by bzip2: bunzip2 it first")]
     Bzip2,
+    /// It has the first bytes of what zstd writes.
+    #[error("is compressed by zstd: unzstd it first")]
+    Zstd,
     /// It has the bytes that editors put before texts in Unicode.
     #[error("begins with a byte order mark: save it as ASCII, without one")]
     ByteOrderMark,
     /// Its first line that is no comment is the header of WCNF, or a hard clause of its newer form.
     #[error("begins as WCNF, which is not read: write it as OPB, with the weights in min:")]
     Wcnf,
+    /// Its first line that is no comment begins an objective of LP.
+    #[error("begins as LP, which is not read: the client pbcube-lp solves it")]
+    Lp,
+    /// Its first line that is no comment begins a section of MPS.
+    #[error("begins as MPS, which is not read: save it as LP, which the client pbcube-lp solves")]
+    Mps,
     /// Its first line that is no comment is the header of DIMACS CNF.
     #[error("begins as DIMACS CNF: --format cnf reads it")]
     Cnf,
@@ -44,8 +53,11 @@ impl Beginning {
             Beginning::Gzip
             | Beginning::Xz
             | Beginning::Bzip2
+            | Beginning::Zstd
             | Beginning::ByteOrderMark
-            | Beginning::Wcnf => false,
+            | Beginning::Wcnf
+            | Beginning::Lp
+            | Beginning::Mps => false,
             Beginning::Cnf => format == Format::Cnf,
             Beginning::Icnf => format == Format::Icnf,
             Beginning::Opb => format == Format::Opb,
@@ -63,11 +75,40 @@ pub fn begins_as(text: &[u8]) -> Option<Beginning> {
         if let Some(begins) = header(line) {
             return Some(begins);
         }
-        if !line.is_empty() && !line.starts_with(b"c") && !line.starts_with(b"*") {
-            return None;
+        if !line.is_empty() && !is_comment(line) {
+            return foreign_section(text, line);
         }
     }
     None
+}
+
+/// Whether a line is a comment of some format.
+fn is_comment(line: &[u8]) -> bool {
+    line.starts_with(b"c") || line.starts_with(b"*") || line.starts_with(b"\\")
+}
+
+/// Which format that is not read has this line as its first one. LP ends no statement with a mark, as OPB does.
+fn foreign_section(text: &[u8], line: &[u8]) -> Option<Beginning> {
+    let word = line.fields().next()?;
+    if is_among(word, &OBJECTIVES) && text.find_byte(b';').is_none() {
+        Some(Beginning::Lp)
+    } else if is_among(word, &["name", "rows", "objsense"]) {
+        Some(Beginning::Mps)
+    } else {
+        None
+    }
+}
+
+/// The words that begin an objective of LP.
+const OBJECTIVES: [&str; 8] = [
+    "min", "minimize", "minimise", "minimum", "max", "maximize", "maximise", "maximum",
+];
+
+/// Whether the word is one of these, in any case.
+pub fn is_among(word: &[u8], words: &[&str]) -> bool {
+    words
+        .iter()
+        .any(|it| word.eq_ignore_ascii_case(it.as_bytes()))
 }
 
 /// What a text is by its first bytes alone.
@@ -78,6 +119,8 @@ fn first_bytes(text: &[u8]) -> Option<Beginning> {
         Some(Beginning::Xz)
     } else if text.starts_with(b"BZh") {
         Some(Beginning::Bzip2)
+    } else if text.starts_with(b"\x28\xb5\x2f\xfd") {
+        Some(Beginning::Zstd)
     } else if is_marked(text) {
         Some(Beginning::ByteOrderMark)
     } else {

@@ -54,3 +54,29 @@ fn may_stand(line: &[u8], bounds: Range<usize>, may_be_mark: bool) -> bool {
         None => are_digits(word) || (may_be_mark && word == b"a".as_slice()),
     }
 }
+
+/// How many clauses end in the text, which has a header. A line that begins with `%` ends the text.
+pub fn clauses(text: &[u8]) -> u64 {
+    let mut count: u64 = 0;
+    for line in text.lines() {
+        let line = line.trim_start();
+        if line.starts_with(b"%") {
+            break;
+        }
+        if !line.starts_with(b"c") && !line.starts_with(b"p") {
+            count = count.saturating_add(ends(line));
+        }
+    }
+    count
+}
+
+/// How many clauses end on the line.
+fn ends(line: &[u8]) -> u64 {
+    let mut count: u64 = 0;
+    for word in line.fields() {
+        if word.iter().all(|byte| *byte == b'0') {
+            count = count.saturating_add(1);
+        }
+    }
+    count
+}

@@ -6,6 +6,7 @@ ghost use Rattle.pb_hint.specs.Places.{StandsIn};
 use crate::advice::Advice;
 use crate::beginnings::{Beginning, begins_as};
 use crate::places::{Place, locate, moved, start_of_line};
+use crate::rules::Rule;
 use crate::{dimacs, opb, products, variables};
 use pb_inst::MAX_VARS;
 use pb_read::{Format, ReadFault, ReadKind};
@@ -24,10 +25,13 @@ pub enum Hint<'t> {
     /// Such a word, and what to write in its place.
     #[error("{0}: {1}")]
     Mend(Place<'t>, Advice),
+    /// The line of the fault, and the rule that it does not keep to.
+    #[error("line {0}: {1}")]
+    Keep(u64, Rule),
 }
 
 /// A hint on a text that was refused in this format, for this fault, if there is one to give. It names another format than this
-/// one, or a word that stands in the text where it says. The word is likely the one to mend, but need not be.
+/// one, or a word that stands in the text where it says, or a rule. The word is likely the one to mend, but need not be.
 pub fn hint_on<'t>(format: Format, text: &'t [u8], fault: ReadFault) -> Option<Hint<'t>>
     ensures another_format { (begins : _) → result ≡ Some (Hint.Begins begins) → is_of begins format ≡ false }
     ensures place { (place : _) → result ≡ Some (Hint.At place) → StandsIn text.now place }
@@ -38,28 +42,118 @@ pub fn hint_on<'t>(format: Format, text: &'t [u8], fault: ReadFault) -> Option<H
             return Some(Hint::Begins(begins));
         }
     }
-    let place = locate(text, word_at_fault(format, text, fault)?)?;
-    match advice_on(format, text, fault.kind, place.word) {
+    match word_at_fault(format, text, fault) {
+        Some(word) => hint_at(text, word),
+        None => Some(Hint::Keep(fault.line, broken_rule(format, text, fault.kind)?)),
+    }
+}
+
+/// A hint on a file of cubes over `vars` variables that was refused for this fault, if there is one to give. A word that it shows
+/// stands in the text where it says.
+pub fn hint_on_cubes<'t>(text: &'t [u8], vars: u32, fault: ReadFault) -> Option<Hint<'t>>
+    ensures place { (place : _) → result ≡ Some (Hint.At place) → StandsIn text.now place }
+    ensures advised { (place : _) → (advice : _) → result ≡ Some (Hint.Mend place advice) → StandsIn text.now place }
+{
+    match word_in_cubes(text, vars, fault) {
+        Some(word) => hint_at(text, word),
+        None => Some(Hint::Keep(fault.line, broken_rule_of_cubes(fault.kind)?)),
+    }
+}
+
+/// A word that is likely to have caused a fault, and what to write in its place, where that is known.
+#[derive(Drop)]
+struct Culprit {
+    bounds: Range<usize>,
+    advice: Option<Advice>,
+}
+
+/// The hint on this word of the text.
+fn hint_at<'t>(text: &'t [u8], word: Culprit) -> Option<Hint<'t>>
+    ensures begins { (begins : _) → result ≡ Some (Hint.Begins begins) → ⊥ }
+    ensures place { (place : _) → result ≡ Some (Hint.At place) → StandsIn text.now place }
+    ensures advised { (place : _) → (advice : _) → result ≡ Some (Hint.Mend place advice) → StandsIn text.now place }
+{
+    let place = locate(text, word.bounds)?;
+    match word.advice {
         Some(advice) => Some(Hint::Mend(place, advice)),
         None => Some(Hint::At(place)),
     }
 }
 
-/// The bounds of the word that is likely to have caused the fault.
-fn word_at_fault(format: Format, text: &[u8], fault: ReadFault) -> Option<Range<usize>> {
+/// The word of the text that is likely to have caused the fault.
+fn word_at_fault(format: Format, text: &[u8], fault: ReadFault) -> Option<Culprit> {
     let start = start_of_line(text, fault.line);
     let rest = text.get(start..)?;
-    let bounds = match fault.kind {
+    let (bounds, advice) = match fault.kind {
         ReadKind::Syntax | ReadKind::Unfinished if format.is_clausal() => {
-            dimacs::misplaced(rest, format == Format::Icnf)?
+            (dimacs::misplaced(rest, format == Format::Icnf)?, None)
         }
         // What a token of OPB may be depends on those before it, which may stand on earlier lines.
-        ReadKind::Syntax | ReadKind::Unfinished => return opb::misplaced(text),
-        ReadKind::NonLinear => products::second_literal(rest)?,
-        ReadKind::BadVariable => variables::misnumbered(format, rest, greatest(format, text)?)?,
+        ReadKind::Syntax | ReadKind::Unfinished => return token_at_fault(text),
+        ReadKind::NonLinear => (products::second_literal(rest)?, Some(Advice::Linearise)),
+        ReadKind::BadVariable => {
+            let greatest = greatest(format, text)?;
+            let bounds = variables::misnumbered(format, rest, greatest)?;
+            (bounds, Some(Advice::Renumber(greatest)))
+        }
         _ => return None,
     };
-    Some(moved(bounds, start))
+    let bounds = moved(bounds, start);
+    Some(Culprit { bounds, advice })
+}
+
+/// The first token of OPB that cannot stand where it does.
+fn token_at_fault(text: &[u8]) -> Option<Culprit> {
+    let token = opb::misplaced(text)?;
+    let word = text.get(token.bounds.start..token.bounds.end)?;
+    let advice = token.advice(word);
+    let bounds = token.bounds;
+    Some(Culprit { bounds, advice })
+}
+
+/// The word of the cubes that is likely to have caused the fault.
+fn word_in_cubes(text: &[u8], vars: u32, fault: ReadFault) -> Option<Culprit> {
+    let start = start_of_line(text, fault.line);
+    let rest = text.get(start..)?;
+    let (bounds, advice) = match fault.kind {
+        ReadKind::Syntax => (dimacs::misplaced(rest, true)?, None),
+        ReadKind::BadVariable => {
+            let greatest = u64::from(vars);
+            let bounds = variables::misnumbered(Format::Icnf, rest, greatest)?;
+            (bounds, Some(Advice::Renumber(greatest)))
+        }
+        _ => return None,
+    };
+    let bounds = moved(bounds, start);
+    Some(Culprit { bounds, advice })
+}
+
+/// The rule that a text of this format does not keep to where it has such a fault.
+fn broken_rule(format: Format, text: &[u8], kind: ReadKind) -> Option<Rule> {
+    match kind {
+        ReadKind::Unfinished if format.is_clausal() => Some(Rule::EndClauses),
+        ReadKind::Unfinished => Some(Rule::EndStatements),
+        ReadKind::LateObjective => Some(Rule::ObjectiveFirst),
+        ReadKind::TooLarge => Some(Rule::SmallSums),
+        ReadKind::TooMany => Some(Rule::Limits),
+        ReadKind::BadHeader if format == Format::Icnf => Some(Rule::IcnfHeader),
+        ReadKind::BadHeader => Some(Rule::CnfHeader),
+        ReadKind::TooFewClauses | ReadKind::TooManyClauses => {
+            let told = variables::clauses_told(text)?;
+            Some(Rule::ClauseCount(told, dimacs::clauses(text)))
+        }
+        ReadKind::ClauseAfterCube => Some(Rule::ClausesFirst),
+        _ => None,
+    }
+}
+
+/// The rule that a file of cubes does not keep to where it has such a fault.
+fn broken_rule_of_cubes(kind: ReadKind) -> Option<Rule> {
+    match kind {
+        ReadKind::Syntax | ReadKind::Unfinished => Some(Rule::CubeLine),
+        ReadKind::TooMany => Some(Rule::Limits),
+        _ => None,
+    }
 }
 
 /// The greatest number that a variable may have.
@@ -67,16 +161,5 @@ fn greatest(format: Format, text: &[u8]) -> Option<u64> {
     match format {
         Format::Cnf => variables::told(text),
         Format::Opb | Format::Icnf => Some(u64::from(MAX_VARS)),
-    }
-}
-
-/// What to write in place of the word that caused the fault, where that is known.
-fn advice_on(format: Format, text: &[u8], kind: ReadKind, word: &[u8]) -> Option<Advice> {
-    match kind {
-        ReadKind::NonLinear => Some(Advice::Linearise),
-        ReadKind::BadVariable => Some(Advice::Renumber(greatest(format, text)?)),
-        _ if word == b"max:".as_slice() => Some(Advice::Minimise),
-        _ if word == b"soft:".as_slice() => Some(Advice::Harden),
-        _ => None,
     }
 }

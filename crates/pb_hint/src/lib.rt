@@ -8,9 +8,12 @@ mod hints;
 mod opb;
 mod places;
 mod products;
+mod rules;
+mod spelling;
 mod variables;
 
 pub use advice::Advice;
 pub use beginnings::Beginning;
-pub use hints::{Hint, hint_on};
+pub use hints::{Hint, hint_on, hint_on_cubes};
 pub use places::Place;
+pub use rules::Rule;

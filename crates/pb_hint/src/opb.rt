@@ -1,6 +1,8 @@
 //! Finding the first token of OPB that cannot stand where it does.
 //! Source: [OPB]
+use crate::advice::Advice;
 use crate::places::moved;
+use crate::spelling::{advice_on_spelling, is_part_of_term};
 use bstr::ByteSlice;
 use std::ops::Range;
 
@@ -21,15 +23,51 @@ enum Expected {
     End,
 }
 
+/// A token that cannot stand where it does, and what can.
+#[derive(Drop)]
+pub struct StrayToken {
+    pub bounds: Range<usize>,
+    expected: Expected,
+}
+
+impl StrayToken {
+    /// What to write in place of this word, which is the token.
+    pub fn advice(&self, word: &[u8]) -> Option<Advice> {
+        if let Some(advice) = advice_on_spelling(word) {
+            return Some(advice);
+        }
+        let is_literal = is_literal(word);
+        match self.expected {
+            Expected::Start if word.starts_with(b"*") => Some(Advice::Separate),
+            Expected::Literal { .. } if word == b"*".as_slice() => Some(Advice::Part),
+            Expected::AfterLiteral { .. } if word == b"*".as_slice() => Some(Advice::Linearise),
+            Expected::Start | Expected::ObjectiveNumber if is_part_of_term(word) => {
+                Some(Advice::Weigh)
+            }
+            Expected::AfterLiteral { objective: false } | Expected::Bound
+                if word == b";".as_slice() => { Some(Advice::Relate) }
+            Expected::Bound | Expected::End if is_literal => Some(Advice::MoveLeft),
+            Expected::End if is_number(word) || word == b"min:".as_slice() => Some(Advice::End),
+            Expected::Literal { .. } | Expected::AfterLiteral { .. } if is_name(word) => {
+                Some(Advice::Rename)
+            }
+            _ => None,
+        }
+    }
+}
+
 /// The first token that no statement can have at its place. Products pass, since they are a fault of their own.
-pub fn misplaced(text: &[u8]) -> Option<Range<usize>> {
+pub fn misplaced(text: &[u8]) -> Option<StrayToken> {
     let mut expected = Expected::Start;
     let mut start: usize = 0;
     for line in text.lines_with_terminator() {
         if !line.trim_start().starts_with(b"*") {
             match misplaced_on(line, expected) {
                 Ok(after) => expected = after,
-                Err(bounds) => return Some(moved(bounds, start)),
+                Err(StrayToken { bounds, expected }) => {
+                    let bounds = moved(bounds, start);
+                    return Some(StrayToken { bounds, expected });
+                }
             }
         }
         start = start.saturating_add(line.len());
@@ -38,7 +76,7 @@ pub fn misplaced(text: &[u8]) -> Option<Range<usize>> {
 }
 
 /// What is expected after the tokens of a line, or where on it the first misplaced one stands.
-fn misplaced_on(line: &[u8], expected: Expected) -> Result<Expected, Range<usize>> {
+fn misplaced_on(line: &[u8], expected: Expected) -> Result<Expected, StrayToken> {
     let mut expected = expected;
     let mut start = None;
     for (at, byte) in line.iter().enumerate() {
@@ -72,27 +110,39 @@ pub fn ends_word(byte: u8) -> bool {
 }
 
 /// What is expected after the mark at this place, if it is one: the end of a statement or a relation.
-fn after_mark(line: &[u8], at: usize, expected: Expected) -> Result<Expected, Range<usize>> {
+fn after_mark(line: &[u8], at: usize, expected: Expected) -> Result<Expected, StrayToken> {
     let next = at.saturating_add(1);
+    let last = at.saturating_sub(1);
     let before = at.checked_sub(1).and_then(|it| line.get(it)).copied();
     let relation = match line.get(at).copied() {
         Some(b';') => return after_end(at..next, expected),
-        Some(b'>' | b'<') if line.get(next) != Some(&b'=') => return Err(at..next),
+        // One mark too many is shown with the one before it.
+        Some(b'>' | b'<' | b'=') if before == Some(b'=') => {
+            let bounds = last..next;
+            return Err(StrayToken { bounds, expected });
+        }
+        Some(b'>' | b'<') if line.get(next) != Some(&b'=') => {
+            let bounds = at..next;
+            return Err(StrayToken { bounds, expected });
+        }
         Some(b'>' | b'<') => at..next.saturating_add(1),
         Some(b'=') if before != Some(b'>') && before != Some(b'<') => at..next,
         _ => return Ok(expected),
     };
     match expected {
         Expected::Start | Expected::AfterLiteral { objective: false } => Ok(Expected::Bound),
-        _ => Err(relation),
+        _ => Err(StrayToken {
+            bounds: relation,
+            expected,
+        }),
     }
 }
 
-fn after_end(bounds: Range<usize>, expected: Expected) -> Result<Expected, Range<usize>> {
+fn after_end(bounds: Range<usize>, expected: Expected) -> Result<Expected, StrayToken> {
     match expected {
         Expected::ObjectiveNumber | Expected::AfterLiteral { objective: true } | Expected::End =>
             Ok(Expected::Start),
-        _ => Err(bounds),
+        _ => Err(StrayToken { bounds, expected }),
     }
 }
 
@@ -101,7 +151,7 @@ fn after_word(
     line: &[u8],
     bounds: Range<usize>,
     expected: Expected,
-) -> Result<Expected, Range<usize>> {
+) -> Result<Expected, StrayToken> {
     let word = line.get(bounds.start..bounds.end).unwrap_or_default();
     match expected {
         Expected::Start if word == b"min:".as_slice() => Ok(Expected::ObjectiveNumber),
@@ -113,16 +163,25 @@ fn after_word(
             Ok(Expected::Literal { objective })
         }
         Expected::Bound if is_number(word) => Ok(Expected::End),
-        _ => Err(bounds),
+        _ => Err(StrayToken { bounds, expected }),
     }
 }
 
 fn is_number(word: &[u8]) -> bool {
-    let digits = match word.first() {
+    are_digits(unsigned(word))
+}
+
+/// The word without a sign before it.
+pub fn unsigned(word: &[u8]) -> &[u8] {
+    match word.first() {
         Some(b'+' | b'-') => word.get(1..).unwrap_or_default(),
         _ => word,
-    };
-    are_digits(digits)
+    }
+}
+
+/// Whether a word begins as a name does.
+fn is_name(word: &[u8]) -> bool {
+    word.first().is_some_and(|byte| byte.is_ascii_alphabetic())
 }
 
 /// Whether a word is a variable or a negated one.

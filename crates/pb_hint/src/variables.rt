@@ -7,11 +7,20 @@ use std::ops::Range;
 
 /// The number of variables that the header of a formula tells.
 pub fn told(text: &[u8]) -> Option<u64> {
+    number_in_header(text, 2)
+}
+
+/// The number of clauses that the header of a formula tells.
+pub fn clauses_told(text: &[u8]) -> Option<u64> {
+    number_in_header(text, 3)
+}
+
+/// The number at this place of the header, whose first word has place 0.
+fn number_in_header(text: &[u8], place: usize) -> Option<u64> {
     for line in text.lines() {
         let mut words = line.fields();
         if words.next() == Some(b"p".as_slice()) {
-            let _ = words.next();
-            return number_of(words.next()?);
+            return number_of(words.nth(place.saturating_sub(1))?);
         }
     }
     None

@@ -1,0 +1,59 @@
+//! What to write in place of words that other formats have, or that are written by hand.
+//! Source: [OPB]
+use crate::advice::Advice;
+use crate::beginnings::is_among;
+use crate::opb::{are_digits, is_literal, unsigned};
+use bstr::ByteSlice;
+
+/// What to write in place of a word, wherever it stands, if its spelling tells.
+pub fn advice_on_spelling(word: &[u8]) -> Option<Advice> {
+    if let Some(advice) = advice_on_mark(word) {
+        return Some(advice);
+    }
+    if word == b"soft:".as_slice() {
+        return Some(Advice::Harden);
+    }
+    let name = word.strip_suffix(b":").unwrap_or(word);
+    if is_among(name, &["min", "minimize", "minimise"]) && word != b"min:".as_slice() {
+        return Some(Advice::Write("min:"));
+    }
+    if is_among(name, &["max", "maximize", "maximise"]) {
+        return Some(Advice::Minimise);
+    }
+    advice_on_number(unsigned(word))
+}
+
+/// What to write in place of signs and relations.
+fn advice_on_mark(word: &[u8]) -> Option<Advice> {
+    match word {
+        b"+" | b"-" => Some(Advice::Sign),
+        b">" => Some(Advice::AtLeast),
+        b"<" => Some(Advice::AtMost),
+        b"=>" => Some(Advice::Write(">=")),
+        b"=<" => Some(Advice::Write("<=")),
+        b"==" => Some(Advice::Write("=")),
+        _ => None,
+    }
+}
+
+/// What to write in place of a fraction, or of a number and a literal in one word. The word has no sign before it.
+fn advice_on_number(word: &[u8]) -> Option<Advice> {
+    let digits = word.iter().take_while(|byte| byte.is_ascii_digit()).count();
+    let rest = word.get(digits..).unwrap_or_default();
+    if digits == 0 {
+        return None;
+    }
+    let factor = rest.strip_prefix(b"*").unwrap_or(rest);
+    if is_literal(factor) || rest == b"*".as_slice() {
+        return Some(Advice::Part);
+    }
+    match rest.strip_prefix(b".") {
+        Some(fraction) if fraction.is_empty() || are_digits(fraction) => Some(Advice::MakeWhole),
+        _ => None,
+    }
+}
+
+/// Whether the word is a literal, with a sign or without.
+pub fn is_part_of_term(word: &[u8]) -> bool {
+    is_literal(unsigned(word))
+}
