@@ -126,6 +126,15 @@ def word_faults(path, room):
         yield f"pbcube-lp {words}", "" if end == expected else f"{end} and not {expected}"
 
 
+def manual_fault():
+    """The manual page of pbcube-lp, where its synopsis or its list has other options than the help."""
+    page = (TOP / "docs/pbcube-lp.1").read_text()
+    synopsis, listed = re.split(r"^\.Sh (?:DESCRIPTION|OPTIONS)$", page, flags=re.M)[::2]
+    helped = {*re.findall(r"--(\w+)", ran([CLIENTS / "pbcube-lp", "--help"]).out)}
+    told = [{*re.findall(r"\\-(\w+)", synopsis)}, {*re.findall(r"^\.It Fl (?:\w , Fl )?\\-(\w+)", listed, re.M)}]
+    return "" if told == [helped, helped] else f"{told} and not {helped}"
+
+
 def stopped_fault(room):
     """Where pbcube goes on when pbcube-lp, which waits for it, is told to end."""
     sleeper, number = room / "sleeper", room / "number"
@@ -500,6 +509,7 @@ def checks(path, room):
     yield from random_lp_faults(path)
     yield from lp_faults(path)
     yield from word_faults(path, room)
+    yield "pbcube-lp, its manual page", manual_fault()
     yield "pbcube-lp, stopped", stopped_fault(room)
     yield from timed_faults(room)
     yield from flatzinc_faults(path, room)
