@@ -32,7 +32,7 @@ pbcube_task --nodes B Make at most B decisions in each piece, 0 to 1000000000; n
 pbcube_task --task I The number of this task, from 0 and below T
 pbcube_task --tasks T The number of tasks among which the pieces are dealt in turn
 pbcube_task --exchange DIR A folder in which the tasks tell each other their best assignments; none by default
-pbcube_join --format FORMAT How FILE is written: opb, cnf or icnf
+pbcube_join --format FORMAT How FILE and the reports are written: opb, cnf or icnf
 pbcube_join --pieces N The number of pieces, 1 to 1048576; by default that of the index
 pbcube_join --tasks T The reports are those of T tasks, from 1 on, as pbcube_task writes them; not with --pieces
 """

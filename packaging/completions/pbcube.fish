@@ -16,7 +16,7 @@ complete -c pbcube_task -l nodes -x -d 'Make at most B decisions in each piece, 
 complete -c pbcube_task -l task -x -d 'The number of this task, from 0 and below T'
 complete -c pbcube_task -l tasks -x -d 'The number of tasks among which the pieces are dealt in turn'
 complete -c pbcube_task -l exchange -x -a '(__fish_complete_directories)' -d 'A folder in which the tasks tell each other their best assignments; none by default'
-complete -c pbcube_join -l format -x -a 'opb cnf icnf' -d 'How FILE is written: opb, cnf or icnf'
+complete -c pbcube_join -l format -x -a 'opb cnf icnf' -d 'How FILE and the reports are written: opb, cnf or icnf'
 complete -c pbcube_join -l pieces -x -d 'The number of pieces, 1 to 1048576; by default that of the index'
 complete -c pbcube_join -l tasks -x -d 'The reports are those of T tasks, from 1 on, as pbcube_task writes them; not with --pieces'
 complete -c pbcube -s h -l help -d 'Print help'
