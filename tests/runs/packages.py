@@ -37,6 +37,7 @@ VERSION = version()
 SHARED = f"libpbcube.so.{VERSION}"
 SONAME = f"libpbcube.so.{VERSION.split('.')[0]}"
 LIBRARY = C / "out" / SHARED
+PACKING = 300  # seconds, after which it is taken to hang
 OLDEST_GLIBC = 5  # 2.5, before which no wheel for x86_64 can name one
 PLANNER = TOP / "examples/c/planner.c"
 PLANNED = PLANNER.with_suffix(".expected").read_text()
@@ -363,7 +364,7 @@ def from_wheel(folder, out):
 def packed(folder):
     """The packages, made twice, and each used."""
     outs = [folder / "out", folder / "again"]
-    ends = side_by_side(lambda out: ran([TOP / "package", "--as-built", out], env=ENVIRONMENT), outs)
+    ends = side_by_side(lambda out: ran([TOP / "package", "--as-built", out], env=ENVIRONMENT, timeout=PACKING), outs)
     if any(it.status for it in ends):
         return [f"package: {it}" for it in ends]
     first, second = ({it.name: hashlib.sha256(it.read_bytes()).hexdigest() for it in out.iterdir()} for out in outs)
