@@ -10,10 +10,11 @@ import sys
 import time
 from dataclasses import dataclass
 from enum import Enum
-from typing import Callable, Iterator
+from typing import Callable
 
 FIRST_BUDGET = 250  # decisions of the first search where the time is limited
-GROWTH = 4  # of the budget from one search to the next
+GROWTH = 4  # of the budget from one search to the next, unless that would not end in time
+SAFE_SHARE = 0.8  # of the decisions that fit into the time that is left, since some take longer than others
 GREATEST_BUDGET = 1_000_000_000  # that pbcube takes
 
 
@@ -80,31 +81,29 @@ class Program:
         return cls(words.program, words.workers, words.split, words.nodes), words
 
     def report(self, opb: str, tell: Tell = lambda *_: None) -> Report:
-        """The report on this text in OPB, or `NoAnswer`. Where the time is limited it is the best one of searches with budgets that
-        grow: pbcube writes nothing before it ends, so the last of them may be ended without a report."""
+        """The report on this text in OPB, or `NoAnswer`."""
         if self.seconds is None:
             return self._search(opb, self.nodes, None, tell)
         if not 0 <= self.seconds < math.inf:
             raise NoAnswer(f"a time limit is a number of seconds, 0 or more, and not {self.seconds}")
-        deadline, best = time.monotonic() + self.seconds, NOTHING
-        for budget in self._budgets():
-            try:
-                found = self._search(opb, budget, deadline, tell)
-            except subprocess.TimeoutExpired:
-                tell(self._in_words(budget), None)
-                break
-            best = found if found.is_better(best) else best
-            if best.ends():
-                break
-        return best
+        return self._best(opb, time.monotonic() + self.seconds, tell)
 
-    def _budgets(self) -> Iterator[int | None]:
-        """The budgets of one search after another. Each is a few times that before, up to that of the whole."""
-        budget, greatest = FIRST_BUDGET, GREATEST_BUDGET if self.nodes is None else self.nodes
-        while budget < greatest:
-            yield budget
-            budget *= GROWTH
-        yield self.nodes
+    def _best(self, opb: str, deadline: float, tell: Tell) -> Report:
+        """The best report by the deadline: pbcube writes nothing before it ends, so searches have budgets that grow, up to the whole."""
+        best, budget, greatest = NOTHING, FIRST_BUDGET, GREATEST_BUDGET if self.nodes is None else self.nodes
+        while True:
+            begun, nodes = time.monotonic(), budget if budget < greatest else self.nodes
+            try:
+                found = self._search(opb, nodes, deadline, tell)
+            except subprocess.TimeoutExpired:
+                tell(self._in_words(nodes), None)
+                return best
+            best = found if found.is_better(best) else best
+            if best.ends() or nodes == self.nodes:
+                return best
+            ended = time.monotonic()
+            fitting = int(SAFE_SHARE * budget * (deadline - ended) / (ended - begun))
+            budget = min(budget * GROWTH, fitting) if fitting > budget else budget * GROWTH
 
     def _search(self, opb: str, budget: int | None, deadline: float | None, tell: Tell) -> Report:
         """The report of one search. `TimeoutExpired` where the deadline comes first."""

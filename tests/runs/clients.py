@@ -199,7 +199,7 @@ def timed_faults(room):
 
     begun = time.monotonic()
     budgets = [f"--workers=2 --nodes={it} --cubes c /dev/stdin" for it in (*COSTS, 16000)]
-    found = searched(workers=2, words=("--cubes", "c"), seconds=1)
+    found = searched(workers=2, words=("--cubes", "c"), seconds=4)  # of which the first three take a small part
     yield "a time limit", "" if found == ([2, 3, 1, None], 1, budgets) and time.monotonic() - begun < SECONDS / 2 else str(found)
     found = searched(nodes=1000, seconds=SECONDS)
     yield "a time limit and a budget", "" if found == ([2, 3], 2, [f"--nodes={it} /dev/stdin" for it in (250, 1000)]) else str(found)
