@@ -302,7 +302,7 @@ def from_debian_package(folder, out):
     bad += differs([usr / "bin/pbcube", usr / "share/doc/pbcube/examples/tie.opb"], ANSWER, status=30, env={})
     bad += other_glibc(package.name, ran(["dpkg-deb", "-f", package, "Depends"]).out, map(program, PROGRAMS))
     bad += same_files(usr, libraries) + callers_in_c(folder, usr, libraries) + by_clients(folder, usr)
-    bad += differs(["lintian", "--fail-on", "error,warning", package], "") if is_here("lintian") else []
+    bad += differs(["lintian", "--fail-on", "error,warning", package], "", timeout=PACKING) if is_here("lintian") else []
     place = {"PYTHONPATH": str(usr / "lib/python3/dist-packages"), "LD_LIBRARY_PATH": str(libraries)}
     bad += by_python(sys.executable, SONAME, env={**ENVIRONMENT, **place, "HOME": str(folder)})
     if may_install:
