@@ -55,6 +55,7 @@ STEPS = [
     Step("pieces", "tests/runs/pieces.py"),
     Step("tasks", "tests/runs/tasks.py"),
     Step("examples", "tests/runs/examples.py"),
+    Step("completions", "tests/runs/completions.py"),
     Step("commands", "tests/runs/commands.py"),
     Step("builds", "tests/builds.py"),
     Step("instances", "tests/instances.py"),

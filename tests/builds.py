@@ -145,6 +145,27 @@ def broken_builds(tree):
     yield "a name that is none is refused", tree.run("prove", "none")[0] == 2
 
 
+def cleanings(tree):
+    kept = lambda: [it.parent.parent.name for it in (tree.top / "crates").glob("*/out/incremental")]  # noqa: E731
+    yield "proofs are kept, and that is told after a build", len(kept()) == len(LINES) and "kept for the next" in told_by_a_build(tree)
+    status, said, told = tree.run("prove", "--clean")
+    yield "./prove --clean takes them away, and tells how much", (status, said, kept()) == (0, "", []) and "taken away: " in told
+    tree.calls()
+    yield "what is built stays, and nothing is proved again", tree.run("prove")[0] == 0 and not tree.calls()
+    yield "it is still run", tree.run("pbcube")[1] == "proved\n"
+    yield "a second time there is nothing", tree.run("prove", "--clean")[2] == "prove: taken away: 0 MB\n"
+    tree.write("high", "// changed\n" * 100)
+    yield "a changed crate is proved from nothing", tree.run("prove")[0] == 0 and ["high", ""] in [[it[0], it[4]] for it in tree.calls()]
+    yield "--clean stands alone", tree.run("prove", "--clean", "pbcube")[0] == 2
+
+
+def told_by_a_build(tree):
+    """What ./prove says on standard error where a crate was changed."""
+    (tree.top / "crates/high/out/incremental/large").write_bytes(bytes(1 << 20))
+    tree.write("high", "// changed before\n" * 100)
+    return tree.run("prove")[2]
+
+
 def judgements(tree):
     of_rt = "7 passed, 0 failed (by rt)\n"
     status, said, _ = tree.run("test")
@@ -163,7 +184,7 @@ def main():
     count = 0
     with tempfile.TemporaryDirectory(prefix="pbcube-builds-") as room:
         tree = Repository(Path(room))
-        for part in (unproved_runs, whole_builds, broken_builds, judgements):
+        for part in (unproved_runs, whole_builds, broken_builds, cleanings, judgements):
             for what, holds in part(tree):
                 count += 1
                 wrong += [] if holds else [what]

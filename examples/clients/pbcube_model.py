@@ -11,9 +11,9 @@ import math
 import re
 from dataclasses import dataclass
 from fractions import Fraction
-from typing import Mapping, Sequence, Tuple
+from typing import Callable, Mapping, Sequence, Tuple
 
-from pbcube_program import NoAnswer, Program, Status
+from pbcube_program import NoAnswer, Program, Report, Status
 
 GREATEST_SUM = 2**126 - 1  # of the absolute numbers of a row, once they are whole
 Terms = Sequence[Tuple[Fraction, str]]  # coefficients and names, which may come again
@@ -109,18 +109,38 @@ class Model:
             lines.append(f"{terms}{row.relation} {rest} ;")
         return "\n".join([*lines, ""])
 
-    def solve(self, program: Program = Program()) -> Answer:
-        """What pbcube answers, or `NoAnswer`, also where its values break a row."""
-        report = program.report(self.opb())
-        if report.true is None:
-            return Answer(report.status, {}, None)
-        above = {name: sum(weight for weight, bit in bits if bit in report.true) for name, bits in self._bits.items()}
-        values = {name: least + above[name] for name, least in self._least.items()}
-        for row in self.rows:
+    def size(self) -> tuple[int, int]:
+        """How many variables and rows the text in OPB has."""
+        return self._count, len(self.rows)
+
+    def solve(self, program: Program = Program(), tell: Callable[[str], None] = lambda _: None) -> Answer:
+        """What pbcube answers, or `NoAnswer`, also where its values break a row. `tell` is handed a line on each search."""
+        report = program.report(self.opb(), lambda search, found: tell(f"{search}: {self._in_words(found)}"))
+        values = self._values(report)
+        for row in self.rows if report.true is not None else ():
             if not _HOLDS[row.relation](_value(row.terms, values), row.bound):
                 raise NoAnswer(f"{row.name}: the values that {program.path} wrote break it")
-        objective = _value(self.objective.terms, values) + self.objective.constant if self.objective else None
-        return Answer(report.status, values, objective)
+        return Answer(report.status, values, self._objective_at(report, values))
+
+    def _values(self, report: Report) -> dict[str, int]:
+        """The values by name, none where nothing was found."""
+        if report.true is None:
+            return {}
+        above = {name: sum(weight for weight, bit in bits if bit in report.true) for name, bits in self._bits.items()}
+        return {name: least + above[name] for name, least in self._least.items()}
+
+    def _objective_at(self, report: Report, values: Mapping[str, int]) -> Fraction | None:
+        """The objective, None where there is none or nothing was found."""
+        if self.objective is None or report.true is None:
+            return None
+        return _value(self.objective.terms, values) + self.objective.constant
+
+    def _in_words(self, report: Report | None) -> str:
+        """How a search ended."""
+        if report is None:
+            return "ended by the time limit"
+        objective = self._objective_at(report, self._values(report))
+        return report.status.value if objective is None else f"{report.status.value}, objective {objective}"
 
 
 def _value(terms: Terms, values: Mapping[str, int]) -> Fraction:

@@ -3,11 +3,19 @@
 from __future__ import annotations
 
 import argparse
+import math
 import signal
 import subprocess
 import sys
+import time
 from dataclasses import dataclass
 from enum import Enum
+from typing import Callable
+
+FIRST_BUDGET = 250  # decisions of the first search where the time is limited
+GROWTH = 4  # of the budget from one search to the next, unless that would not end in time
+SAFE_SHARE = 0.8  # of the decisions that fit into the time that is left, since some take longer than others
+GREATEST_BUDGET = 1_000_000_000  # that pbcube takes
 
 
 class NoAnswer(Exception):
@@ -25,46 +33,109 @@ class Status(Enum):
 
 @dataclass(frozen=True)
 class Report:
-    """What pbcube wrote: the status, and the numbers of the variables that are true, None where nothing was found."""
+    """What pbcube wrote: the status, the numbers of the variables that are true, None where nothing was found, and the cost, None
+    without an objective."""
 
     status: Status
     true: frozenset[int] | None
+    cost: int | None = None
+
+    def ends(self) -> bool:
+        """Whether a search with more decisions has nothing to add. Without an objective one assignment is as good as another."""
+        return self.status in (Status.OPTIMUM, Status.UNSATISFIABLE) or (self.true is not None and self.cost is None)
+
+    def is_better(self, other: Report) -> bool:
+        """Whether it ends the search, or tells more than the other of two that do not."""
+        return self.ends() or (self.true is not None and (other.cost is None or self.cost < other.cost))
+
+
+NOTHING = Report(Status.UNKNOWN, None)
+Tell = Callable[[str, "Report | None"], None]  # is handed what a search was and its report, None where the time limit ended it
 
 
 @dataclass(frozen=True)
 class Program:
-    """How pbcube is called: its path, or its name on the PATH, and its options, None for the default."""
+    """How pbcube is called: its path, or its name on the PATH, its options, None for the default, and further words of the command
+    line. It is ended after `seconds` where they are given."""
 
     path: str = "pbcube"
     workers: int | None = None
     split: int | None = None
     nodes: int | None = None
+    words: tuple[str, ...] = ()
+    seconds: float | None = None
 
     @classmethod
-    def from_words(cls, about: str) -> tuple[Program, str]:
-        """The program and the file that the command line names. Wrong words end the process with status 2."""
+    def from_words(cls, about: str, **flags: str) -> tuple[Program, argparse.Namespace]:
+        """The program, and the words of the command line: `file`, and whether each of the flags is there, whole or as its first letter.
+        Wrong words end the process with status 2."""
         parser = argparse.ArgumentParser(description=about, allow_abbrev=False)
         parser.add_argument("--program", default="pbcube", help="the program pbcube, a path or a name on the PATH")
         parser.add_argument("-p", "--workers", type=int, metavar="W", help="threads that share the work, 1 to 64")
         parser.add_argument("--split", type=int, metavar="K", help="divide the work into 2^K pieces, 0 to 12")
         parser.add_argument("--nodes", type=int, metavar="B", help="search each piece with at most B decisions")
+        for flag, does in flags.items():
+            parser.add_argument(f"-{flag[0]}", f"--{flag}", action="store_true", help=does)
         parser.add_argument("file", metavar="FILE")
         words = parser.parse_args()
-        return cls(words.program, words.workers, words.split, words.nodes), words.file
+        return cls(words.program, words.workers, words.split, words.nodes), words
 
-    def report(self, opb: str) -> Report:
+    def report(self, opb: str, tell: Tell = lambda *_: None) -> Report:
         """The report on this text in OPB, or `NoAnswer`."""
-        options = [f"--{name}={number}" for name, number in vars(self).items() if name != "path" and number is not None]
+        if self.seconds is None:
+            return self._search(opb, self.nodes, None, tell)
+        if not 0 <= self.seconds < math.inf:
+            raise NoAnswer(f"a time limit is a number of seconds, 0 or more, and not {self.seconds}")
+        return self._best(opb, time.monotonic() + self.seconds, tell)
+
+    def _best(self, opb: str, deadline: float, tell: Tell) -> Report:
+        """The best report by the deadline: pbcube writes nothing before it ends, so searches have budgets that grow, up to the whole."""
+        best, budget, greatest = NOTHING, FIRST_BUDGET, GREATEST_BUDGET if self.nodes is None else self.nodes
+        while True:
+            begun, nodes = time.monotonic(), budget if budget < greatest else self.nodes
+            try:
+                found = self._search(opb, nodes, deadline, tell)
+            except subprocess.TimeoutExpired:
+                tell(self._in_words(nodes), None)
+                return best
+            best = found if found.is_better(best) else best
+            if best.ends() or nodes == self.nodes:
+                return best
+            ended = time.monotonic()
+            fitting = int(SAFE_SHARE * budget * (deadline - ended) / (ended - begun))
+            budget = min(budget * GROWTH, fitting) if fitting > budget else budget * GROWTH
+
+    def _search(self, opb: str, budget: int | None, deadline: float | None, tell: Tell) -> Report:
+        """The report of one search. `TimeoutExpired` where the deadline comes first."""
+        begun = time.monotonic()
+        numbers = {"workers": self.workers, "split": self.split, "nodes": budget}
+        options = [f"--{name}={number}" for name, number in numbers.items() if number is not None]
+        command = [self.path, *options, *self.words, "/dev/stdin"]
+        left = None if deadline is None else deadline - begun
+        if left is not None and left <= 0:
+            raise subprocess.TimeoutExpired(command, 0)
         try:
-            ended = subprocess.run([self.path, *options, "/dev/stdin"], input=opb, capture_output=True, text=True)
+            ended = subprocess.run(command, input=opb, capture_output=True, text=True, timeout=left)
         except OSError as fault:
             raise NoAnswer(f"cannot run {self.path}: {fault.strerror}") from fault
-        lines = {line[:1]: line[2:] for line in ended.stdout.splitlines()}
-        if "c" in lines or "s" not in lines:
+        report = self._read(ended)
+        tell(f"{self._in_words(budget)}, {time.monotonic() - begun:.2f} seconds", report)
+        return report
+
+    def _in_words(self, budget: int | None) -> str:
+        return self.path if budget is None else f"{self.path}, at most {budget} decisions"
+
+    def _read(self, ended: subprocess.CompletedProcess[str]) -> Report:
+        """The report that it wrote, or `NoAnswer`."""
+        lines = {line[0]: line[2:] for line in ended.stdout.splitlines() if line and line[1:2] in ("", " ")}
+        try:
+            if "c" in lines:
+                raise ValueError
+            true = frozenset(int(word[1:]) for word in lines["v"].split() if word[0] == "x") if "v" in lines else None
+            return Report(Status(lines.get("s")), true, int(lines["o"]) if "o" in lines else None)
+        except ValueError:
             said = lines.get("c") or ended.stderr.strip().partition("\n")[0]
-            raise NoAnswer(f"{self.path}: {said or f'no report, status {ended.returncode}'}")
-        true = frozenset(int(word[1:]) for word in lines["v"].split() if word[0] == "x") if "v" in lines else None
-        return Report(Status(lines["s"]), true)
+            raise NoAnswer(f"{self.path}: {said or f'no report, status {ended.returncode}'}") from None
 
 
 def end_with_program() -> None:

@@ -9,7 +9,10 @@ Variables are binary, or integer between two bounds. PuLP hands numbers over as 
 from __future__ import annotations
 
 import shutil
+from dataclasses import replace
 from fractions import Fraction
+from functools import partial
+from typing import Sequence
 
 import pulp
 from pulp import constants
@@ -28,15 +31,27 @@ _STATUSES = {
 
 
 class PBCUBE(LpSolver):
-    """Calls the program pbcube, with its options of the same names. A budget (`nodes`) stands in the place of a time limit.
+    """Calls the program pbcube, with its options of the same names. Of PuLP's own arguments it takes `msg`, whether a line is printed
+    on each search, `timeLimit`, in seconds, and `options`, a list of further words of pbcube's command line.
 
     `answer` is what it said of the last problem, with the objective as a fraction.
     """
 
     name = "PBCUBE"
 
-    def __init__(self, program: str = "pbcube", workers: int | None = None, split: int | None = None, nodes: int | None = None):
-        super().__init__(msg=False)
+    def __init__(
+        self,
+        program: str = "pbcube",
+        workers: int | None = None,
+        split: int | None = None,
+        nodes: int | None = None,
+        msg: bool = False,
+        timeLimit: float | None = None,
+        options: Sequence[str] | None = None,
+    ):
+        if isinstance(options, str):
+            raise PulpSolverError(f"options is a list of words, as ['--cubes', 'FILE'], and not {options!r}")
+        super().__init__(msg=msg, timeLimit=timeLimit, options=list(options or ()))
         self.program = Program(program, workers, split, nodes)
         self.answer: Answer | None = None
 
@@ -45,15 +60,16 @@ class PBCUBE(LpSolver):
         return shutil.which(self.program.path) is not None
 
     def copy(self) -> PBCUBE:
-        """A solver that calls the same program."""
+        """A solver that calls the same program in the same way."""
         copied = super().copy()
-        copied.program = self.program
+        copied.program, copied.timeLimit = self.program, self.timeLimit
         return copied
 
     def actualSolve(self, lp: pulp.LpProblem) -> int:
         """Solves the problem, and sets its status and the values of its variables; `PulpSolverError` where it cannot be told."""
+        program = replace(self.program, words=tuple(map(str, self.options)), seconds=self.timeLimit)
         try:
-            self.answer = model_of(lp).solve(self.program)
+            self.answer = model_of(lp).solve(program, partial(print, flush=True) if self.msg else lambda _: None)
         except NoAnswer as fault:
             raise PulpSolverError(str(fault)) from fault
         status, solution = _STATUSES[self.answer.status]

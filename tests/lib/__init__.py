@@ -91,6 +91,14 @@ def side_by_side(work, *lists):
         return list(pool.map(work, *lists))
 
 
+def python_with_pulp():
+    """This Python or the system's, where it has PuLP."""
+    for python in (sys.executable, "/usr/bin/python3"):
+        if shutil.which(python) and not subprocess.run([python, "-c", "import pulp"], capture_output=True).returncode:
+            return python
+    return None
+
+
 def preloaded(folder, name):
     """The library of tests/preload/NAME.c, or nothing where there is no C compiler with the headers of the C library, which is said."""
     compiler = shutil.which(os.environ.get("CC", "cc"))

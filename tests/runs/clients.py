@@ -7,6 +7,7 @@ Random models in CPLEX's LP format, in PuLP and in MiniZinc are solved by pbcube
 CBC, and worked models of MiniZinc also by its Gecode. The commands of docs/CLIENTS.md must write what the `.expected` file beside
 their model has. PuLP, MiniZinc and mccs are tried where they are installed; a line says what is left out.
 """
+import io
 import os
 import random
 import re
@@ -16,12 +17,13 @@ import subprocess
 import sys
 import tempfile
 import time
+from contextlib import redirect_stdout
 from fractions import Fraction
 from pathlib import Path
 
 sys.dont_write_bytecode = True
 sys.path.insert(0, str(Path(__file__).resolve().parents[1]))
-from lib import SECONDS, TOP, Ended, program, ran, side_by_side
+from lib import SECONDS, TOP, Ended, program, python_with_pulp, ran, side_by_side
 from lib.client_models import Sum, decimal, drawn, lp_text, minizinc_text, whole
 
 CLIENTS = TOP / "examples/clients"
@@ -124,6 +126,15 @@ def word_faults(path, room):
         yield f"pbcube-lp {words}", "" if end == expected else f"{end} and not {expected}"
 
 
+def manual_fault():
+    """The manual page of pbcube-lp, where its synopsis or its list has other options than the help."""
+    page = (TOP / "docs/pbcube-lp.1").read_text()
+    synopsis, listed = re.split(r"^\.Sh (?:DESCRIPTION|OPTIONS)$", page, flags=re.M)[::2]
+    helped = {*re.findall(r"--(\w+)", ran([CLIENTS / "pbcube-lp", "--help"]).out)}
+    told = [{*re.findall(r"\\-(\w+)", synopsis)}, {*re.findall(r"^\.It Fl (?:\w , Fl )?\\-(\w+)", listed, re.M)}]
+    return "" if told == [helped, helped] else f"{told} and not {helped}"
+
+
 def stopped_fault(room):
     """Where pbcube goes on when pbcube-lp, which waits for it, is told to end."""
     sleeper, number = room / "sleeper", room / "number"
@@ -151,6 +162,7 @@ def shared_faults(path, room):
     greatest.rows.append(Row("great", [(Fraction(GREATEST_SUM - 2), "y")], ">=", Fraction(2)))
     yield "shared: the greatest numbers", differences(({"y": 1}, None), greatest.solve(Program(path)))
     lies = {"v -x1 x2 x3": "", "v x1 x2 -x3": "bounds of x: the values that {} wrote break it", "c refused: Memory": "{}: refused: Memory"}
+    lies |= dict.fromkeys(("s WRONG", "v xx", "o 1.5"), "{}: no report, status 0")
     for line, told in lies.items():
         liar = room / "liar"
         liar.write_text(f"#!/bin/sh\ncat > /dev/null\necho 's SATISFIABLE'\necho '{line}'\n")
@@ -164,6 +176,43 @@ def shared_faults(path, room):
     empty = Model()
     empty.integer("x", 2, 1)
     yield "shared: bounds without a number", differences(None, empty.solve(Program(path)))
+
+
+COSTS = {250: 2, 1000: 3, 4000: 1}  # of what the stand-in below finds with this budget; with a greater one it goes on for ever
+
+
+def timed_faults(room):
+    """Searches with a time limit, by a stand-in: their budgets grow, the best answer counts, and the last one is ended. Without an
+    objective, or with a status that leaves nothing open, one search is enough."""
+    stand_in, calls = room / "timed", room / "calls"
+    cases = "".join(f"*--nodes={budget}\\ *) cost={cost} ;; " for budget, cost in COSTS.items())
+    head = f'#!/bin/sh\ncat > /dev/null\necho "$*" >> {calls}\n'
+    stand_in.write_text(f'{head}case "$* " in {cases}*) exec sleep {SECONDS} ;; esac\necho "o $cost\ns SATISFIABLE\nv x1"\n')
+    stand_in.chmod(0o755)
+
+    def searched(**how):
+        """What each search was told to be and found, the last report, and how the stand-in was called."""
+        told = []
+        calls.write_text("")
+        report = Program(str(stand_in), **how).report("", lambda _, found: told.append(found and found.cost))
+        return told, report.cost, calls.read_text().split("\n")[:-1]
+
+    begun = time.monotonic()
+    budgets = [f"--workers=2 --nodes={it} --cubes c /dev/stdin" for it in (*COSTS, 16000)]
+    found = searched(workers=2, words=("--cubes", "c"), seconds=4)  # of which the first three take a small part
+    yield "a time limit", "" if found == ([2, 3, 1, None], 1, budgets) and time.monotonic() - begun < SECONDS / 2 else str(found)
+    found = searched(nodes=1000, seconds=SECONDS)
+    yield "a time limit and a budget", "" if found == ([2, 3], 2, [f"--nodes={it} /dev/stdin" for it in (250, 1000)]) else str(found)
+    found = searched(seconds=0)
+    yield "no time", "" if found == ([None], None, []) else str(found)
+    for seconds in (-1, float("nan"), float("inf")):
+        said = no_answer(lambda: searched(seconds=seconds))
+        told = f"a time limit is a number of seconds, 0 or more, and not {seconds}"
+        yield f"the time limit {seconds}", "" if said == told else f"told {said!r}"
+    for line, is_enough in {"s SATISFIABLE\nv x1": True, "s UNSATISFIABLE": True, "s UNKNOWN": False}.items():
+        stand_in.write_text(f"{head}echo '{line}'\n")
+        _, _, called = searched(nodes=300, seconds=SECONDS)
+        yield f"a time limit, and {line!r}", "" if len(called) == 2 - is_enough else f"{len(called)} searches"
 
 
 def no_answer(work):
@@ -254,7 +303,42 @@ def pulp_messages(pulp, solver, path):
     lp += 2 * whole <= 5
     told = [(lp.solve(it), lp.sol_status, whole.value()) for it in (solver(path), solver(path, nodes=0))]
     yield "PuLP: a budget", "" if told == [(1, 1, 2), (0, 0, None)] else str(told)
+    yield from pulp_words(pulp, solver, path)
     yield "PuLP: available", "" if solver(path).copy().available() and not solver("/no/pbcube").available() else "it is not told"
+
+
+def pulp_words(pulp, solver, path):
+    """PuLP's own arguments: `msg`, `timeLimit` and `options`, also of a copy."""
+    whole = pulp.LpVariable("w", 0, 3, "Integer")
+    lp = pulp.LpProblem("words", pulp.LpMaximize)
+    lp += 0.5 * whole
+    lp += 2 * whole <= 5
+    rows = (
+        ({}, ""),
+        ({"msg": True}, f"{path}, T seconds: OPTIMUM FOUND, objective 1\n"),
+        ({"msg": True, "timeLimit": SECONDS}, f"{path}, at most 250 decisions, T seconds: OPTIMUM FOUND, objective 1\n"),
+        ({"msg": True, "nodes": 0}, f"{path}, at most 0 decisions, T seconds: UNKNOWN\n"),
+        ({"msg": True, "timeLimit": 0}, f"{path}, at most 250 decisions: ended by the time limit\n"),
+        ({"options": ["--split", 1, "--workers=2"]}, ""),
+    )
+    for words, told in rows:
+        with redirect_stdout(io.StringIO()) as said:
+            status = lp.solve(solver(path, **words).copy())
+        is_open = words.get("nodes") == 0 or words.get("timeLimit") == 0
+        said = re.sub(r"\d+\.\d\d seconds", "T seconds", said.getvalue())
+        is_right = (status, whole.value(), said) == (*((0, None) if is_open else (1, 2)), told)
+        yield f"PuLP: {words}", "" if is_right else f"{status}, {whole.value()}, {said!r}"
+    refused = {
+        "options is a list of words, as ['--cubes', 'FILE'], and not '--split 1'": {"options": "--split 1"},
+        f"{path}: error: invalid value '13' for '--split <K>': 13 is not in 0..=12": {"options": ["--split", "13"]},
+        "a time limit is a number of seconds, 0 or more, and not -1": {"timeLimit": -1},
+    }
+    for told, words in refused.items():
+        try:
+            said = lp.solve(solver(path, **words))
+        except pulp.PulpSolverError as fault:
+            said = str(fault)
+        yield f"PuLP: {words}", "" if said == told else f"told {said!r}"
 
 
 # ---- MiniZinc
@@ -287,8 +371,36 @@ FLATZINC_FAULTS = {
 }
 
 
+FLATZINC_SATISFIED = "var 1..3: x :: output_var; solve satisfy;"
+ALL = "fzn-pbcube: -a asks for all solutions, and pbcube writes the first alone\n"
+STATISTICS = """%%%mzn-stat: initTime=T
+%%%mzn-stat: solveTime=T
+%%%mzn-stat: boolVariables=2
+%%%mzn-stat: propagators=1
+%%%mzn-stat: solutions=1
+%%%mzn-stat-end
+"""
+FLATZINC_FLAGS = {  # a text and a flag, with what is written then
+    (FLATZINC, "-a"): Ended(FLATZINC_ANSWER, "", 0),
+    (FLATZINC, "-i"): Ended(FLATZINC_ANSWER, "", 0),
+    (FLATZINC_SATISFIED, "-a"): Ended("x = 1;\n----------\n", ALL, 0),
+    (FLATZINC_SATISFIED, "-s"): Ended(f"x = 1;\n----------\n{STATISTICS}", "", 0),
+    ("var 1..3: x; constraint int_le(4, x); solve satisfy;", "-a"): Ended("=====UNSATISFIABLE=====\n", "", 0),
+}
+
+
+def without_times(end):
+    """The same end, with a letter in the place of each time of the statistics."""
+    return Ended(re.sub(r"Time=\d+\.\d+", "Time=T", end.out), end.err, end.status)
+
+
 def flatzinc_faults(path, room):
     """Texts in FlatZinc, without MiniZinc."""
+    for (text, flag), expected in FLATZINC_FLAGS.items():
+        file = room / "flags.fzn"
+        file.write_text(text)
+        end = without_times(ran([CLIENTS / "fzn-pbcube", "--program", path, flag, file]))
+        yield f"FlatZinc {text!r} {flag}", "" if end == expected else f"{end} and not {expected}"
     rows = {FLATZINC: Ended(FLATZINC_ANSWER, "", 0)}
     rows |= {text: Ended("=====ERROR=====\n", f"fzn-pbcube: {told}\n", 1) for text, told in FLATZINC_FAULTS.items()}
     files = {room / f"{number}.fzn": text for number, text in enumerate(rows)}
@@ -354,6 +466,9 @@ def minizinc_faults(path):
         is_told = f"fzn-pbcube: {told}\n" in end.err and end.out == "=====ERROR=====\n"
         yield f"MiniZinc {text}", "" if is_told else str(end)
     cut = solved_by("pbcube", WORKED[0], *called, "--nodes", "0").out
+    flags = solved_by("pbcube", FLATZINC_SATISFIED.replace(" :: output_var", ""), *called, "-a", "-s")
+    is_told = ALL in flags.err and "----------\n" in flags.out and "==========" not in flags.out and "%%%mzn-stat: solveTime=" in flags.out
+    yield "MiniZinc, -a and -s", "" if is_told else str(flags)
     yield "MiniZinc, a budget", "" if cut == "=====UNKNOWN=====\n" else repr(cut)
 
 
@@ -384,14 +499,6 @@ def is_here(command, python):
     return any(ending in command and found for ending, found in needs.items())
 
 
-def python_with_pulp():
-    """This Python or the system's, where it has PuLP."""
-    for python in (sys.executable, "/usr/bin/python3"):
-        if shutil.which(python) and not subprocess.run([python, "-c", "import pulp"], capture_output=True).returncode:
-            return python
-    return None
-
-
 def checks(path, room):
     """Each check's name and what is wrong."""
     python = python_with_pulp()
@@ -402,7 +509,9 @@ def checks(path, room):
     yield from random_lp_faults(path)
     yield from lp_faults(path)
     yield from word_faults(path, room)
+    yield "pbcube-lp, its manual page", manual_fault()
     yield "pbcube-lp, stopped", stopped_fault(room)
+    yield from timed_faults(room)
     yield from flatzinc_faults(path, room)
     yield from command_faults(path, room, python)
     if python:

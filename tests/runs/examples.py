@@ -23,7 +23,7 @@ from lib.examples import divisions_of, examples, with_workers
 from lib.shown_commands import SHOWN
 
 SPLITS = (0, 1, 6)  # of six variables: more pieces than workers
-FRESH = ["./pbcube examples/tie.opb", "./test quick", "./test"]  # a newcomer's first commands: the program, and its tests
+FRESH = ["./pbcube examples/tie.opb", "./prove", "./test quick", "./test"]  # a newcomer's first commands: the program, and its tests
 
 
 def example_rows():

@@ -3,11 +3,13 @@
 
     tests/runs/packages.py
 
-Below a prefix each caller has to find the library by itself: a C program by pkg-config and by CMake, Python by its place. All must be
-taken away again. Two packings must give the same bytes. From the archive the commands of README.md have to give their answer in an
-empty environment. The package for Debian is installed below a folder, and the wheel in a virtual environment, from no index. The
-packages must hold the programs and the library byte for byte, and these need no other library than the C library. What is not built
-must be named, or be proved in one call. What is not here, of a C compiler, pkg-config, CMake, readelf, dpkg and pip, is left out with a word.
+Below a prefix each caller has to find the library by itself: a C program by pkg-config and by CMake, Python by its place. The clients
+and a recipe for clusters must solve their examples from there, and each link of a page lead to a file. All must be taken away again.
+Two packings must give the same bytes. From the archive the commands of README.md have to give their answer in an empty environment.
+The package for Debian is installed below a folder, and the wheel in a virtual environment, from no index. lintian must find no fault.
+The packages must hold the programs and the library byte for byte, and these need no other library than the C library. What is not
+built must be named, or be proved in one call. What is not here, of a C compiler, pkg-config, CMake, readelf, dpkg, lintian, pip and
+what the clients serve, is left out with a word.
 """
 import base64
 import csv
@@ -28,13 +30,14 @@ from pathlib import Path
 sys.dont_write_bytecode = True
 sys.path.insert(0, str(Path(__file__).resolve().parents[1]))
 import lib
-from lib import PROGRAMS, TOP, Ended, program, ran, say, side_by_side, version
+from lib import PROGRAMS, TOP, Ended, kept, program, python_with_pulp, ran, say, side_by_side, version
 from lib.callers import C, PYTHON
 
 VERSION = version()
 SHARED = f"libpbcube.so.{VERSION}"
 SONAME = f"libpbcube.so.{VERSION.split('.')[0]}"
 LIBRARY = C / "out" / SHARED
+PACKING = 300  # seconds, after which it is taken to hang
 OLDEST_GLIBC = 5  # 2.5, before which no wheel for x86_64 can name one
 PLANNER = TOP / "examples/c/planner.c"
 PLANNED = PLANNER.with_suffix(".expected").read_text()
@@ -60,9 +63,25 @@ add_executable(static "{planner}")
 target_link_libraries(static pbcube::pbcube_static)
 """
 PYTHON_FOLDER = "lib/python*/site-packages/pbcube"
+DOCUMENTS, CLIENTS = "share/doc/pbcube", "examples/clients"
+PAGES = [*(TOP / "docs").glob("*.md"), *(TOP / it for it in ("README.md", "CHANGELOG.md", "tests/EDITS.md"))]
+LINK = re.compile(r"\]\((?!\w+:)([^)#\s]+)")
+
+
+def place_of_example(file):
+    """Where a file of examples/ is put: clients and recipes are programs too, so they do not lie among the documents."""
+    is_program = file.relative_to(TOP).parts[1] in ("clients", "cluster")
+    return f"share/pbcube/{file.relative_to(TOP / 'examples')}" if is_program else f"{DOCUMENTS}/{file.relative_to(TOP)}"
+
+
 PLACED = [
-    *(f"bin/{name}" for name in PROGRAMS),
-    *(f"share/man/man1/{name}.1" for name in PROGRAMS),
+    *(f"bin/{name}" for name in (*PROGRAMS, "pbcube-lp")),
+    *(f"share/man/man1/{name}.1" for name in (*PROGRAMS, "pbcube-lp")),
+    *(f"share/bash-completion/completions/{name}" for name in PROGRAMS),
+    *("share/zsh/site-functions/_pbcube", "share/fish/vendor_completions.d/pbcube.fish", "share/minizinc/solvers/pbcube.msc"),
+    *(f"{DOCUMENTS}/{it.relative_to(TOP)}" for it in PAGES),
+    *(place_of_example(it) for it in kept() if it.is_relative_to(TOP / "examples")),
+    *(f"{DOCUMENTS}/examples/{name}" for name in ("clients", "cluster")),
     *(f"lib/{name}" for name in ("libpbcube.a", "libpbcube.so", SONAME, SHARED)),
     *("lib/pkgconfig/pbcube.pc", "lib/cmake/pbcube/pbcubeConfig.cmake", "lib/cmake/pbcube/pbcubeConfigVersion.cmake"),
     "include/pbcube.h",
@@ -108,6 +127,33 @@ def by_cmake(folder, prefix):
     return [text for it in ("shared", "static") for text in differs([projects[VERSION] / "built" / it], PLANNED)]
 
 
+def broken_links(prefix):
+    """Links of the pages below a prefix that lead nowhere, and paths of its manual pages."""
+    for page in (prefix / DOCUMENTS).rglob("*.md"):
+        text = re.sub(r"(?ms)^```.*?^```$|`[^`\n]*`", "", page.read_text())
+        yield from (f"{page}: no {it}" for it in LINK.findall(text) if not (page.parent / it).exists())
+    for page in (TOP / "docs").glob("*.1"):
+        text = page.read_text()
+        named = [it if it.startswith("share/") else f"{DOCUMENTS}/{it}" for it in re.findall(r"^\.Pa ((?:share|docs)/\S+)", text, re.M)]
+        yield from (f"{page}: no {it}" for it in named if not (prefix / it).exists())
+
+
+def by_clients(folder, prefix):
+    """What is wrong with the clients below a prefix, a recipe and the pages, where the programs there are on the path."""
+    solvers, models = prefix / "share/minizinc/solvers", prefix / DOCUMENTS / CLIENTS
+    told = {**ENVIRONMENT, "PATH": f"{prefix / 'bin'}:{os.environ['PATH']}", "MZN_SOLVER_PATH": str(solvers), "HOME": str(folder)}
+    expected = {it.stem: it.read_text() for it in (TOP / CLIENTS).glob("*.expected")}
+    bad = [*broken_links(prefix)] + differs([prefix / "bin/pbcube-lp", models / "mixture.lp"], expected["mixture"], status=30, env=told)
+    if is_here("minizinc"):
+        bad += differs(["minizinc", "--solver", "pbcube", models / "jobs.mzn"], expected["jobs"], env=told)
+    if python := python_with_pulp():
+        bad += differs([python, models / "picnic.py"], expected["picnic"], env=told)
+    if is_here("parallel"):
+        words = [prefix / DOCUMENTS / "examples/tie.opb", "opb", "1", folder / f"pieces of {prefix.name}"]
+        bad += differs([prefix / "share/pbcube/cluster/parallel.sh", *words], ANSWER, status=30, env=told)
+    return bad
+
+
 def callers_in_c(folder, prefix, libraries):
     """The programs in C that find the library below a prefix."""
     room = folder / f"callers of {prefix.name}"
@@ -136,10 +182,11 @@ def installed(folder):
     bad = [f"install: {it} is not told" for it in expected if not any(place.match(str(it)) for place in places)]
     if second != Ended(f"{first.out}removed {older}\n", "", 0) or len(places) != len(PLACED) or older.exists():
         bad.append(f"install: {first} and then {second}")
-    bad += callers_in_c(folder, prefix, prefix / "lib")
+    bad += callers_in_c(folder, prefix, prefix / "lib") + by_clients(folder, prefix)
     package = next(prefix.glob(PYTHON_FOLDER), folder)
     bad += by_python(sys.executable, prefix / "lib" / SONAME, env={**ENVIRONMENT, "PYTHONPATH": str(package.parent)})
-    (package / "__pycache__").mkdir()
+    for it in (package, prefix / "share/pbcube/clients"):
+        (it / "__pycache__").mkdir(exist_ok=True)
     removed = ran([TOP / "install", "--remove", prefix])
     left = list(prefix.iterdir())
     say("./install, callers of what it put in place, and ./install --remove")
@@ -162,9 +209,11 @@ def installed_at_home(folder):
 def unbuilt_copy(top):
     """A copy of the repository, as far as it is packed, in which nothing is built."""
     top.mkdir()
-    for name in ("install", "package", "VERSION"):
+    for name in ("install", "package", "VERSION", "README.md", "CHANGELOG.md"):
         shutil.copy(TOP / name, top)
-    for name in ("packaging", "docs", "bindings"):
+    (top / "tests").mkdir()
+    shutil.copy(TOP / "tests/EDITS.md", top / "tests")
+    for name in ("packaging", "docs", "bindings", "examples"):
         shutil.copytree(TOP / name, top / name, ignore=shutil.ignore_patterns("target", "out"))
     return top
 
@@ -232,6 +281,7 @@ def from_archive(folder, out):
         bad += other_glibc(page, page.read_text(), map(program, PROGRAMS))
     place = {**ENVIRONMENT, "PYTHONPATH": str(unpacked / "lib/python3/site-packages")}
     bad += by_python(sys.executable, unpacked / "lib" / SONAME, env=place) + same_files(unpacked, unpacked / "lib")
+    bad += by_clients(folder, unpacked)
     say("the archive, unpacked elsewhere, in an empty environment")
     return bad
 
@@ -251,7 +301,8 @@ def from_debian_package(folder, out):
     bad = [f"dpkg: {ended}"] if ended.status else []
     bad += differs([usr / "bin/pbcube", usr / "share/doc/pbcube/examples/tie.opb"], ANSWER, status=30, env={})
     bad += other_glibc(package.name, ran(["dpkg-deb", "-f", package, "Depends"]).out, map(program, PROGRAMS))
-    bad += same_files(usr, libraries) + callers_in_c(folder, usr, libraries)
+    bad += same_files(usr, libraries) + callers_in_c(folder, usr, libraries) + by_clients(folder, usr)
+    bad += differs(["lintian", "--fail-on", "error,warning", package], "", timeout=PACKING) if is_here("lintian") else []
     place = {"PYTHONPATH": str(usr / "lib/python3/dist-packages"), "LD_LIBRARY_PATH": str(libraries)}
     bad += by_python(sys.executable, SONAME, env={**ENVIRONMENT, **place, "HOME": str(folder)})
     if may_install:
@@ -275,6 +326,15 @@ def wrong_record(wheel):
             yield f"{wheel.name}: RECORD of {name} is {rows.get(name)}"
 
 
+def wrong_metadata(wheel):
+    """What the wheel tells of itself that is not as the Python project has it, which has its own page."""
+    with zipfile.ZipFile(wheel) as packed:
+        told = packed.read(f"pbcube-{VERSION}.dist-info/METADATA").decode()
+    page = (PYTHON / "README.md").read_text()
+    lines = [f"Version: {VERSION}\n", "\nSummary: ", "\nRequires-Python: ", "\nDescription-Content-Type: text/markdown\n", f"\n\n{page}"]
+    return [f"{wheel.name}: METADATA has no {it!r}" for it in lines if it not in told]
+
+
 def has_pip():
     """Whether this Python has a pip that installs for another Python, and can make a virtual environment."""
     if not all(importlib.util.find_spec(it) for it in ("venv", "pip")):
@@ -285,7 +345,7 @@ def has_pip():
 def from_wheel(folder, out):
     """By pip, in a virtual environment, from no index."""
     wheel = next(out.glob("*.whl"))
-    bad = [*wrong_record(wheel), *other_glibc("wheel", wheel.name, [LIBRARY])]
+    bad = [*wrong_record(wheel), *wrong_metadata(wheel), *other_glibc("wheel", wheel.name, [LIBRARY])]
     if not has_pip():
         say("no venv here, or no pip from 22.3 on, so the wheel is not installed")
         return bad
@@ -304,7 +364,7 @@ def from_wheel(folder, out):
 def packed(folder):
     """The packages, made twice, and each used."""
     outs = [folder / "out", folder / "again"]
-    ends = side_by_side(lambda out: ran([TOP / "package", "--as-built", out], env=ENVIRONMENT), outs)
+    ends = side_by_side(lambda out: ran([TOP / "package", "--as-built", out], env=ENVIRONMENT, timeout=PACKING), outs)
     if any(it.status for it in ends):
         return [f"package: {it}" for it in ends]
     first, second = ({it.name: hashlib.sha256(it.read_bytes()).hexdigest() for it in out.iterdir()} for out in outs)
