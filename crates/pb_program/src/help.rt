@@ -34,8 +34,9 @@ pub const FILE_HELP: &str = "File of the instance; /dev/stdin reads standard inp
 pub const EXAMPLES_AND_STATUSES: &str = "\
 Cubes and the split divide the work into pieces, and the workers, which are
 threads, share the pieces. Without cubes and without a split there is one piece,
-which one worker searches. If the cubes and the split are accepted and no piece
-is cut, then neither they nor the number of workers changes a byte of the answer.
+which one worker searches. Start with a split of 4 for two workers, and of 8 for
+four. If the cubes and the split are accepted and no piece is cut, then neither
+they nor the number of workers changes a byte of the answer.
 
 With --nodes B the search of a piece stops where it needs a decision more than B:
 the piece is cut. Then the answer is the best assignment that was found, as
@@ -58,7 +59,7 @@ implications that circuits have, use a solver that learns clauses.
 Examples:
   pbcube instance.opb                          an OPB instance, by one worker
   pbcube --format cnf formula.cnf              a DIMACS CNF formula
-  pbcube --workers 4 --split 3 instance.opb    four workers on nine pieces
+  pbcube --workers 4 --split 8 instance.opb    four workers on 257 pieces
   pbcube --cubes cubes.txt instance.opb        pieces from a file of cubes
   pbcube --nodes 1000 instance.opb             at most 1000 decisions
 
