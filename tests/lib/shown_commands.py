@@ -48,7 +48,11 @@ SHOWN = [
         complaint="error: invalid value '13' for '--split <K>': 13 is not in 0..=12",
         status=2,
     ),
-    Shown("pbcube --split 4 examples/tie.opb", ("c refused split: BadSplit", "s UNSUPPORTED")),
+    Shown(
+        "pbcube --split 4 examples/tie.opb",
+        ("c refused split: BadSplit", "s UNSUPPORTED"),
+        complaint="pbcube: examples/tie.opb has 3 variables, too few for --split 4",
+    ),
     Shown("pbcube nothing.opb", complaint="pbcube: cannot read nothing.opb", status=1),
     Shown(
         "pbcube_task --split 2 --task 1 --tasks 2 examples/tie.opb",

@@ -21,7 +21,7 @@ sys.dont_write_bytecode = True
 sys.path.insert(0, str(Path(__file__).resolve().parents[1]))
 from lib import PROGRAMS, built, name_of, ran, reason, side_by_side, version
 from lib.formats import Refused, read
-from lib.hinted_texts import BEGUN, IS_MARKED, IS_WCNF, MINIMISE, NO_PRODUCT, NO_SOFT, PART, PLACED, TO_MOST
+from lib.hinted_texts import BEGUN, CUBE_LINE, IS_MARKED, IS_WCNF, MINIMISE, NO_PRODUCT, NO_SOFT, PART, PLACED, TO_MOST
 from lib.reports import TIE, digest, index_of, part, run_again
 
 FULL = "/dev/full"  # takes no byte
@@ -78,7 +78,9 @@ FILES = {
     "own_cube.icnf": "p inccnf\n1 2 0\na 1 0\n",
     "own_cubes.icnf": OWN_CUBES,
     "good.cubes": "a 1 0\n",
-    "over.cubes": "a 4 0\n",
+    "word.cubes": "a 1 0\na 1 x2 0\n",
+    "clause.cubes": "a 1 0\n1 2 0\n",
+    "open.cubes": "a 1 0\na 1 2\n",
     "second_over.cubes": "a 1 0\na 4 0\n",
     "nine.cubes": "a 2 0\n" * 9,
     "hundred.cubes": "a 2 0\n" * 100,
@@ -202,6 +204,11 @@ def hinted(words, kind, hint):
     return Row(words, f"c refused: {kind} at line 1\n{UNSUPPORTED}", f"pbcube: {hint}\n")
 
 
+def hinted_on_cubes(name, kind, hint):
+    """A row of a run that refuses the second line of this file of cubes, and tells this hint."""
+    return Row(f"--cubes {name} tie.opb", f"c refused cubes: {kind} at line 2\n{UNSUPPORTED}", f"pbcube: {name}: {hint}\n")
+
+
 def refusal(format, text):
     """The report on a text that is refused, by a reader of docs/FORMATS.md."""
     try:
@@ -223,35 +230,36 @@ def told_version(name, why=f": {NO_ROOM}"):
     return [Row("--version", told), Row("-V", told), Row("--version", err=f"{name}: cannot write{why}\n", status=1, out_to=FULL)]
 
 
+ONE_PIECE = "pbcube: one worker searches the one piece: --split divides the work among several\n"
 PRODUCT = hinted("product.opb", "NonLinear", f"line 1, column 6: 'x2': {NO_PRODUCT}")
 SHORT_HELP = """\
-Finds the least assignment of a pseudo-Boolean instance
+Finds the first optimal solution of a pseudo-Boolean instance
 
 Usage: pbcube [OPTIONS] <FILE>
 
 Arguments:
-  <FILE>  The file that holds the instance
+  <FILE>  File of the instance; /dev/stdin reads standard input
 
 Options:
-      --format <FORMAT>  How FILE is written: opb, cnf or icnf [default: opb]
-      --workers <W>      Workers, 1 to 64: the threads that share the work [default: 1]
+      --format <FORMAT>  Format of FILE: opb, cnf or icnf [default: opb]
+      --workers <W>      Number of threads that share the pieces, 1 to 64 [default: 1]
       --split <K>        Divide the work by the K most frequent variables, 0 to 12 [default: 0]
-      --cubes <FILE>     A file of cubes that divide the work, lines `a LITERALS 0`; none by default
-      --nodes <B>        Make at most B decisions in each piece, 0 to 1000000000; no limit by default
+      --cubes <FILE>     File of cubes that divide the work, with lines `a LITERALS 0`; none by default
+      --nodes <B>        Stop each piece after B decisions, 0 to 1000000000; no limit by default
   -h, --help             Print help (see more with '--help')
   -V, --version          Print version
 """
 LONG_HELP = """\
-Finds the least assignment of a pseudo-Boolean instance: among the assignments
-that meet every constraint those of the least cost, and among these the
-lexicographically first one (x1 first, 0 before 1). It writes the cost and the
-assignment, or that nothing is feasible, or which fault the input has.
+Finds an optimal solution of a pseudo-Boolean instance: a feasible assignment of
+least cost. If there are several, it is the lexicographically first one (x1 first,
+0 before 1). The program writes the cost and the assignment, or that the instance
+is infeasible, or what is wrong with the input.
 
 Usage: pbcube [OPTIONS] <FILE>
 """
 PBCUBE = [
     Row("tie.opb", SECOND, status=30),
-    Row("--format opb --workers 64 --split 0 no_objective.opb", "s SATISFIABLE\nv -x1 x2 -x3\n", status=10),
+    Row("--format opb --workers 1 --split 0 no_objective.opb", "s SATISFIABLE\nv -x1 x2 -x3\n", status=10),
     Row("none_feasible.opb", "s UNSATISFIABLE\n", status=20),
     Row("--format cnf --workers 3 --split 1 one_clause.cnf", "s SATISFIABLE\nv -1 2 0\n", status=10),
     Row("--format icnf own_cube.icnf", "s SATISFIABLE\nv -1 2 0\n", status=10),
@@ -274,8 +282,26 @@ PBCUBE = [
     hinted("packed.xz", "Unfinished", "packed.xz is compressed by xz: unxz it first"),
     hinted("packed.bz2", "Unfinished", "packed.bz2 is compressed by bzip2: bunzip2 it first"),
     *hinted_rows(),
-    Row("--cubes over.cubes tie.opb", f"c refused cubes: BadVariable at line 1\n{UNSUPPORTED}"),
-    Row("--split 2 none_feasible.opb", f"c refused split: BadSplit\n{UNSUPPORTED}"),
+    hinted_on_cubes("second_over.cubes", "BadVariable", "line 2, column 3: '4': variables are numbered from 1 to 3"),
+    hinted_on_cubes("word.cubes", "Syntax", "line 2, column 5: 'x2'"),
+    hinted_on_cubes("clause.cubes", "Syntax", f"line 2: {CUBE_LINE}"),
+    hinted_on_cubes("open.cubes", "Unfinished", f"line 2: {CUBE_LINE}"),
+    Row(
+        "--split 2 --cubes good.cubes none_feasible.opb",
+        f"c refused split: BadSplit\n{UNSUPPORTED}",
+        "pbcube: none_feasible.opb has 1 variables, too few for --split 2\n",
+    ),
+    # several workers on one piece
+    *(
+        Row(f"{words} tie.opb", SECOND, err, 30)
+        for words, err in (
+            ("--workers 4", ONE_PIECE),
+            ("--workers 64 --split 0", ONE_PIECE),
+            ("--workers 4 --split 1", ""),
+            ("--workers 4 --cubes good.cubes", ""),
+            ("--workers 1", ""),
+        )
+    ),
     Row(
         "one_clause.cnf",
         f"c refused: Unfinished at line 1\n{UNSUPPORTED}",
@@ -292,6 +318,8 @@ PBCUBE = [
     unread("broken.opb", "broken.opb"),
     unread("./none.opb", "./none.opb"),
     unread("''", ""),
+    unread("-", "-"),
+    unread("--workers 4 broken.opb", "broken.opb"),
     unread("--cubes none.cubes tie.opb", "none.cubes"),
     unread("--cubes broken.cubes tie.opb", "broken.cubes"),
     unread("--cubes none.cubes none.opb", "none.opb"),
@@ -313,9 +341,10 @@ PBCUBE = [
     refused("--workers 65 tie.opb", "65 is not in 1..=64"),
     refused("--workers two tie.opb", "'two'"),
     refused("--split 13 tie.opb", "13 is not in 0..=12"),
-    refused("--split -1 tie.opb", "'-1'"),
+    refused("--split -1 tie.opb", "'-1'", "\npbcube: --split takes a number from 0 to 12\n"),
     refused("--nodes 1000000001 tie.opb", "1000000001 is not in 0..=1000000000"),
-    refused("--nodes -1 tie.opb", "'-1'"),
+    refused("--nodes -1 tie.opb", "'-1'", "\npbcube: --nodes takes a number from 0 to 1000000000\n"),
+    refused("--workers -4 tie.opb", "'-4'", "\npbcube: --workers takes a number from 1 to 64\n"),
     refused("--nodes x tie.opb", "'x'"),
     refused("--split 1 --split 2 tie.opb", "multiple times"),
     refused("--format wbo tie.opb", "opb, cnf and icnf"),

@@ -1,23 +1,98 @@
-//! Hints on inputs that were refused.
+//! Hints on standard error.
+use crate::args::Line;
 use crate::files::Rewind;
-use pb_hint::{Hint, hint_on};
-use pb_read::{Format, read};
+use pb_hint::{Hint, hint_on, hint_on_cubes};
+use pb_inst::{MAX_CUBES, MAX_SPLIT, MAX_WORKERS};
+use pb_line::MAX_NODES;
+use pb_read::{Format, ReadFault, read, read_cubes};
 use std::alloc::Global;
-use std::io::{Read, Write};
+use std::io::{self, Read, Write};
 
-/// Writes one line to the standard error that may help with an input that was refused, if there is such a hint. The input is
-/// read again from its start for it. An input that cannot go back there, such as a pipe, has no hint, and faults on the way are
+/// Writes one line to the standard error where several workers have one piece. The cubes of an iCNF text are not known yet.
+pub fn tell_of_one_piece<E: Write>(line: &Line<'_>, err: &mut E) {
+    let options = &line.options;
+    let has_cubes = line.cubes.is_some() || options.format == Format::Icnf;
+    if options.workers.get() > 1 && options.split == 0 && !has_cubes {
+        let _ = writeln!(
+            err,
+            "pbcube: one worker searches the one piece: --split divides the work among several"
+        );
+    }
+}
+
+/// Writes one line to the standard error where the words were refused and an option has a negative number, which clap takes to be
+/// an option of its own.
+pub fn tell_of_negative<E: Write>(status: u8, words: &[&str], err: &mut E) {
+    if status != 2 {
+        return;
+    }
+    let mut option = "";
+    for word in words {
+        if is_negative(*word)
+            && let Some((least, most)) = range_of(option)
+        {
+            let _ = writeln!(
+                err,
+                "pbcube: {option} takes a number from {least} to {most}"
+            );
+            return;
+        }
+        option = *word;
+    }
+}
+
+fn is_negative(word: &str) -> bool {
+    match word.strip_prefix("-") {
+        Some(digits) => !digits.is_empty() && digits.bytes().all(|byte| byte.is_ascii_digit()),
+        None => false,
+    }
+}
+
+/// The least and the greatest number that the option of this name takes.
+fn range_of(option: &str) -> Option<(u64, u64)> {
+    if option == "--workers" {
+        Some((1, u64::from(MAX_WORKERS)))
+    } else if option == "--split" {
+        Some((0, u64::from(MAX_SPLIT)))
+    } else if option == "--nodes" {
+        Some((0, MAX_NODES))
+    } else {
+        None
+    }
+}
+
+/// Writes one line to the standard error that may help with inputs that were refused, if there is such a hint. The inputs are
+/// read again from their starts for it. An input that cannot go back there, such as a pipe, has no hint, and faults on the way are
 /// ignored.
 pub fn diagnose<I: Read + Rewind, E: Write>(
     alloc: Global,
-    name: &str,
-    format: Format,
+    line: &Line<'_>,
     input: &mut I,
+    cubes: &mut Option<I>,
     err: &mut E,
 ) {
-    if let Some(text) = read_again(alloc, input) {
-        diagnose_text(alloc, name, format, &text, err);
+    let Some(text) = read_again(alloc, input) else {
+        return;
+    };
+    let vars = match read(alloc, line.options.format, &text) {
+        Ok((instance, _)) => instance.vars(),
+        Err(fault) => {
+            let _ = tell_hint(line, &text, fault, err);
+            return;
+        }
+    };
+    if let (Some(name), Some(cubes)) = (line.cubes, cubes) {
+        match read_again(alloc, cubes) {
+            Some(text) => {
+                if let Err(fault) = read_cubes(alloc, &text, vars) {
+                    let _ = tell_hint_on_cubes(name, &text, vars, fault, err);
+                    return;
+                }
+            }
+            None => return,
+        }
     }
+    let _ = tell_of_division(line, vars, err);
 }
 
 /// All that the input has, from its start.
@@ -30,12 +105,44 @@ fn read_again<I: Read + Rewind>(alloc: Global, input: &mut I) -> Option<Vec<u8>>
     Some(text)
 }
 
-fn diagnose_text<E: Write>(alloc: Global, name: &str, format: Format, text: &[u8], err: &mut E) {
-    if let Err(fault) = read(alloc, format, text) {
-        let _ = match hint_on(format, text, fault) {
-            Some(Hint::Begins(beginning)) => writeln!(err, "pbcube: {name} {beginning}"),
-            Some(hint) => writeln!(err, "pbcube: {hint}"),
-            None => Ok(()),
-        };
+fn tell_hint<E: Write>(
+    line: &Line<'_>,
+    text: &[u8],
+    fault: ReadFault,
+    err: &mut E,
+) -> io::Result<()> {
+    match hint_on(line.options.format, text, fault) {
+        Some(Hint::Begins(beginning)) => writeln!(err, "pbcube: {} {beginning}", line.file),
+        Some(hint) => writeln!(err, "pbcube: {hint}"),
+        None => Ok(()),
+    }
+}
+
+fn tell_hint_on_cubes<E: Write>(
+    name: &str,
+    text: &[u8],
+    vars: u32,
+    fault: ReadFault,
+    err: &mut E,
+) -> io::Result<()> {
+    match hint_on_cubes(text, vars, fault) {
+        Some(hint) => writeln!(err, "pbcube: {name}: {hint}"),
+        None => Ok(()),
+    }
+}
+
+/// Tells why the cubes and the split of the line, each of which can be read, do not divide an instance of `vars` variables.
+fn tell_of_division<E: Write>(line: &Line<'_>, vars: u32, err: &mut E) -> io::Result<()> {
+    let (file, split) = (line.file, line.options.split);
+    if split > vars {
+        writeln!(
+            err,
+            "pbcube: {file} has {vars} variables, too few for --split {split}"
+        )
+    } else {
+        writeln!(
+            err,
+            "pbcube: there are at most {MAX_CUBES} cubes, with those of --split"
+        )
     }
 }

@@ -1,72 +1,73 @@
 //! What `-h` and `--help` say. Lines are broken here, since clap does not wrap its help.
 
 /// What the program does, for `-h`.
-pub const ABOUT: &str = "Finds the least assignment of a pseudo-Boolean instance";
+pub const ABOUT: &str = "Finds the first optimal solution of a pseudo-Boolean instance";
 
 /// What the program does, for `--help`.
 pub const LONG_ABOUT: &str = "\
-Finds the least assignment of a pseudo-Boolean instance: among the assignments
-that meet every constraint those of the least cost, and among these the
-lexicographically first one (x1 first, 0 before 1). It writes the cost and the
-assignment, or that nothing is feasible, or which fault the input has.";
+Finds an optimal solution of a pseudo-Boolean instance: a feasible assignment of
+least cost. If there are several, it is the lexicographically first one (x1 first,
+0 before 1). The program writes the cost and the assignment, or that the instance
+is infeasible, or what is wrong with the input.";
 
 /// What help says of `--format`.
-pub const FORMAT_HELP: &str = "How FILE is written: opb, cnf or icnf";
+pub const FORMAT_HELP: &str = "Format of FILE: opb, cnf or icnf";
 
 /// What help says of `--workers`.
-pub const WORKERS_HELP: &str = "Workers, 1 to 64: the threads that share the work";
+pub const WORKERS_HELP: &str = "Number of threads that share the pieces, 1 to 64";
 
 /// What help says of `--split`.
 pub const SPLIT_HELP: &str = "Divide the work by the K most frequent variables, 0 to 12";
 
 /// What help says of `--cubes`.
 pub const CUBES_HELP: &str =
-    "A file of cubes that divide the work, lines `a LITERALS 0`; none by default";
+    "File of cubes that divide the work, with lines `a LITERALS 0`; none by default";
 
 /// What help says of `--nodes`.
 pub const NODES_HELP: &str =
-    "Make at most B decisions in each piece, 0 to 1000000000; no limit by default";
+    "Stop each piece after B decisions, 0 to 1000000000; no limit by default";
 
 /// What help says of FILE.
-pub const FILE_HELP: &str = "The file that holds the instance";
+pub const FILE_HELP: &str = "File of the instance; /dev/stdin reads standard input";
 
 /// The end of `--help`: examples and exit statuses.
 pub const EXAMPLES_AND_STATUSES: &str = "\
-Cubes and the split divide the work into pieces among the workers, which are
-threads; without them there is one piece, for one worker. Where they are
-accepted and no piece is cut, neither they nor the number of workers change a
-byte of the answer.
+Cubes and the split divide the work into pieces, and the workers, which are
+threads, share the pieces. Without cubes and without a split there is one piece,
+which one worker searches. Start with a split of 4 for two workers, and of 8 for
+four. If the cubes and the split are accepted and no piece is cut, then neither
+they nor the number of workers changes a byte of the answer.
 
-With --nodes B a piece that needs more than B decisions is cut. Then the answer
-is the best that was found: s SATISFIABLE with its cost and values, or s UNKNOWN
-alone where nothing was. K pieces make at most B times K decisions in all. With
-several workers the bytes of a run in which a piece was cut may differ from run
-to run; those of other runs never do.
+With --nodes B the search of a piece stops where it needs a decision more than B:
+the piece is cut. Then the answer is the best assignment that was found, as
+s SATISFIABLE with its cost and values, or s UNKNOWN alone if none was found.
+K pieces take at most B times K decisions in all. If a piece is cut and there are
+several workers, the bytes may differ from run to run. Otherwise they never do.
 
-The cubes of an iCNF text divide the work and are no part of the instance; other
+The cubes of an iCNF file divide the work and are not part of the instance. Other
 tools read them as 'some cube must hold'.
 
-A text that is refused is answered too: the report names its fault and the line,
-and the exit status is 0. One line on standard error may then say what helps: in
-which format the text begins, or which word of the line cannot stand there.
+If an input is refused, the report names the fault and its line, and the exit
+status is 0. A line on standard error may add a hint: which format the file seems
+to have, or which word is wrong and what to write in its place.
 
-Nothing is learnt from conflicts. So a refutation takes as many decisions as a
-tree of them needs: ten pigeons in nine holes, as clauses, take seconds, and each
-hole more ten times as long. And the long chains of implications that circuits
-make want a solver that learns clauses.
+The solver learns nothing from conflicts. So a proof of infeasibility takes as
+many decisions as a search tree has: ten pigeons in nine holes, as clauses, take
+seconds, and each further hole takes ten times as long. For the long chains of
+implications that circuits have, use a solver that learns clauses.
 
 Examples:
   pbcube instance.opb                          an OPB instance, by one worker
   pbcube --format cnf formula.cnf              a DIMACS CNF formula
-  pbcube --workers 4 --split 3 instance.opb    four workers on nine pieces
+  pbcube --workers 4 --split 8 instance.opb    four workers on 257 pieces
   pbcube --cubes cubes.txt instance.opb        pieces from a file of cubes
   pbcube --nodes 1000 instance.opb             at most 1000 decisions
 
 Exit status:
   30  s OPTIMUM FOUND: the least cost, and the first assignment of that cost
-  20  s UNSATISFIABLE: nothing is feasible
-  10  s SATISFIABLE: there is no objective; the first feasible assignment;
-      or a piece was cut; the best assignment that was found
+  20  s UNSATISFIABLE: no assignment is feasible
+  10  s SATISFIABLE: the first feasible assignment, if there is no objective;
+      the best assignment that was found, if a piece was cut
    0  s UNSUPPORTED: the input, the cubes or the split are refused;
       s UNKNOWN: memory ran out, or a piece was cut and nothing was found;
       also after help and the version

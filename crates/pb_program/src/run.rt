@@ -10,7 +10,7 @@ ghost use Rattle.pb_solve.specs.Run.{Reports, ReportsFound};
 ghost use Rattle.pb_program.specs.Ending.{Ends, EndsWithoutMemory};
 
 use crate::args::Line;
-use crate::diagnose::diagnose;
+use crate::diagnose::{diagnose, tell_of_negative, tell_of_one_piece};
 use crate::faults::{ProgramFault, tell};
 use crate::files::{Files, Rewind};
 use crate::parse::line;
@@ -41,14 +41,18 @@ pub fn program<'a, R: Threads + Sync, F: Files, W: Write, E: Write>(
 {
     let line = match line(alloc, words) {
         Ok(line) => line,
-        Err(fault) => return end_without_run(&fault, out, err),
+        Err(fault) => {
+            let status = end_without_run(&fault, out, err);
+            tell_of_negative(status, words, err);
+            return status;
+        }
     };
-    let (mut input, cubes) = match fetch_files(&line, files) {
+    let (mut input, mut cubes) = match fetch_files(&line, files) {
         Ok(fetched) => fetched,
         Err(fault) => return end_at_fault(fault, err),
     };
-    match run_on_readers(rt, alloc, line.options, &mut input, cubes, out) {
-        Ok(ran) => end_of_run(alloc, &line, ran, &mut input, err),
+    match run_on_readers(rt, alloc, line.options, &mut input, &mut cubes, out) {
+        Ok(ran) => end_of_run(alloc, &line, ran, &mut input, &mut cubes, err),
         Err(fault) => end_at_fault(fault_on(&line, fault), err),
     }
 }
@@ -71,15 +75,15 @@ fn run_on_readers<R: Threads + Sync, I: Read + Drop, W: Write>(
     alloc: Global,
     options: Options,
     input: &mut I,
-    cubes: Option<I>,
+    cubes: &mut Option<I>,
     out: &mut Device<W>,
 ) -> Result<Ran, RunFault>
     requires { out.old.failed ≡ false }
     ensures headline { IfOk result (λ ran. ran.cut ≡ false → ran.status ≢ Status.Unknown
-        → Reports options.format (I.remaining input.old) (option_map (λ file. I.remaining file) cubes) options.split
+        → Reports options.format (I.remaining input.old) (option_map (λ file. I.remaining file) cubes.old) options.split
         (W.contents out.old.held) (W.contents out.new.held) ran.status) }
     ensures budgeted { IfOk result (λ ran. ran.cut ≡ true
-        → ReportsFound options.format (I.remaining input.old) (option_map (λ file. I.remaining file) cubes) options.split
+        → ReportsFound options.format (I.remaining input.old) (option_map (λ file. I.remaining file) cubes.old) options.split
         (W.contents out.old.held) (W.contents out.new.held) ran.status) }
     ensures no_budget { IfNone options.nodes (IfOk result (λ ran. ran.cut ≡ false)) }
     ensures memory { IfOk result (λ ran. ran.cut ≡ false → ran.status ≡ Status.Unknown
@@ -127,19 +131,22 @@ fn fault_on<'a>(line: &Line<'a>, fault: RunFault) -> ProgramFault<'a> {
     }
 }
 
-/// The end after a report. Where a text was refused, a hint goes to the standard error; neither the status nor what was written
-/// to the output depends on it.
+/// The end after a report. Where a text was refused, or workers had no work, a hint goes to the standard error; neither the
+/// status nor what was written to the output depends on it.
 fn end_of_run<I: Read + Rewind, E: Write>(
     alloc: Global,
     line: &Line<'_>,
     ran: Ran,
     input: &mut I,
+    cubes: &mut Option<I>,
     err: &mut E,
 ) -> u8
     ensures { result ≡ exit_status ran.status }
 {
     if ran.status == Status::Unsupported {
-        diagnose(alloc, line.file, line.options.format, input, err);
+        diagnose(alloc, line, input, cubes, err);
+    } else {
+        tell_of_one_piece(line, err);
     }
     ran.status.exit_status()
 }
