@@ -35,7 +35,7 @@ AMONG = {"feasible": 0, "least": 1}
 CUT = (1, 11, 21)
 """The statuses of a question that was cut, without and with something found, and with a core that may not be minimal."""
 NOTHING: Reply = (1, None, None, None)
-_FIRST_BUDGET = 1_000
+_FIRST_BUDGET = 200
 _GROWTH = 4
 _SAFE_SHARE = 0.8  # of the decisions that fit before a deadline, since some take longer than others
 _NOT_KNOWN = 3
@@ -95,6 +95,8 @@ class Search:
         self._library = library
         self._solver = library.pbcube_new()  # or None, where memory is refused
         self._has_objective = False
+        self._feasible: Search | None = None
+        self._rules: list[Any] = []  # those that it was not told of yet
 
     def __del__(self) -> None:
         self._library.pbcube_free(self._solver)
@@ -124,12 +126,25 @@ class Search:
     def _run_told(self, statements: list[Any], question: Question, nodes: int) -> Reply:
         for statement in statements:
             self._tell(*statement)
+        self._rules += (statement for statement in statements if statement[0] != "min")
         kind, numbers, other, variables = question
+        if kind == "fixed" and other == AMONG["feasible"] and self._has_objective:
+            return self._run_feasible(question, nodes)
         if self._library.pbcube_variables(self._solver) < variables:
             self._tell(">=", 0, array("q", (0, variables)))  # 0 times the last one
         given = array("i", numbers)
         ask = {"solve": self._solve, "explain": self._explain, "fixed": self._fixed}[kind]
         return ask((ctypes.c_int32 * len(given)).from_buffer(given) if given else None, len(given), other, nodes)
+
+    def _run_feasible(self, question: Question, nodes: int) -> Reply:
+        """Asks a search without the objective, on which the answer does not depend: a search with one takes bounds on the way to each
+        assignment, of which the question takes many."""
+        if self._feasible is None:
+            self._feasible = Search(self._library)
+        if not self._feasible._solver:
+            raise _Fault("Memory")
+        rules, self._rules = self._rules, []
+        return self._feasible._run_told(rules, question, nodes)
 
     def _solve(self, literals: Any, count: int, first: bytes | None, nodes: int) -> Reply:
         library, solver = self._library, self._solver

@@ -173,7 +173,8 @@ class Kept:
         told = _Told(("told", [], question), limits.tell)
         here = lambda plan: self._ask_here(statements, question, plan, told)  # noqa: E731
         by_child = lambda: self._ask_child(statements, question, limits.plan(), told)  # noqa: E731
-        _find(_is_small(statements), here, by_child, limits, told)
+        is_long = question[0] == "fixed" and self._child is not None  # many searches, of which some question took long before
+        _find(_is_small(statements) and not is_long, here, by_child, limits, told)
         return told.reply
 
     def _ask_here(self, statements: Statements, question: Question, plan: Plan, told: _Told) -> None:
