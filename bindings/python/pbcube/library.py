@@ -36,7 +36,7 @@ CUT = (1, 11, 21)
 """The statuses of a question that was cut, without and with something found, and with a core that may not be minimal."""
 NOTHING: Reply = (1, None, None, None)
 _FIRST_BUDGET = 200
-_GROWTH = 4
+_GROWTH = 2
 _SAFE_SHARE = 0.8  # of the decisions that fit before a deadline, since some take longer than others
 _NOT_KNOWN = 3
 _LITERALS = ctypes.POINTER(ctypes.c_int32)

@@ -310,7 +310,7 @@ class Model:
         """Searches for the least assignment in which the literals of `assuming` are true, with at most `nodes` decisions and for at
         most `time_limit` seconds where they are given.
 
-        With a time limit one search comes after another: of 200 decisions, then of 800, and so on up to `nodes`, the last ones of
+        With a time limit one search comes after another: of 200 decisions, then of 400, and so on up to `nodes`, the last ones of
         as many as the time left is likely to allow. Each begins with the best answer so far, and where the time is up that is the
         answer, as `Status.FOUND`, or `Status.UNKNOWN` where there is none. `on_better` has them come so too, without a time limit. It
         is called with the first answer that is found and with each that costs less than those before, the last one included; what it
