@@ -6,7 +6,7 @@
 Ten instances are searched with more and more decisions, each time one search after another: no answer is worse than one of fewer
 decisions, and each better one is told. A time limit finds what it finds where a first search of few decisions finds nothing. The
 program pbcube with workers gives the answers of the library. Names of constraints that cannot hold together are those that a listing
-of all subsets finds. What is fixed is what the library tells. Where there is no C compiler, and so no library, all is left out.
+of all assignments finds. What is fixed is what an answer under each literal tells. Where there is no C compiler, and so no library, all is left out.
 """
 import itertools
 import os
@@ -32,6 +32,7 @@ PATIENCE = 30  # seconds, of a machine that may be busy
 LIMITS = (4, 16, PATIENCE)  # seconds, of which the first are enough where the machine is not busy
 CONFLICTS = 60  # random models with names
 PROGRAM_MODELS = 12
+FIXED_MODELS = 12
 
 
 def raised(call):
@@ -48,10 +49,15 @@ def has_children():
     return not isinstance(raised(lambda: os.waitpid(-1, os.WNOHANG)), ChildProcessError)
 
 
+def by_bench(words):
+    """What a program of bench/ writes."""
+    program, *others = words.split()
+    return subprocess.run([sys.executable, TOP / "bench" / program, *others], check=True, capture_output=True, text=True).stdout
+
+
 def made(words):
     """The text of an instance."""
-    command = [sys.executable, TOP / "bench/make_small.py", *words.split()]
-    return subprocess.run(command, check=True, capture_output=True, text=True).stdout
+    return by_bench(f"make_small.py {words}")
 
 
 def cover(variables, clauses):
@@ -297,8 +303,41 @@ def name_facts():
     yield "what Python compared", alone.explain().constraints == ("never",)
 
 
+# ---- what is fixed
+
+
+def fixed_by_answers(model, literals, assumed):
+    """What each variable's value is where it has one, by an answer under each literal; and None where nothing is feasible."""
+    is_possible = lambda literal: model.solve(assuming=[*assumed, literal]).status is not Status.UNSATISFIABLE
+    if model.solve(assuming=assumed).status is Status.UNSATISFIABLE:
+        return None
+    possible = [(is_possible(literal), is_possible(~literal)) for literal in literals]
+    return [None if can_be and need_not else can_be for can_be, need_not in possible]
+
+
+def fixed_facts():
+    """What is fixed, with an objective and without one, before and after more rules, and where the question is cut."""
+    generator = random.Random(11)
+    product = Model.read(by_bench("make_configurator.py 40"))
+    every = [drawn(generator) for _ in range(FIXED_MODELS)] + [(product, [product[f"x{at}"] for at in range(1, 41)])]
+    for number, (model, parts) in enumerate(every):
+        for assumed in ([], [~parts[1]], [parts[0], ~parts[2]]):
+            expected, told = fixed_by_answers(model.copy(), parts, assumed), model.fixed(assumed)
+            found = None if told.status is Status.UNSATISFIABLE else [told[part] for part in parts]
+            yield f"fixed in model {number}: {found} and not {expected}", found == expected
+            limited_too = model.fixed(assumed, time_limit=PATIENCE)
+            yield f"fixed in model {number} in time", (limited_too.status, limited_too.statuses) == (told.status, told.statuses)
+            model.add(parts[3] + parts[1] >= generator.randint(0, 1))
+    cut = product.fixed(nodes=0)
+    yield "cut", cut.status is Status.UNKNOWN and not any(map(cut.is_known, every[-1][1]))
+    some = product.fixed(nodes=60)
+    known = [part for part in every[-1][1] if some.is_known(part)]
+    yield "cut later", all(some[part] == told_all for part, told_all in zip(known, map(product.fixed().__getitem__, known)))
+    yield "in the least", product.fixed(among="least").status is Status.SATISFIABLE
+
+
 def main():
-    parts = (refusal_facts, name_facts, conflict_facts, limit_facts, callback_facts, thread_facts, program_facts, budget_facts)
+    parts = (fixed_facts, refusal_facts, name_facts, conflict_facts, limit_facts, callback_facts, thread_facts, program_facts, budget_facts)
     facts = [fact for part in parts for fact in part()]
     wrong = [what for what, holds in facts if not holds]
     print(*(f"python_searches: not so: {it}" for it in wrong), sep="\n", end="\n" if wrong else "")
