@@ -5,9 +5,10 @@
 
 Below a prefix each caller has to find the library by itself: a C program by pkg-config and by CMake, Python by its place. All must be
 taken away again. Two packings must give the same bytes. From the archive the commands of README.md have to give their answer in an
-empty environment. The package for Debian is installed below a folder, and the wheel in a virtual environment, from no index; its commands run. The
-packages must hold the programs and the library byte for byte, and these need no other library than the C library. What is not built
-must be named, or be proved in one call. What is not here, of a C compiler, pkg-config, CMake, readelf, dpkg and pip, is left out with a word.
+empty environment. The package for Debian is installed below a folder, and the wheel in a virtual environment, from no index, where its
+commands run. The packages must hold the programs and the library byte for byte, and these need no other library than the C library.
+What is not built must be named, or be proved in one call. What is not here, of a C compiler, pkg-config, CMake, readelf, dpkg and pip,
+is left out with a word.
 """
 import base64
 import csv

@@ -147,7 +147,7 @@ def table_facts():
     yield "few rows", many.count("<tr>") == 23 and "80 more" in many
     yield "nothing was found", Answer(Status.UNKNOWN, None, None)._repr_html_() == "<table><tr><th>status</th><td>UNKNOWN</td></tr></table>"
     why = Explanation(Status.UNSATISFIABLE, (Literal(-1, "<"), Literal(2, "y")), True)
-    yield "a core", repr(why).endswith("core=(~<, y), is_minimal=True, constraints=None)") and "core</th><td>~&lt;</td>" in why._repr_html_()
+    yield "a core", "core=(~<, y), is_minimal=True" in repr(why) and "core</th><td>~&lt;</td>" in why._repr_html_()
     fixed = Fixed(Status.SATISFIABLE, b"\0\1\2\3", ("<",))._repr_html_()
     yield "fixed", "&lt;</th><td>False" in fixed and "x2</th><td>True" in fixed and "x3</th><td>both" in fixed and "x4</th><td>not" in fixed
 

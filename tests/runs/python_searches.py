@@ -5,8 +5,9 @@
 
 Ten instances are searched with more and more decisions, each time one search after another: no answer is worse than one of fewer
 decisions, and each better one is told. A time limit finds what it finds where a first search of few decisions finds nothing. The
-program pbcube with workers gives the answers of the library. Names of constraints that cannot hold together are those that a listing
-of all assignments finds. What is fixed is what an answer under each literal tells. Where there is no C compiler, and so no library, all is left out.
+program pbcube with workers gives the answers of the library. Constraints whose names are told cannot hold together, by a listing of all
+assignments, and can without any one of them. What is fixed is what an answer under each literal tells. Where there is no C compiler,
+and so no library, all is left out.
 """
 import itertools
 import os
@@ -26,7 +27,10 @@ callers.package()
 import pbcube
 from pbcube import Model, Status, solve, total
 
-INSTANCES = ("cover 300", "sets 340", "units 185", "random 180", "knapsack 500", "machines 600", "routes 14", "parity 100", "cut 85", "grid 11")
+INSTANCES = (
+    *("cover 300", "sets 340", "units 185", "random 180", "knapsack 500"),
+    *("machines 600", "routes 14", "parity 100", "cut 85", "grid 11"),
+)
 BUDGETS = (300, 1_200, 5_000, 12_000)  # each allows more searches than the one before, and cuts the last of them short
 PATIENCE = 30  # seconds, of a machine that may be busy
 LIMITS = (4, 16, PATIENCE)  # seconds, of which the first are enough where the machine is not busy
@@ -125,6 +129,7 @@ def limit_facts():
     yield "each better one is told", [it.cost for it in told] == sorted({it.cost for it in told} | {answer.cost}, reverse=True)
     yield "and is feasible", Model.read(model.text()).solve(0, start=answer.values).cost == answer.cost
     yield "as each is", all(it.value(cost) == it.cost and it.status is Status.FOUND for it in told)
+    yield "a limit of years", Model.read(made("cover 60")).solve(time_limit=1e300).status is Status.OPTIMUM
     small, told = Model.read(made("cover 30")), []
     whole = small.solve(time_limit=PATIENCE, on_better=told.append)
     yield "where it ends before", whole.status is Status.OPTIMUM and told[-1].cost == whole.cost == small.solve().cost
@@ -170,8 +175,9 @@ def refusal_facts():
     cases = (
         (lambda: model.solve(time_limit=nan), ValueError, "0 or more"), (lambda: model.solve(time_limit=-1), ValueError, "0 or more"),
         (lambda: model.solve(time_limit=infinite), ValueError, "0 or more"), (lambda: model.solve(time_limit="9"), TypeError, "seconds"),
-        (lambda: model.explain([x], time_limit=nan), ValueError, "0 or more"), (lambda: model.fixed(time_limit=-0.5), ValueError, "0 or more"),
+        (lambda: model.explain([x], time_limit=nan), ValueError, "0 or more"), (lambda: model.fixed(time_limit=-1), ValueError, "0 or"),
         (lambda: solve("", time_limit=[1]), TypeError, "seconds"), (lambda: model.solve(-1), ValueError, "2**64"),
+        (lambda: model.solve(time_limit=10**400), ValueError, "0 or"), (lambda: model.solve(time_limit=1j), TypeError, "seconds"),
         (lambda: model.solve(on_better=1), TypeError, "function"), (lambda: solve("", on_better="print"), TypeError, "function"),
         (lambda: model.solve(workers=0), ValueError, "1 to 64"), (lambda: model.solve(workers=65), ValueError, "1 to 64"),
         (lambda: model.solve(workers=2.0), TypeError, "1 to 64"), (lambda: model.solve(split=-1), ValueError, "0 to 12"),

@@ -395,7 +395,7 @@ class Model:
         if any(isinstance(numbers, list) for _, _, numbers in rules):
             raise Error("TooLarge", _WIDE)
         question: Question = ("explain", array("i", names).tobytes(), None, max(names))
-        status, _, core, _ = _checked(searches.Kept().ask(searches.Statements(rules, len(rules), None, terms), question, limits))
+        status, _, core, _ = _checked(searches.Kept(False).ask(searches.Statements(rules, len(rules), None, terms), question, limits))
         if core is None:
             return Explanation(Status(status))
         told = sorted(array("i", core))

@@ -16,6 +16,7 @@ the one that waits longest is ended, and its model starts another.
 from __future__ import annotations
 
 import marshal
+import math
 import os
 import threading
 import time
@@ -35,6 +36,7 @@ _FEW_TERMS = 1000
 _FEW_BYTES = 10_000
 _PLAIN = ("solve", b"", None)
 _FOUND = (10, 11, 30)
+_LONGEST = 2_000_000  # seconds of a time limit, as many milliseconds of which a poll takes
 _MOST_WAITING = 4
 _waiting: List[weakref.ref[_Child]] = []
 _waiting_lock = threading.RLock()  # a handler of a signal may ask too
@@ -58,10 +60,13 @@ def deadline_of(time_limit: Optional[float]) -> Optional[float]:
         return None
     if isinstance(time_limit, (str, bytes)) or not (hasattr(time_limit, "__float__") or hasattr(time_limit, "__index__")):
         raise TypeError(f"a time limit is a number of seconds, and not {time_limit!r}")
-    seconds = float(time_limit)
-    if not 0 <= seconds < float("inf"):
+    try:
+        seconds = float(time_limit)
+    except OverflowError:
+        seconds = math.inf
+    if not 0 <= seconds < math.inf:
         raise ValueError(f"a time limit is a number of seconds, 0 or more, and not {time_limit!r}")
-    return time.monotonic() + seconds
+    return time.monotonic() + min(seconds, _LONGEST)
 
 
 @dataclass(frozen=True)
@@ -92,6 +97,7 @@ class _Told:
 
     def __init__(self, job: Job, tell: Optional[Callable[[Reply], object]]) -> None:
         self.reply = NOTHING
+        self.is_telling = False
         self._join = join_of(job)
         self._tell = tell
         self._least: Optional[Tuple[Optional[int]]] = None  # the cost that was told, once something was
@@ -104,7 +110,9 @@ class _Told:
             return
         if self._least is None or (cost is not None and self._least[0] is not None and cost < self._least[0]):
             self._least = (cost,)
+            self.is_telling = True  # also where that raises
             self._tell(self.reply)
+            self.is_telling = False
 
 
 def search(job: Job, limits: Limits) -> Reply:
@@ -112,15 +120,18 @@ def search(job: Job, limits: Limits) -> Reply:
     is_divided = job[2] == library.FORMATS["icnf"]  # of which each cube has a budget of its own, and there may be many
     told = _Told(job, limits.tell)
 
+    def planned(plan: Plan) -> Plan:
+        nodes, deadline, grows = plan
+        return nodes, deadline, grows and not is_divided
+
     def here(plan: Plan) -> None:
-        for _, reply in replies(Search(library.loaded), job, plan):
+        for _, reply in replies(Search(library.loaded), job, planned(plan)):
             told.take(reply)
 
     def by_child() -> None:
-        nodes, deadline, grows = limits.plan()
         child = _Child()
         with child:
-            child.ask(job, (nodes, deadline, grows and not is_divided), told)
+            child.ask(job, planned(limits.plan()), told)
 
     _find(_is_small(job), here, by_child, limits, told)
     return told.reply
@@ -137,7 +148,7 @@ def _find(is_small: bool, here: Callable[[Plan], None], by_child: Callable[[], N
     try:
         return by_child()
     except ChildProcessError:
-        if limits.deadline is not None:
+        if limits.deadline is not None or told.is_telling:
             raise
         return here(limits.plan())
 
@@ -161,9 +172,11 @@ class Statements:
 
 
 class Kept:
-    """The searches that a model keeps from one question to the next: one in this process, and one in a child."""
+    """The searches that a model keeps from one question to the next: one in this process, and one in a child, unless there is one
+    question alone."""
 
-    def __init__(self) -> None:
+    def __init__(self, is_for_many: bool = True) -> None:
+        self._is_for_many = is_for_many
         self._here: Optional[Search] = None
         self._told_here: Optional[Statements] = None
         self._child: Optional[_Child] = None
@@ -187,7 +200,7 @@ class Kept:
 
     def _ask_child(self, statements: Statements, question: Question, plan: Plan, told: _Told) -> None:
         child, self._child = self._child, None
-        is_kept = child is not None or question[:3] != _PLAIN
+        is_kept = self._is_for_many and (child is not None or question[:3] != _PLAIN)
         if child is None or not child.resume():
             child = _Child()
         job: Job = ("told", statements.after(child.told), question)
