@@ -182,6 +182,7 @@ def refusal_facts():
         (lambda: model.solve(workers=0), ValueError, "1 to 64"), (lambda: model.solve(workers=65), ValueError, "1 to 64"),
         (lambda: model.solve(workers=2.0), TypeError, "1 to 64"), (lambda: model.solve(split=-1), ValueError, "0 to 12"),
         (lambda: model.solve(split="2"), TypeError, "0 to 12"), (lambda: solve("", workers=nan), TypeError, "1 to 64"),
+        (lambda: model.solve(10**9 + 1, workers=2), ValueError, "at most"),
         (lambda: model.solve(split=3), ValueError, "variables"), (lambda: model.solve(workers=2, start=[1, 0]), ValueError, "start"),
         (lambda: model.add(x >= 1, name=1), TypeError, "name"), (lambda: model.explain(), ValueError, "name="),
     )  # fmt: skip

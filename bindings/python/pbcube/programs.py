@@ -12,7 +12,7 @@ from typing import List, Optional
 PROGRAMS = ("pbcube", "pbcube_task", "pbcube_join", "pbcube_pieces")
 _MOST_WORKERS = 64
 _MOST_SPLIT = 12
-_MOST_NODES = 1_000_000_000
+MOST_NODES = 1_000_000_000
 
 
 def find(name: str = "pbcube") -> str:
@@ -33,8 +33,8 @@ def find(name: str = "pbcube") -> str:
 
 
 def is_budget(nodes: int) -> bool:
-    """Whether the program takes this as a budget. What is more it would not make in a week."""
-    return nodes <= _MOST_NODES
+    """Whether the program takes this as a budget."""
+    return nodes <= MOST_NODES
 
 
 @dataclass(frozen=True)

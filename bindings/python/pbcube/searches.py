@@ -29,7 +29,7 @@ from . import library
 from .jobs import Job, Plan, Question, Reply, Statement
 from .library import CUT, NO_LIMIT, NOTHING, Search, begun_with, join_of, replies
 from .processes import Child, Program, python_command
-from .programs import Workers, is_budget
+from .programs import MOST_NODES, Workers, is_budget
 
 _FEW_DECISIONS = 200
 _FEW_TERMS = 1000
@@ -58,14 +58,17 @@ def deadline_of(time_limit: Optional[float]) -> Optional[float]:
     """When a time limit that begins now ends, by the clock that only goes on."""
     if time_limit is None:
         return None
-    if isinstance(time_limit, (str, bytes)) or not (hasattr(time_limit, "__float__") or hasattr(time_limit, "__index__")):
-        raise TypeError(f"a time limit is a number of seconds, and not {time_limit!r}")
+    refusal = f"a time limit is a number of seconds, 0 or more, and not {time_limit!r}"
+    if isinstance(time_limit, (str, bytes, bytearray)):  # of which float reads a number
+        raise TypeError(refusal)
     try:
         seconds = float(time_limit)
+    except TypeError:
+        raise TypeError(refusal) from None
     except OverflowError:
         seconds = math.inf
     if not 0 <= seconds < math.inf:
-        raise ValueError(f"a time limit is a number of seconds, 0 or more, and not {time_limit!r}")
+        raise ValueError(refusal)
     return time.monotonic() + min(seconds, _LONGEST)
 
 
@@ -293,6 +296,8 @@ class _Runs:
 
 def run_program(job: Job, workers: Workers, limits: Limits) -> Reply:
     """What the program finds in a text with these workers."""
+    if MOST_NODES < limits.nodes < NO_LIMIT:
+        raise ValueError(f"with workers or a split a budget is at most {MOST_NODES}, and not {limits.nodes}")
     told = _Told(job, limits.tell)
     try:
         for _, reply in replies(_Runs(workers, limits.deadline), job, limits.plan()):
