@@ -46,6 +46,7 @@ STEPS = [
     Step("questions", "tests/runs/questions.py", after="library", left_out=NO_LIBRARY),
     Step("packages", "tests/runs/packages.py", after="library", left_out=NO_LIBRARY),
     Step("python", "tests/runs/python_package.py", after="library", left_out=NO_LIBRARY),
+    Step("python searches", "tests/runs/python_searches.py", after="library", left_out=NO_LIBRARY),
     Step("budgets", "tests/runs/budgets.py"),
     Step("efforts", "tests/runs/efforts.py"),
     Step("texts", "tests/runs/texts.py"),

@@ -6,10 +6,10 @@
 Below a prefix each caller has to find the library by itself: a C program by pkg-config and by CMake, Python by its place. The clients
 and a recipe for clusters must solve their examples from there, and each link of a page lead to a file. All must be taken away again.
 Two packings must give the same bytes. From the archive the commands of README.md have to give their answer in an empty environment.
-The package for Debian is installed below a folder, and the wheel in a virtual environment, from no index. lintian must find no fault.
-The packages must hold the programs and the library byte for byte, and these need no other library than the C library. What is not
-built must be named, or be proved in one call. What is not here, of a C compiler, pkg-config, CMake, readelf, dpkg, lintian, pip and
-what the clients serve, is left out with a word.
+The package for Debian is installed below a folder, and the wheel in a virtual environment, from no index, where its commands run.
+lintian must find no fault. The packages must hold the programs and the library byte for byte, and these need no other library than
+the C library. What is not built must be named, or be proved in one call. What is not here, of a C compiler, pkg-config, CMake,
+readelf, dpkg, lintian, pip and what the clients serve, is left out with a word.
 """
 import base64
 import csv
@@ -52,6 +52,7 @@ model.add(x + y >= 1)
 here = model.solve()
 pbcube.searches._is_small = lambda _: False  # so that a child searches, which has to find the library too
 assert model.solve(time_limit=60) == here
+assert model.solve(workers=2, split=1) == here
 print(pbcube.__version__, model.solve().cost, pbcube._library._name)
 """
 CMAKE = """cmake_minimum_required(VERSION 3.13)
@@ -345,7 +346,7 @@ def has_pip():
 def from_wheel(folder, out):
     """By pip, in a virtual environment, from no index."""
     wheel = next(out.glob("*.whl"))
-    bad = [*wrong_record(wheel), *wrong_metadata(wheel), *other_glibc("wheel", wheel.name, [LIBRARY])]
+    bad = [*wrong_record(wheel), *wrong_metadata(wheel), *other_glibc("wheel", wheel.name, [LIBRARY, *map(program, PROGRAMS)])]
     if not has_pip():
         say("no venv here, or no pip from 22.3 on, so the wheel is not installed")
         return bad
@@ -357,7 +358,11 @@ def from_wheel(folder, out):
     bad += [f"pip install: {ended}"] if ended.status else []
     package = next(place.glob(PYTHON_FOLDER), folder)
     bad += by_python(python, package / SONAME) + ([] if (package / "py.typed").exists() else ["the wheel has no types"])
-    say("the wheel, installed by pip")
+    bad += [f"the wheel has another {it}" for it in PROGRAMS if (place / "bin" / it).read_bytes() != program(it).read_bytes()]
+    for command in ([place / "bin/pbcube"], [python, "-m", "pbcube"]):
+        bad += differs([*command, TOP / "examples/tie.opb"], ANSWER, status=30)
+    bad += [text for it in PROGRAMS for text in differs([place / "bin" / it, "--version"], f"{it} {VERSION}\n")]
+    say("the wheel, installed by pip, with its commands")
     return bad
 
 

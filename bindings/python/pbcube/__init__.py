@@ -27,6 +27,9 @@ it runs in this process unless it has a time limit.
 The package calls the shared object libpbcube.so.1. That is the file that the environment variable PBCUBE_LIBRARY names, or else the
 first that is there: beside this file, where a wheel puts it; in PREFIX/lib, where this file is in
 PREFIX/lib/pythonX/site-packages/pbcube; in bindings/c/out of the repository; in ~/.local/lib; or where the system's loader looks.
+
+The program pbcube, for searches with many workers and for `python -m pbcube`, is in the folder that PBCUBE_PROGRAMS names, or else where
+pip or ./install put it, or on the path.
 """
 
 from __future__ import annotations

@@ -140,19 +140,22 @@ class Answer(_Named):
 
 @dataclass(frozen=True, eq=False)
 class Explanation:
-    """Why nothing is feasible under literals: `Status.UNSATISFIABLE` with a core, which are some of them under which nothing is,
-    `Status.SATISFIABLE` where something is, or `Status.UNKNOWN`. A core is minimal where something is feasible without any one of its
-    literals; one that is not was cut by the budget or the time limit before that was known."""
+    """Why nothing is feasible: `Status.UNSATISFIABLE` with a core, which are some of the literals that were assumed, or with
+    `constraints`, the names of some constraints, which are enough for that; `Status.SATISFIABLE` where something is feasible, or
+    `Status.UNKNOWN`. They are minimal where something is feasible without any one of them; where they are not, the budget or the time
+    limit cut the question before that was known."""
 
     status: Status
     core: Optional[Tuple[Literal, ...]] = None
     is_minimal: bool = False
+    constraints: Optional[Tuple[str, ...]] = None
 
     def _repr_html_(self) -> str:
-        """The status and the first literals of the core as a table, which notebooks show."""
+        """The status and the first names or literals as a table, which notebooks show."""
         core: List[Tuple[object, object]] = [("is_minimal", self.is_minimal)] if self.core is not None else []
-        literals: List[Tuple[object, object]] = [("core", literal) for literal in self.core or ()]
-        return table([("status", self.status.name), *core, *first_rows(literals)])
+        told: List[Tuple[object, object]] = [("core", literal) for literal in self.core or ()]
+        told += [("constraint", name) for name in self.constraints or ()]
+        return table([("status", self.status.name), *core, *first_rows(told)])
 
 
 @dataclass(frozen=True)

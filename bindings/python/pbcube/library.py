@@ -10,13 +10,22 @@ import ctypes
 import marshal
 import os
 import sys
+import time
 from array import array
 
 TYPE_CHECKING = False  # to a program; `typing` itself would take a child as long to read as all else
 if TYPE_CHECKING:
-    from typing import Any
+    from collections.abc import Callable, Iterator
+    from typing import Any, Protocol
 
-    from .jobs import Job, Question, Reply
+    from .jobs import Job, Plan, Question, Reply
+
+    class Runner(Protocol):
+        """What searches again and again."""
+
+        def run(self, job: Job, nodes: int) -> Reply:
+            """What the job finds, with at most `nodes` decisions."""
+
 
 _LIBRARY = "libpbcube.so.1"
 NO_LIMIT = 2**64 - 1
@@ -25,6 +34,11 @@ FORMATS = {"opb": 0, "cnf": 1, "icnf": 2}
 AMONG = {"feasible": 0, "least": 1}
 CUT = (1, 11, 21)
 """The statuses of a question that was cut, without and with something found, and with a core that may not be minimal."""
+NOTHING: Reply = (1, None, None, None)
+_FIRST_BUDGET = 200
+_GROWTH = 2
+_SAFE_SHARE = 0.8  # of the decisions that fit before a deadline, since some take longer than others
+_NOT_KNOWN = 3
 _LITERALS = ctypes.POINTER(ctypes.c_int32)
 _END_WITH_PARENT, _KILL = 1, 9  # PR_SET_PDEATHSIG and SIGKILL
 
@@ -81,6 +95,8 @@ class Search:
         self._library = library
         self._solver = library.pbcube_new()  # or None, where memory is refused
         self._has_objective = False
+        self._feasible: Search | None = None
+        self._rules: list[Any] = []  # those that it was not told of yet
 
     def __del__(self) -> None:
         self._library.pbcube_free(self._solver)
@@ -110,12 +126,25 @@ class Search:
     def _run_told(self, statements: list[Any], question: Question, nodes: int) -> Reply:
         for statement in statements:
             self._tell(*statement)
+        self._rules += (statement for statement in statements if statement[0] != "min")
         kind, numbers, other, variables = question
+        if kind == "fixed" and other == AMONG["feasible"] and self._has_objective:
+            return self._run_feasible(question, nodes)
         if self._library.pbcube_variables(self._solver) < variables:
             self._tell(">=", 0, array("q", (0, variables)))  # 0 times the last one
         given = array("i", numbers)
         ask = {"solve": self._solve, "explain": self._explain, "fixed": self._fixed}[kind]
         return ask((ctypes.c_int32 * len(given)).from_buffer(given) if given else None, len(given), other, nodes)
+
+    def _run_feasible(self, question: Question, nodes: int) -> Reply:
+        """Asks a search without the objective, on which the answer does not depend: a search with one takes bounds on the way to each
+        assignment, of which the question takes many."""
+        if self._feasible is None:
+            self._feasible = Search(self._library)
+        if not self._feasible._solver:
+            raise _Fault("Memory")
+        rules, self._rules = self._rules, []
+        return self._feasible._run_told(rules, question, nodes)
 
     def _solve(self, literals: Any, count: int, first: bytes | None, nodes: int) -> Reply:
         library, solver = self._library, self._solver
@@ -157,13 +186,77 @@ class Search:
 
     def _run_text(self, text: bytes, format: int, nodes: int) -> Reply:
         status = self._checked(self._library.pbcube_run(self._solver, format, text, len(text), nodes))
-        lines = {line[0]: line.split() for line in self._text("report").splitlines()}
-        if "c" in lines:  # "c refused: NAME at line LINE", or "c refused: Memory"
-            _, _, name, *at_line = lines["c"]
-            return (status, None, None, (name, int(at_line[-1]) if at_line else 0))
-        cost = int(lines["o"][1]) if "o" in lines else None
-        values = bytes(not word.startswith("-") for word in lines["v"][1:] if word != "0") if "v" in lines else None
-        return (status, cost, values, None)
+        _, cost, values, fault = reply_of(self._text("report"), False)
+        return (status, cost, values, fault)
+
+
+def reply_of(report: str, is_limited: bool) -> Reply:
+    """What the report of a run tells, which had a budget or none."""
+    lines = {line[0]: line for line in report.splitlines()}
+    if "c" in lines:  # "c refused: NAME at line LINE", "c refused: Memory", or "c refused split: BadSplit"
+        name, *at_line = lines["c"].split(": ")[1].split()
+        return (1, None, None, (name, int(at_line[-1]) if at_line else 0))
+    cost = int(lines["o"][2:]) if "o" in lines else None
+    if "v" not in lines:
+        return (20 if lines["s"] == "s UNSATISFIABLE" else 1, None, None, None)
+    values = bytes(not word.startswith("-") for word in lines["v"][2:].split() if word != "0")
+    least = lines["s"] == "s OPTIMUM FOUND" or (cost is None and not is_limited)
+    return ((30 if cost is not None else 10) if least else 11, cost, values, None)
+
+
+def better(before: Reply, after: Reply) -> Reply:
+    """What two searches for one answer tell together."""
+    if after[0] not in CUT:
+        return after
+    if before[0] == 11 and (after[0] != 11 or (before[1] is not None and after[1] is not None and before[1] < after[1])):
+        return before
+    return before if before[0] == 21 and after[0] == 1 else after
+
+
+def _joined(before: Reply, after: Reply) -> Reply:
+    """What two questions tell together of which variables are fixed."""
+    if after[0] not in CUT or before[2] is None or after[2] is None:
+        return after
+    statuses = bytes(new if old == _NOT_KNOWN else old for old, new in zip(before[2], after[2]))
+    return (1 if _NOT_KNOWN in statuses else 10, None, statuses, None)
+
+
+def join_of(job: Job) -> Callable[[Reply, Reply], Reply]:
+    """How two replies to the job are made one."""
+    return _joined if job[0] == "told" and job[2][0] == "fixed" else better
+
+
+def begun_with(job: Job, best: Reply) -> Job:
+    """The job of a search that is to begin with the best answer so far."""
+    kind, told, asked = job
+    if kind == "text" or best[2] is None:
+        return job
+    question, literals, other, variables = asked
+    if question == "explain":
+        literals = best[2]
+    return (kind, told, (question, literals, best[2] if question == "solve" else other, variables))
+
+
+def replies(search: Runner, job: Job, plan: Plan) -> Iterator[tuple[bool, Reply]]:
+    """What searches tell one after another, each with all that those before it told, and whether it is the last one. Their budgets grow
+    up to that of the plan, and are no greater than the time up to its deadline is likely to allow; but there is one search alone where
+    the plan has them not grow. Each begins with the best answer so far."""
+    nodes, deadline, grows = plan
+    budget, best, join = min(nodes, _FIRST_BUDGET) if grows else nodes, NOTHING, join_of(job)
+    while True:
+        begun = time.monotonic()
+        best = join(best, search.run(job, budget))
+        is_last = budget == nodes or best[0] not in CUT
+        yield is_last, best
+        if is_last:
+            return
+        ended = time.monotonic()
+        most = budget * _GROWTH
+        if deadline is not None:
+            most = min(most, int(_SAFE_SHARE * budget * (deadline - ended) / max(ended - begun, 1e-6)))
+        has_no_cost = best[0] == 11 and best[1] is None  # of which none is better that is told, but where it is the first of all
+        budget = nodes if has_no_cost else min(nodes, max(most, _FIRST_BUDGET))
+        job = begun_with((job[0], [], job[2]) if job[0] == "told" else job, best)
 
 
 def framed(message: object) -> bytes:
@@ -179,24 +272,17 @@ def _heard() -> Any:
 
 
 def _serve() -> None:
-    """Answers one job after the other that standard input tells. To each it makes its searches, with each of the budgets in turn
-    until one cuts it no more, and writes what each found and whether it is the last. It ends with standard input, or where the
-    process that wants that has ended."""
+    """Answers one job after the other that standard input tells, each with its plan, and writes each reply and whether it is the last
+    one. It ends with standard input, or where the process that wants that has ended."""
     ctypes.CDLL(None).prctl(_END_WITH_PARENT, _KILL)
     parent, path = _heard()
     if os.getppid() != parent:
         return
     search = Search(load(path))
     while heard := _heard():
-        job, budgets = heard
-        for nodes in budgets:
-            reply = search.run(job, nodes)
-            job = ("told", [], job[2]) if job[0] == "told" else job
-            is_last = nodes == budgets[-1] or reply[0] not in CUT
-            sys.stdout.buffer.write(framed((is_last, reply)))
+        for told in replies(search, *heard):
+            sys.stdout.buffer.write(framed(told))
             sys.stdout.buffer.flush()
-            if is_last:
-                break
 
 
 if __name__ == "__main__":

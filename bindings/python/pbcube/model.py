@@ -8,19 +8,21 @@ from array import array
 from dataclasses import dataclass
 from fractions import Fraction
 from operator import index
-from typing import Any, Dict, Iterable, List, Mapping, NoReturn, Optional, Sequence, SupportsIndex, Tuple, Union
+from typing import Any, Callable, Dict, Iterable, List, Mapping, NoReturn, Optional, Sequence, SupportsIndex, Tuple, Union
 
-from . import searches, texts
+from . import conflicts, searches, texts
 from .answers import Answer, Explanation, Fixed, Names, Status
 from .errors import Error, Refused, refused
-from .jobs import Question, Reply, Statement
+from .jobs import Job, Question, Reply, Statement
 from .library import AMONG, FORMATS, RELATIONS
+from .programs import Workers
 from .sums import MOST_VARIABLES, Constraint, Exact, Expression, Literal, Owner, Sum, total
 from .sums import as_constraint, as_literal, as_sum, check_owners, compact, lower_bounds, tidy, whole
 from .tables import table
 
 _MOST_CONSTRAINTS = 4_194_304
 _MOST_TERMS = 16_777_216
+_WIDE = "the numbers of a model are below 2**63 where it is asked for more than an answer: take smaller units"
 
 
 @dataclass(frozen=True)
@@ -54,6 +56,7 @@ class Model:
         self._names: Dict[str, int] = {}
         self._name_literals({})
         self._statements: List[Statement] = []
+        self._rule_names: Dict[int, str] = {}  # by their places among the statements
         self._terms = 0
         self._objective: Optional[_Objective] = None
         self._has_wide_rules = False  # with numbers that do not fit 64 bits
@@ -77,6 +80,7 @@ class Model:
                 "_variables": self._variables,
                 "_names": dict(self._names),
                 "_statements": list(self._statements),
+                "_rule_names": dict(self._rule_names),
                 "_terms": self._terms,
                 "_objective": self._objective,
                 "_has_wide_rules": self._has_wide_rules,
@@ -220,9 +224,10 @@ class Model:
             self._check_room(objective.terms)
             self._objective = objective
 
-    def add(self, constraint: Union[Constraint, bool]) -> None:
-        """Adds a constraint, as `2 * x + 3 * ~y >= 2`. Raises Error, and adds nothing, where it is refused. What Python itself
-        compared, as a `sum` of nothing is, holds always or never:
+    def add(self, constraint: Union[Constraint, bool], *, name: Optional[str] = None) -> None:
+        """Adds a constraint, as `2 * x + 3 * ~y >= 2`. Raises Error, and adds nothing, where it is refused. By its name `explain` tells
+        whether it is one of those that cannot hold together; constraints of one name are told of as one. What Python itself compared,
+        as a `sum` of nothing is, holds always or never:
 
             >>> model = Model()
             >>> model.add(sum([]) == 1)
@@ -234,14 +239,14 @@ class Model:
         if rule.relation not in RELATIONS:
             raise ValueError(f"no relation: {rule.relation!r}")
         _, numbers, bound = whole(rule.terms, rule.bound)
-        self._tell((rule.relation, bound, compact(numbers, bound)), len(rule.terms))
+        self._tell((rule.relation, bound, compact(numbers, bound)), len(rule.terms), name)
 
-    def clause(self, literals: Iterable[Literal]) -> None:
+    def clause(self, literals: Iterable[Literal], *, name: Optional[str] = None) -> None:
         """Adds that at least one of the literals is true."""
         given = self._own(literals)
-        self._tell(("or", 0, array("i", (literal.number for literal in given))), len(given))
+        self._tell(("or", 0, array("i", (literal.number for literal in given))), len(given), name)
 
-    def implies(self, condition: Literal, consequence: Union[Literal, Constraint, bool]) -> None:
+    def implies(self, condition: Literal, consequence: Union[Literal, Constraint, bool], *, name: Optional[str] = None) -> None:
         """Adds that where the condition is true, so is the literal or the constraint.
 
             >>> model = Model()
@@ -252,22 +257,22 @@ class Model:
         """
         [given] = self._own([condition])
         if isinstance(consequence, Literal):
-            return self.clause([~given, consequence])
+            return self.clause([~given, consequence], name=name)
         for rule in lower_bounds(as_constraint(consequence)):
             missing = rule.bound - sum(min(coefficient, 0) for coefficient, _ in rule.terms)
-            self.add(Sum(rule.terms, 0, rule.owners) + max(missing, 0) * ~given >= rule.bound)
+            self.add(Sum(rule.terms, 0, rule.owners) + max(missing, 0) * ~given >= rule.bound, name=name)
 
-    def at_least(self, count: int, literals: Iterable[Literal]) -> None:
+    def at_least(self, count: int, literals: Iterable[Literal], *, name: Optional[str] = None) -> None:
         """Adds that at least `count` of the literals are true."""
-        self.add(total(self._own(literals)) >= index(count))
+        self.add(total(self._own(literals)) >= index(count), name=name)
 
-    def at_most(self, count: int, literals: Iterable[Literal]) -> None:
+    def at_most(self, count: int, literals: Iterable[Literal], *, name: Optional[str] = None) -> None:
         """Adds that at most `count` of the literals are true."""
-        self.add(total(self._own(literals)) <= index(count))
+        self.add(total(self._own(literals)) <= index(count), name=name)
 
-    def exactly(self, count: int, literals: Iterable[Literal]) -> None:
+    def exactly(self, count: int, literals: Iterable[Literal], *, name: Optional[str] = None) -> None:
         """Adds that exactly `count` of the literals are true."""
-        self.add(total(self._own(literals)) == index(count))
+        self.add(total(self._own(literals)) == index(count), name=name)
 
     def _own(self, literals: Iterable[Literal]) -> List[Literal]:
         given = [as_literal(literal) for literal in literals]
@@ -280,9 +285,13 @@ class Model:
         if self._terms + terms > _MOST_TERMS or len(self._statements) + constraints > _MOST_CONSTRAINTS:
             raise Error("TooMany")
 
-    def _tell(self, statement: Statement, terms: int) -> None:
+    def _tell(self, statement: Statement, terms: int, name: Optional[str] = None) -> None:
+        if not (name is None or isinstance(name, str)):
+            raise TypeError(f"no name of a constraint: {name!r}")
         with self._lock:
             self._check_room(terms + (self._objective.terms if self._objective else 0), 1)
+            if name is not None:
+                self._rule_names[len(self._statements)] = name
             self._statements.append(statement)
             self._has_wide_rules |= isinstance(statement[2], list)
             self._terms += terms
@@ -294,14 +303,26 @@ class Model:
         assuming: Iterable[Literal] = (),
         start: Union[Answer, Mapping[Union[Literal, str], bool], Sequence[bool], None] = None,
         time_limit: Optional[float] = None,
+        on_better: Optional[OnBetter] = None,
+        workers: Optional[int] = None,
+        split: Optional[int] = None,
     ) -> Answer:
         """Searches for the least assignment in which the literals of `assuming` are true, with at most `nodes` decisions and for at
-        most `time_limit` seconds where they are given. Where the time is up the answer is what smaller searches before found, as
-        `Status.FOUND`, or `Status.UNKNOWN`.
+        most `time_limit` seconds where they are given.
+
+        With a time limit one search comes after another: of 200 decisions, then of 400, and so on up to `nodes`, the last ones of
+        as many as the time left is likely to allow. Each begins with the best answer so far, and where the time is up that is the
+        answer, as `Status.FOUND`, or `Status.UNKNOWN` where there is none. `on_better` has them come so too, without a time limit. It
+        is called with the first answer that is found and with each that costs less than those before, the last one included; what it
+        raises ends the search.
 
         A start is an answer of this model, values of literals or names, all others being False, or one value for each variable in order.
-        Searches try these values first, until another start is given; only an answer that is cut depends on them. Raises ValueError
-        where it has not as many values as there are variables, or one that is neither True nor False.
+        Searches try these values first, until there is another start or a better answer; only an answer that is cut depends on them.
+        Raises ValueError where it has not as many values as there are variables, or one that is neither True nor False.
+
+        With `workers`, 1 to 64, or `split`, 0 to 12, the program pbcube solves the model's text, by as many threads and divided by as many
+        variables; a whole search gives the same answer. It takes no start, and `nodes` is for each piece. Raises FileNotFoundError where
+        the program is not there.
 
             >>> model = Model()
             >>> x, y = model.variables(2)
@@ -317,30 +338,69 @@ class Model:
             raise TypeError(f"Model.solve is asked of a model, and not of {self!r}: Model.read(path).solve() solves a file")
         given = self._own(assuming)
         first = None if start is None else self._values_of(start)
-        reply = self._ask("solve", given, first, nodes, time_limit, 0)
-        status, found, values, _ = reply.told
-        told = None if values is None else tuple(map(bool, values)) + (False,) * (reply.variables - len(values))
-        cost = None if reply.objective is None or found is None else reply.objective.cost(found)
-        return Answer(Status(status), cost, told, reply.names, reply.owners)
+        asked, program = self._asked("solve", given, first, 0), Workers.of(workers, split)
+        limits = searches.Limits.of(nodes, time_limit, told_by(on_better, asked.answer))
+        if program is None:
+            return asked.answer(self._ask(asked, limits))
+        if first is not None:
+            raise ValueError("the program takes no start: leave out either start, or workers and split")
+        if program.split > asked.variables:
+            raise ValueError(f"split is no more than the number of variables, {asked.variables}, and not {program.split}")
+        return asked.answer(_checked(searches.run_program(asked.text(), program, limits)))
 
-    def explain(self, assuming: Iterable[Literal], nodes: Optional[int] = None, *, time_limit: Optional[float] = None) -> Explanation:
-        """Of literals under which nothing is feasible, finds some that are enough for that: each is left out in turn where the others
-        are enough. It makes at most `nodes` decisions and takes at most `time_limit` seconds where they are given.
+    def explain(
+        self,
+        assuming: Optional[Iterable[Literal]] = None,
+        nodes: Optional[int] = None,
+        *,
+        time_limit: Optional[float] = None,
+    ) -> Explanation:
+        """Tells why nothing is feasible: of the constraints that have names, the names of some that cannot hold together, with those
+        that have none. Where literals are assumed, it tells some of them under which nothing is feasible, and leaves no constraint out.
+        Each name or literal is left out in turn where the others are enough. It makes at most `nodes` decisions and takes at most
+        `time_limit` seconds where they are given.
 
             >>> model = Model()
-            >>> x, y, z = model.variables("x y z")
-            >>> model.clause([x, y])
-            >>> why = model.explain([z, ~x, ~y])
+            >>> desk, lamp, chair = model.variables("desk lamp chair")
+            >>> model.add(300 * desk + 40 * lamp + 90 * chair <= 350, name="budget")
+            >>> model.at_least(1, [lamp, chair], name="comfort")
+            >>> model.clause([desk], name="a place to work")
+            >>> model.implies(desk, chair, name="a seat at the desk")
+            >>> model.explain().constraints
+            ('budget', 'a place to work', 'a seat at the desk')
+            >>> why = model.explain([lamp, ~chair, desk])
             >>> why.status, [literal.name for literal in why.core], why.is_minimal
-            (Status.UNSATISFIABLE, ['x', 'y'], True)
+            (Status.UNSATISFIABLE, ['desk'], True)
         """
+        limits = searches.Limits.of(nodes, time_limit)
+        if assuming is None:
+            return self._conflict(limits)
         given = self._own(assuming)
-        status, _, core, _ = self._ask("explain", given, None, nodes, time_limit, 0).told
+        status, _, core, _ = self._ask(self._asked("explain", given, None, 0), limits)
         if core is None:
             return Explanation(Status(status))
         by_number = {literal.number: literal for literal in given}
         literals = tuple(by_number[number] for number in array("i", core))
         return Explanation(Status.UNSATISFIABLE, literals, is_minimal=status == Status.UNSATISFIABLE.value)
+
+    def _conflict(self, limits: searches.Limits) -> Explanation:
+        """Some of the constraints that have names, which cannot hold together with the others."""
+        with self._lock:
+            rules, names = conflicts.selectable(self._statements, self._rule_names, self._variables)
+            terms = self._terms + 2 * len(names)
+        if not names:
+            raise ValueError("no constraint has a name: write add(constraint, name='budget'), or explain([x, y]) to ask under literals")
+        if max(names) > MOST_VARIABLES:
+            raise Error("BadVariable", f"each name of a constraint takes a variable, of which there are at most {MOST_VARIABLES}")
+        if any(isinstance(numbers, list) for _, _, numbers in rules):
+            raise Error("TooLarge", _WIDE)
+        question: Question = ("explain", array("i", names).tobytes(), None, max(names))
+        status, _, core, _ = _checked(searches.Kept(False).ask(searches.Statements(rules, len(rules), None, terms), question, limits))
+        if core is None:
+            return Explanation(Status(status))
+        told = sorted(array("i", core))
+        is_minimal = status == Status.UNSATISFIABLE.value
+        return Explanation(Status.UNSATISFIABLE, (), is_minimal, tuple(names[number] for number in told))
 
     def fixed(
         self,
@@ -364,11 +424,11 @@ class Model:
         """
         if among not in AMONG:
             raise ValueError(f"nothing to be asked about: {among!r}")
-        reply = self._ask("fixed", self._own(assuming), AMONG[among], nodes, time_limit, self._variables)
-        status, _, statuses, _ = reply.told
+        asked = self._asked("fixed", self._own(assuming), AMONG[among], self._variables)
+        status, _, statuses, _ = self._ask(asked, searches.Limits.of(nodes, time_limit))
         if status == Status.UNSATISFIABLE.value:
-            return Fixed(Status.UNSATISFIABLE, None, reply.names, reply.owners)
-        return Fixed(Status(status), statuses or b"\3" * reply.variables, reply.names, reply.owners)
+            return Fixed(Status.UNSATISFIABLE, None, asked.names, asked.owners)
+        return Fixed(Status(status), statuses or b"\3" * asked.variables, asked.names, asked.owners)
 
     def _values_of(self, start: Union[Answer, Mapping[Union[Literal, str], bool], Sequence[bool]]) -> bytes:
         """The values to be tried first, as bytes 0 and 1."""
@@ -387,34 +447,27 @@ class Model:
             values[abs(literal.number) - 1] = _truth(value) == (literal.number > 0)
         return bytes(values)
 
-    def _ask(
-        self,
-        kind: str,
-        literals: List[Literal],
-        other: object,
-        nodes: Optional[int],
-        time_limit: Optional[float],
-        variables: int,
-    ) -> _Asked:
-        """Asks the searches that are kept, or others where these answer another thread."""
-        budget, deadline = searches.budget(nodes), searches.deadline_of(time_limit)
+    def _asked(self, kind: str, literals: List[Literal], other: object, variables: int) -> _Asked:
+        """The question, and what the model is now."""
         numbers = array("i", (literal.number for literal in literals))
-        named = max((variables, *map(abs, numbers)))
-        question: Question = (kind, numbers.tobytes(), other, named)
+        question: Question = (kind, numbers.tobytes(), other, max((variables, *map(abs, numbers))))
         with self._lock:
-            objective, names = self._objective, self._all_names()
+            objective = self._objective
             aim, terms = (objective.statement, objective.terms + self._terms) if objective else (None, self._terms)
             statements = searches.Statements(self._statements, len(self._statements), aim, terms)
-            every, owners = self._variables, tuple(self._known().items())
+            owners = tuple(self._known().items())
+            is_wide = self._has_wide_rules or (aim is not None and isinstance(aim[2], list))
+            return _Asked(question, statements, is_wide, self._variables, self._all_names(), owners, objective)
+
+    def _ask(self, asked: _Asked, limits: searches.Limits) -> Reply:
+        """Asks the searches that are kept, or others where these answer another thread."""
+        with self._lock:
             kept, self._kept = self._kept, searches.Kept()
         try:
-            is_wide = self._has_wide_rules or (aim is not None and isinstance(aim[2], list))
-            told = (_ask_text if is_wide else kept.ask)(statements, question, budget, deadline)
+            told = searches.search(asked.text(), limits) if asked.is_wide else kept.ask(asked.statements, asked.question, limits)
         finally:
             self._kept = kept
-        if told[3]:
-            raise MemoryError if told[3][0] == "Memory" else Error(told[3][0])
-        return _Asked(told, every, names, owners, objective)
+        return _checked(told)
 
     def _all_names(self) -> Names:
         """The names of all variables in order, which all answers share until there is another variable."""
@@ -425,13 +478,52 @@ class Model:
 
 @dataclass(frozen=True)
 class _Asked:
-    """What came of a question, and what the model was when it was asked."""
+    """A question, and what the model was when it was asked."""
 
-    told: Reply
+    question: Question
+    statements: searches.Statements
+    is_wide: bool
     variables: int
     names: Names
     owners: Tuple[Tuple[int, int], ...]
     objective: Optional[_Objective]
+
+    def text(self) -> Job:
+        """The question as a text, in which each literal that is to be true is one more statement. Numbers in it may be greater than is
+        told term by term."""
+        kind, literals, _, _ = self.question
+        if kind != "solve":
+            raise Error("TooLarge", _WIDE)
+        units = [("or", 0, array("i", [number])) for number in array("i", literals)]
+        ordered = sorted(self.statements.after(None) + units, key=lambda it: it[0] != "min")  # the objective comes first, the others stay
+        return "text", texts.opb(self.variables, ordered).encode("ascii"), FORMATS["opb"]
+
+    def answer(self, reply: Reply) -> Answer:
+        """What the reply to a question for an answer tells."""
+        status, found, values, _ = reply
+        told = None if values is None else tuple(map(bool, values)) + (False,) * (self.variables - len(values))
+        cost = None if self.objective is None or found is None else self.objective.cost(found)
+        return Answer(Status(status), cost, told, self.names, self.owners)
+
+
+def _checked(reply: Reply) -> Reply:
+    """The reply, unless something was refused."""
+    if reply[3]:
+        raise MemoryError if reply[3][0] == "Memory" else Error(reply[3][0])
+    return reply
+
+
+OnBetter = Callable[[Answer], object]
+"""What is called with each better answer."""
+
+
+def told_by(on_better: Optional[OnBetter], answer_of: Callable[[Reply], Answer]) -> Optional[Callable[[Reply], object]]:
+    """What hands the answer of a reply to the function."""
+    if on_better is None:
+        return None
+    if not callable(on_better):
+        raise TypeError(f"on_better is a function that is called with each better answer, and not {on_better!r}")
+    return lambda reply: on_better(answer_of(reply))
 
 
 def _truth(value: object) -> bool:
@@ -466,28 +558,25 @@ def _names_of(count: object) -> List[Optional[str]]:
     return [*count]
 
 
-def _ask_text(statements: searches.Statements, question: Question, nodes: int, deadline: Optional[float]) -> Reply:
-    """What is found where some number is greater than is told term by term: the statements go as a text, and each literal that is to
-    be true as one more."""
-    kind, literals, _, _ = question
-    if kind != "solve":
-        raise Error("TooLarge", "the numbers of a model are below 2**63 where it is asked for more than an answer: take smaller units")
-    units = [("or", 0, array("i", [number])) for number in array("i", literals)]
-    ordered = sorted(statements.after(None) + units, key=lambda it: it[0] != "min")  # the objective comes first, the others stay
-    text = "\n".join(texts.line(*it) for it in ordered).encode("ascii")
-    return searches.search(("text", text, FORMATS["opb"]), nodes, deadline)
-
-
-def _answer_of_text(reply: Reply, text: bytes, format: str) -> Answer:
-    status, cost, values, fault = reply
-    if fault:
-        raise MemoryError if fault[0] == "Memory" else refused(*fault, text, format)
+def _answer_of_text(reply: Reply) -> Answer:
+    status, cost, values, _ = reply
     return Answer(Status(status), cost, None if values is None else tuple(map(bool, values)))
 
 
-def solve(text: Union[str, bytes], format: str = "opb", nodes: Optional[int] = None, *, time_limit: Optional[float] = None) -> Answer:
+def solve(
+    text: Union[str, bytes],
+    format: str = "opb",
+    nodes: Optional[int] = None,
+    *,
+    time_limit: Optional[float] = None,
+    on_better: Optional[OnBetter] = None,
+    workers: Optional[int] = None,
+    split: Optional[int] = None,
+) -> Answer:
     """Solves a text in the format 'opb', 'cnf' or 'icnf', with at most `nodes` decisions and for at most `time_limit` seconds where
-    they are given.
+    they are given; `on_better` is called with each better answer. With `workers` or `split` the program pbcube solves it.
+    `Model.solve` tells more of them. Of iCNF each cube has a budget of its own, and with a time limit there is one search, of which
+    nothing is told before it ends.
 
     Raises Refused, with the fault's name, its line and what may help, where the text is not of the format, and MemoryError where
     memory is refused.
@@ -502,7 +591,13 @@ def solve(text: Union[str, bytes], format: str = "opb", nodes: Optional[int] = N
         raise ValueError(f"no format: {format!r}")
     if isinstance(text, os.PathLike):
         raise TypeError(f"a path is no text: Model.read({os.fspath(text)!r}, {format!r}).solve() solves the file")
-    budget, deadline = searches.budget(nodes), searches.deadline_of(time_limit)
+    program = Workers.of(workers, split)
+    limits = searches.Limits.of(nodes, time_limit, told_by(on_better, _answer_of_text))
     data = text.encode("utf-8", "surrogateescape") if isinstance(text, str) else bytes(memoryview(text))
-    reply = searches.search(("text", data, FORMATS[format]), budget, deadline)
-    return _answer_of_text(reply, data, format)
+    job: Job = ("text", data, FORMATS[format])
+    reply = searches.search(job, limits) if program is None else searches.run_program(job, program, limits)
+    if reply[3] and reply[3][0] == "BadSplit":
+        raise ValueError(f"split is no more than the number of variables, and not {split}")
+    if reply[3]:
+        raise MemoryError if reply[3][0] == "Memory" else refused(*reply[3], data, format)
+    return _answer_of_text(reply)

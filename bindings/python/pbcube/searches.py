@@ -5,6 +5,9 @@ may have to end runs in a child: a Python of its own (`sys.executable`) that is 
 other threads hold locked. It runs `library.py` alone, and nothing of the caller's program, so a script needs no `__main__` guard. It
 is killed when a call ends in any way but by its answer, and the system kills it where the caller's process is killed.
 
+A search that a time limit may end, or whose better answers are to be told as they come, is one after another with a greater budget each
+time (`library.replies`). So at any time there is the answer of those before.
+
 A model keeps its searches from one question to the next, so that each is told only what is new (`Kept`): the one in this process,
 and from the first question with assumptions on the one in a child. Few children wait for questions at a time: where there are more,
 the one that waits longest is ended, and its model starts another.
@@ -13,30 +16,27 @@ the one that waits longest is ended, and its model starts another.
 from __future__ import annotations
 
 import marshal
+import math
 import os
-import select
-import signal
-import subprocess
-import sys
 import threading
 import time
 import weakref
 from dataclasses import dataclass
 from operator import index
-from pathlib import Path
-from typing import Callable, List, Optional, Set, Tuple, Union
+from typing import Callable, List, Optional, Tuple, Union
 
 from . import library
-from .errors import Error
-from .jobs import Job, Question, Reply, Statement
-from .library import CUT, NO_LIMIT, Search
+from .jobs import Job, Plan, Question, Reply, Statement
+from .library import CUT, NO_LIMIT, NOTHING, Search, begun_with, join_of, replies
+from .processes import Child, Program, python_command
+from .programs import MOST_NODES, Workers, is_budget
 
 _FEW_DECISIONS = 200
 _FEW_TERMS = 1000
 _FEW_BYTES = 10_000
-_FIRST_BUDGETS = (1_000, 16_000)
-_NOTHING: Reply = (1, None, None, None)
 _PLAIN = ("solve", b"", None)
+_FOUND = (10, 11, 30)
+_LONGEST = 2_000_000  # seconds of a time limit, as many milliseconds of which a poll takes
 _MOST_WAITING = 4
 _waiting: List[weakref.ref[_Child]] = []
 _waiting_lock = threading.RLock()  # a handler of a signal may ask too
@@ -58,46 +58,102 @@ def deadline_of(time_limit: Optional[float]) -> Optional[float]:
     """When a time limit that begins now ends, by the clock that only goes on."""
     if time_limit is None:
         return None
-    if not 0 <= time_limit < float("inf"):
-        raise ValueError("a time limit is a number of seconds, 0 or more")
-    return time.monotonic() + time_limit
-
-
-def search(job: Job, nodes: int, deadline: Optional[float]) -> Reply:
-    """What is found in a text, with at most `nodes` decisions, and by the deadline where there is one."""
-
-    def here(most: int) -> Reply:
-        return Search(library.loaded).run(job, most)
-
-    def by_child() -> Optional[Reply]:
-        with _Child() as child:
-            is_divided = job[2] == library.FORMATS["icnf"]  # of which each cube has a budget of its own, and there may be many
-            return child.ask(job, [nodes] if is_divided else _budgets(nodes, deadline), deadline)
-
-    return _found(_is_small(job), here, by_child, nodes, deadline)
-
-
-def _found(
-    is_small: bool,
-    here: Callable[[int], Reply],
-    by_child: Callable[[], Optional[Reply]],
-    nodes: int,
-    deadline: Optional[float],
-) -> Reply:
-    """What is found in this process, or by a child."""
-    if deadline is None and threading.current_thread() is not threading.main_thread():
-        return here(nodes)  # where Ctrl-C is never raised
-    first = _NOTHING
-    if is_small:  # a child takes longer to start than most of these take in all
-        first = here(min(nodes, _FEW_DECISIONS))
-        if first[0] not in CUT or nodes <= _FEW_DECISIONS:
-            return first
+    refusal = f"a time limit is a number of seconds, 0 or more, and not {time_limit!r}"
+    if isinstance(time_limit, (str, bytes, bytearray)):  # of which float reads a number
+        raise TypeError(refusal)
     try:
-        return by_child() or first
+        seconds = float(time_limit)
+    except TypeError:
+        raise TypeError(refusal) from None
+    except OverflowError:
+        seconds = math.inf
+    if not 0 <= seconds < math.inf:
+        raise ValueError(refusal)
+    return time.monotonic() + min(seconds, _LONGEST)
+
+
+@dataclass(frozen=True)
+class Limits:
+    """How long to search: with at most `nodes` decisions, and up to the deadline where there is one. Each better reply is told."""
+
+    nodes: int = NO_LIMIT
+    deadline: Optional[float] = None
+    tell: Optional[Callable[[Reply], object]] = None
+
+    @classmethod
+    def of(
+        cls,
+        nodes: Optional[int],
+        time_limit: Optional[float],
+        tell: Optional[Callable[[Reply], object]] = None,
+    ) -> Limits:
+        """The limits that begin now."""
+        return cls(budget(nodes), deadline_of(time_limit), tell)
+
+    def plan(self) -> Plan:
+        """What a process that searches is told of them."""
+        return self.nodes, self.deadline, self.deadline is not None or self.tell is not None
+
+
+class _Told:
+    """The replies to a job as one. Each that is better than those before is told."""
+
+    def __init__(self, job: Job, tell: Optional[Callable[[Reply], object]]) -> None:
+        self.reply = NOTHING
+        self.is_telling = False
+        self._join = join_of(job)
+        self._tell = tell
+        self._least: Optional[Tuple[Optional[int]]] = None  # the cost that was told, once something was
+
+    def take(self, reply: Reply) -> None:
+        """Takes one more reply."""
+        self.reply = self._join(self.reply, reply)
+        status, cost, _, _ = self.reply
+        if self._tell is None or status not in _FOUND:
+            return
+        if self._least is None or (cost is not None and self._least[0] is not None and cost < self._least[0]):
+            self._least = (cost,)
+            self.is_telling = True  # also where that raises
+            self._tell(self.reply)
+            self.is_telling = False
+
+
+def search(job: Job, limits: Limits) -> Reply:
+    """What is found in a text."""
+    is_divided = job[2] == library.FORMATS["icnf"]  # of which each cube has a budget of its own, and there may be many
+    told = _Told(job, limits.tell)
+
+    def planned(plan: Plan) -> Plan:
+        nodes, deadline, grows = plan
+        return nodes, deadline, grows and not is_divided
+
+    def here(plan: Plan) -> None:
+        for _, reply in replies(Search(library.loaded), job, planned(plan)):
+            told.take(reply)
+
+    def by_child() -> None:
+        child = _Child()
+        with child:
+            child.ask(job, planned(limits.plan()), told)
+
+    _find(_is_small(job), here, by_child, limits, told)
+    return told.reply
+
+
+def _find(is_small: bool, here: Callable[[Plan], None], by_child: Callable[[], None], limits: Limits, told: _Told) -> None:
+    """Searches in this process, or by a child."""
+    if limits.deadline is None and threading.current_thread() is not threading.main_thread():
+        return here(limits.plan())  # where Ctrl-C is never raised
+    if is_small:  # a child takes longer to start than most of these take in all
+        here((min(limits.nodes, _FEW_DECISIONS), None, False))
+        if told.reply[0] not in CUT or limits.nodes <= _FEW_DECISIONS:
+            return None
+    try:
+        return by_child()
     except ChildProcessError:
-        if deadline is not None:
+        if limits.deadline is not None or told.is_telling:
             raise
-        return here(nodes)
+        return here(limits.plan())
 
 
 @dataclass(frozen=True)
@@ -119,39 +175,44 @@ class Statements:
 
 
 class Kept:
-    """The searches that a model keeps from one question to the next: one in this process, and one in a child."""
+    """The searches that a model keeps from one question to the next: one in this process, and one in a child, unless there is one
+    question alone."""
 
-    def __init__(self) -> None:
+    def __init__(self, is_for_many: bool = True) -> None:
+        self._is_for_many = is_for_many
         self._here: Optional[Search] = None
         self._told_here: Optional[Statements] = None
         self._child: Optional[_Child] = None
 
-    def ask(self, statements: Statements, question: Question, nodes: int, deadline: Optional[float]) -> Reply:
-        """What is found with at most `nodes` decisions, and by the deadline where there is one."""
-        here = lambda most: self._ask_here(statements, question, most)  # noqa: E731
-        by_child = lambda: self._ask_child(statements, question, _budgets(nodes, deadline), deadline)  # noqa: E731
-        return _found(_is_small(statements), here, by_child, nodes, deadline)
+    def ask(self, statements: Statements, question: Question, limits: Limits) -> Reply:
+        """What is found."""
+        told = _Told(("told", [], question), limits.tell)
+        here = lambda plan: self._ask_here(statements, question, plan, told)  # noqa: E731
+        by_child = lambda: self._ask_child(statements, question, limits.plan(), told)  # noqa: E731
+        is_long = question[0] == "fixed" and self._child is not None  # many searches, of which some question took long before
+        _find(_is_small(statements) and not is_long, here, by_child, limits, told)
+        return told.reply
 
-    def _ask_here(self, statements: Statements, question: Question, nodes: int) -> Reply:
-        made, told = self._here or Search(library.loaded), self._told_here
+    def _ask_here(self, statements: Statements, question: Question, plan: Plan, told: _Told) -> None:
+        made, before = self._here or Search(library.loaded), self._told_here
         self._here = self._told_here = None  # where it is refused in part, none is kept
-        reply = made.run(("told", statements.after(told), question), nodes)
-        if not reply[3]:
+        for _, reply in replies(made, ("told", statements.after(before), question), plan):
+            told.take(reply)
+        if not told.reply[3]:
             self._here, self._told_here = made, statements
-        return reply
 
-    def _ask_child(self, statements: Statements, question: Question, budgets: list[int], deadline: Optional[float]) -> Optional[Reply]:
+    def _ask_child(self, statements: Statements, question: Question, plan: Plan, told: _Told) -> None:
         child, self._child = self._child, None
-        is_kept = child is not None or question[:3] != _PLAIN
+        is_kept = self._is_for_many and (child is not None or question[:3] != _PLAIN)
         if child is None or not child.resume():
             child = _Child()
+        job: Job = ("told", statements.after(child.told), question)
         with child:
-            reply = child.ask(("told", statements.after(child.told), question), budgets, deadline)
-            if is_kept and child.has_answered and not (reply and reply[3]):
+            child.ask(begun_with(job, told.reply) if plan[2] else job, plan, told)
+            if is_kept and child.has_answered and not told.reply[3]:
                 child.told = statements
                 child.wait_for_more()
                 self._child = child
-        return reply
 
 
 def _is_small(asked: Union[Job, Statements]) -> bool:
@@ -162,53 +223,31 @@ def _is_small(asked: Union[Job, Statements]) -> bool:
     return len(text) <= _FEW_BYTES and format != library.FORMATS["icnf"]
 
 
-def _budgets(nodes: int, deadline: Optional[float]) -> list[int]:
-    """The budgets of one search after another. Before one that a deadline may end, smaller ones find what can be told then."""
-    return [nodes] if deadline is None else [*(few for few in _FIRST_BUDGETS if few < nodes), nodes]
-
-
-class _Child:
-    """A process that searches. It is ended with the `with` statement that it is used in, unless it waits for more by then. Ctrl-C is
-    held back from its start until it is asked, and so is raised within that statement."""
+class _Child(Child):
+    """A process that searches. It is ended with the `with` statement that it is used in, unless it waits for more by then."""
 
     def __init__(self) -> None:
         self.told: Optional[Statements] = None
         self.has_answered = False
         self._is_waiting = False
-        self._thread = threading.current_thread()  # with which the system ends it
         self._request = library.framed((os.getpid(), library.loaded._name))
-        held = signal.pthread_sigmask(signal.SIG_BLOCK, {signal.SIGINT})  # the child inherits that: Ctrl-C is for this process
-        self._held: Optional[Set[signal.Signals]] = held
-        try:
-            self._process = _start()
-        except BaseException:
-            self._let_through()
-            raise
-        self._end = weakref.finalize(self, _end, self._process, os.getpid())
-
-    def __enter__(self) -> _Child:
-        return self
+        super().__init__(python_command(library.__file__))
 
     def __exit__(self, *_: object) -> None:
         if not self._is_waiting:
             self._end()
         self._let_through()
 
-    def _let_through(self) -> None:
-        """Lets Ctrl-C through again."""
-        held, self._held = self._held, None
-        if held is not None:
-            signal.pthread_sigmask(signal.SIG_SETMASK, held)
-
-    def ask(self, job: Job, budgets: list[int], deadline: Optional[float]) -> Optional[Reply]:
-        """What it found, at the deadline what it had found by then, if anything. Raises ChildProcessError where it did not begin."""
+    def ask(self, job: Job, plan: Plan, told: _Told) -> None:
+        """Hands over what it finds, up to the deadline. Raises ChildProcessError where it did not begin."""
         self._let_through()
-        request, self._request = self._request + library.framed((job, budgets)), b""
-        said, has_ended = _said(self._process, request, deadline)
-        self.has_answered, reply = _last_reply(said)
-        if has_ended and not self.has_answered:
-            raise _early_end(self._process.wait())
-        return reply
+        request, self._request = self._request + library.framed((job, plan)), b""
+        self.has_answered = False
+        for message in self._messages(request, plan[1]):
+            self.has_answered, reply = marshal.loads(message)
+            told.take(reply)
+            if self.has_answered:
+                return
 
     def wait_for_more(self) -> None:
         """Lets it wait for another question. Where many wait, the one that does so longest is ended."""
@@ -232,69 +271,37 @@ class _Child:
         return True
 
 
-def _start() -> subprocess.Popen[bytes]:
-    python = sys.executable or ""
-    if not Path(python).name.lower().startswith(("python", "pypy")):  # the program has a Python within itself
-        raise ChildProcessError(f"no Python to search in a process of its own: sys.executable is {python!r}")
-    command = [python, "-S", "-s", library.__file__]
+class _TimeIsUp(Exception):
+    """A program has not answered by the deadline."""
+
+
+@dataclass(frozen=True)
+class _Runs:
+    """Runs of the program, each from nothing, in place of a search of the library."""
+
+    workers: Workers
+    deadline: Optional[float]
+
+    def run(self, job: Job, nodes: int) -> Reply:
+        """What a run finds with at most `nodes` decisions in each piece. Raises _TimeIsUp where that is not by the deadline."""
+        _, text, format = job
+        named = {number: name for name, number in library.FORMATS.items()}[format]
+        program = Program(self.workers.command(named, nodes))
+        with program:
+            report = program.answer(text, self.deadline)
+        if report is None:
+            raise _TimeIsUp
+        return library.reply_of(report.decode("ascii"), is_budget(nodes))
+
+
+def run_program(job: Job, workers: Workers, limits: Limits) -> Reply:
+    """What the program finds in a text with these workers."""
+    if MOST_NODES < limits.nodes < NO_LIMIT:
+        raise ValueError(f"with workers or a split a budget is at most {MOST_NODES}, and not {limits.nodes}")
+    told = _Told(job, limits.tell)
     try:
-        return subprocess.Popen(command, bufsize=0, stdin=subprocess.PIPE, stdout=subprocess.PIPE, stderr=subprocess.DEVNULL)
-    except OSError as fault:
-        raise ChildProcessError(f"{python} cannot be run: {fault}") from fault
-
-
-def _end(child: subprocess.Popen[bytes], maker: int) -> None:
-    for pipe in (child.stdin, child.stdout):
-        assert pipe is not None
-        pipe.close()
-    if os.getpid() == maker:  # and not one that it was forked into
-        child.kill()
-        child.wait()
-
-
-def _is_ready(pipe: int, event: int, deadline: Optional[float]) -> bool:
-    """Waits until the pipe can be read or written, and answers whether it can before the deadline."""
-    poll = select.poll()
-    poll.register(pipe, event)
-    return bool(poll.poll(None if deadline is None else max(deadline - time.monotonic(), 0) * 1000))
-
-
-def _said(child: subprocess.Popen[bytes], request: bytes, deadline: Optional[float]) -> Tuple[bytes, bool]:
-    """What the child writes until it has made its last reply, or has ended, or the deadline has come; and whether it has ended."""
-    assert child.stdin is not None and child.stdout is not None
-    said, pipe = bytearray(), child.stdout.fileno()
-    _send(child.stdin.fileno(), request, deadline)
-    while not _last_reply(said)[0] and _is_ready(pipe, select.POLLIN, deadline):
-        part = os.read(pipe, 1 << 20)
-        if not part:
-            return bytes(said), True
-        said += part
-    return bytes(said), False
-
-
-def _send(pipe: int, request: bytes, deadline: Optional[float]) -> None:
-    """Writes the request, up to the deadline."""
-    os.set_blocking(pipe, False)
-    left = memoryview(request)
-    while left and _is_ready(pipe, select.POLLOUT, deadline):
-        try:
-            left = left[os.write(pipe, left) :]
-        except BrokenPipeError:  # the child has ended, as reading from it tells
-            return
-
-
-def _last_reply(said: Union[bytes, bytearray]) -> Tuple[bool, Optional[Reply]]:
-    """The last whole reply, if there is one, and whether it is of the last search."""
-    is_last, reply, at = False, None, 0
-    while at + 8 <= len(said):
-        end = at + 8 + int.from_bytes(said[at : at + 8], "little")
-        if end > len(said):
-            break
-        is_last, reply = marshal.loads(said[at + 8 : end])
-        at = end
-    return is_last, reply
-
-
-def _early_end(status: int) -> Exception:
-    """Why the child ended before its last reply: by a signal of another, or since it could not begin."""
-    return Error("Ended") if status < 0 else ChildProcessError(f"{sys.executable} ended with status {status}")
+        for _, reply in replies(_Runs(workers, limits.deadline), job, limits.plan()):
+            told.take(reply)
+    except _TimeIsUp:
+        pass
+    return told.reply
