@@ -14,7 +14,7 @@ make_keeping_toolchain() { # in a folder, with the file that the module is copie
   cat > "$1/bin/clang" << END
 #!/usr/bin/env bash
 for word; do
-  case \$word in *.bc) cp "\$word" '$2.new' ;; esac
+  case \$word in *.bc) ! grep -q pb_c_run "\$word" || cp "\$word" '$2.new' ;; esac
 done
 exec -a "\$0" '$kit/toolchain/bin/clang' "\$@"
 END

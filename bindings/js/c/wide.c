@@ -18,11 +18,13 @@ static uint128 joined(uint64_t low, uint64_t high)
     return made.whole;
 }
 
-/* The whole product of two numbers of 64 bits, by their halves. */
+/* The whole product of two numbers of 64 bits, by their halves. The empty asm hides one of them: a compiler that sees all of it takes
+ * it for a product of 128 bits, and calls __multi3. */
 static uint128 product(uint64_t one, uint64_t other)
 {
     uint64_t half = 0xffffffff;
     uint64_t low = (one & half) * (other & half), cross = (one >> 32) * (other & half);
+    __asm__("" : "+r"(cross));
     uint64_t middle = (low >> 32) + (cross & half) + (one & half) * (other >> 32); /* below 2^64: 2^32 - 1 twice, and their square */
     return joined((low & half) | middle << 32, (one >> 32) * (other >> 32) + (cross >> 32) + (middle >> 32));
 }
