@@ -165,7 +165,7 @@ def unbuilt_copy(top):
     for name in ("install", "package", "VERSION"):
         shutil.copy(TOP / name, top)
     for name in ("packaging", "docs", "bindings"):
-        shutil.copytree(TOP / name, top / name, ignore=shutil.ignore_patterns("target", "out"))
+        shutil.copytree(TOP / name, top / name, ignore=shutil.ignore_patterns("target", "out", "dist"))
     return top
 
 

@@ -31,7 +31,7 @@ export class Configurator {
     const list = this.#place.querySelector("#options");
     const boxes = groups.map((group) => element("fieldset", {}, element("legend", {}, group)));
     options.forEach((option, place) => {
-      const button = element("button", { type: "button", "aria-pressed": "false", "data-state": "free" });
+      const button = element("button", { type: "button", "aria-pressed": "false", "data-state": "free", "data-place": place });
       button.append(element("span", {}, option.name.slice(groups[option.group].length + 1)), element("small", {}, `${option.price} €`));
       button.addEventListener("click", () => this.click(place));
       this.#buttons.push(button);

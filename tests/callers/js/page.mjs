@@ -44,7 +44,7 @@ async function texts(page) {
   told.push(`${names.length} examples`);
   await page.value(solve, "1 x1 >= 1 ;\n1 x1 x2 >= 1 ;\n", "opb");
   await page.until(isDone);
-  const shown = await page.value(() => [document.querySelector(".fault").innerText, document.querySelector(".faulty").innerText]);
+  const shown = await page.value(() => [document.querySelector("#answer .fault").innerText, document.querySelector(".faulty").innerText]);
   assert.match(shown[0], /^$|NonLinear at line 2: put a new variable/);
   assert.equal(shown[1], "1 x1 x2 >= 1 ;");
 }
@@ -85,7 +85,7 @@ async function configurator(page) {
   for (let click = 0; click < CLICKS; click++) {
     const now = await page.value(states);
     const places = [...now.keys()].filter((place) => now[place] === (click % 6 === 5 ? "chosen" : "free"));
-    times.push(await clicked(page, places[below(places.length)]));
+    times.push(await clicked(page, `#options button[data-place="${places[below(places.length)]}"]`));
   }
   times.sort((one, other) => one - other);
   told.push(`${CLICKS} clicks, in ${times[CLICKS / 2].toFixed(0)} ms in the median and at most ${times.at(-1).toFixed(0)}`);
@@ -99,18 +99,19 @@ async function configurator(page) {
   const price = await page.value(() => document.querySelector("#price").textContent);
   assert.equal(price, `${model.solve({ assuming: chosen }).cost} €`);
   await reasons(page, found, model, chosen);
-  await page.value(() => document.querySelector("#cheapest").click());
-  await page.until(() => !document.querySelector("#options [data-state=free]"));
+  await clicked(page, "#cheapest");
+  const taken = (await page.value(states)).map((state) => state === "chosen");
+  assert.deepEqual(taken, [...model.solve({ assuming: chosen }).values]);
   assert.equal(await page.value(() => document.querySelector("#price").textContent), price);
 }
 
-/** Clicks an option, and answers how long that took by the page. */
-async function clicked(page, place) {
+/** Clicks a button that asks, and answers how long that took by the page. */
+async function clicked(page, button) {
   const before = await page.value((it) => {
     const { dataset } = document.querySelector("#click-time");
-    document.querySelectorAll("#options button")[it].click();
+    document.querySelector(it).click();
     return Number(dataset.asked);
-  }, place);
+  }, button);
   await page.until((it) => Number(document.querySelector("#click-time").dataset.asked) > it, before);
   return page.value(() => Number(document.querySelector("#click-time").dataset.milliseconds));
 }
@@ -176,7 +177,7 @@ async function write(page, name, scheme) {
 const page = await Page.open(browser);
 try {
   await page.call("Page.navigate", { url: String(pathToFileURL(file)) });
-  await page.until(() => document.documentElement.dataset.ready === "yes");
+  await page.until(() => document.documentElement?.dataset.ready === "yes");
   for (const part of [texts, stops, configurator, pictures, ways]) await part(page);
   if (picture) await write(page, picture, "light");
   assert.deepEqual(page.errors, []);
