@@ -155,7 +155,7 @@ static int grow(size_t room)
     return 1;
 }
 
-/* The room for so many bytes, or 0 where nobody can have them. */
+/* The room that holds these bytes, or 0 where no engine has it. */
 static size_t room_for(size_t bytes)
 {
     if (bytes > MOST)

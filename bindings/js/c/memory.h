@@ -11,17 +11,17 @@ struct tried {
     void *data;
 };
 
-/* A block of so many bytes, aligned to 16; null where it is refused. */
+/* A block of this size, aligned to 16; null where it is refused. */
 void *allocate(size_t bytes);
 
-/* Makes a block one of so many bytes, of which the first `kept` are as they were. It may move. Null where that is refused, and then
- * the block is as it was. */
+/* Gives a block another size. It may move, and its first `kept` bytes are as they were. Null where that is refused, and then the block
+ * is as it was. */
 void *resize(void *data, size_t kept, size_t bytes);
 
 /* Frees a block. Null is no block. */
 void release(void *data);
 
-/* Has each request refused that would bring the blocks and their heads over so many bytes. */
+/* Has each request refused that would bring the blocks and their heads over this number of bytes. */
 void limit_memory(size_t bytes);
 
 /* How many bytes the blocks have, with their heads. */

@@ -45,7 +45,7 @@ export async function moduleOf(wasm) {
   }
 }
 
-/** The exports of a new instance, which takes at most so many bytes of memory for what it is told and learns. */
+/** The exports of a new instance, with the most bytes of memory that it takes for what it is told and learns. */
 export async function instanceOf(wasm, memory) {
   const module = await moduleOf(wasm);
   let calls;

@@ -194,7 +194,7 @@ export class Model {
   readonly memory: number;
   /** A new variable, with a name where one is given. */
   variable(name?: string): Literal;
-  /** New variables: so many, or one of each name, which may also be the words of one text. */
+  /** New variables: a number of them, or one of each name, which may also be the words of one text. */
   variables(count: number | string | Iterable<string>): Literal[];
   /** The variable of that name. */
   get(name: string): Literal;
@@ -210,11 +210,11 @@ export class Model {
   implies(condition: LiteralLike, consequence: LiteralLike): void;
   /** Adds that where the condition is true, the comparison holds. */
   implies(condition: LiteralLike, sum: SumLike, relation: Relation, bound: SumLike): void;
-  /** Adds that at least so many of the literals are true. */
+  /** Adds that at least `count` of the literals are true. */
   atLeast(count: Whole, literals: Iterable<LiteralLike>): void;
-  /** Adds that at most so many of the literals are true. */
+  /** Adds that at most `count` of the literals are true. */
   atMost(count: Whole, literals: Iterable<LiteralLike>): void;
-  /** Adds that exactly so many of the literals are true. */
+  /** Adds that exactly `count` of the literals are true. */
   exactly(count: Whole, literals: Iterable<LiteralLike>): void;
   /** Searches for the least assignment. */
   solve(options?: SolveOptions): Answer;

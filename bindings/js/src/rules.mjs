@@ -25,7 +25,7 @@ export class Rules {
     return this.#made([name])[0];
   }
 
-  /** New variables: so many of them, or one of each name, which may also be the words of one text, as "x y". */
+  /** New variables: a number of them, or one of each name, which may also be the words of one text, as "x y". */
   variables(count) {
     if (typeof count === "string") return this.#made(count.split(/\s+/).filter(Boolean));
     if (typeof count?.[Symbol.iterator] === "function") return this.#made([...count]);
@@ -104,17 +104,17 @@ export class Rules {
     for (const sum of guarded) this.add(sum, ">=", 0);
   }
 
-  /** Adds that at least so many of the literals are true. */
+  /** Adds that at least `count` of the literals are true. */
   atLeast(count, literals) {
     this.#count(literals, ">=", count);
   }
 
-  /** Adds that at most so many of the literals are true. */
+  /** Adds that at most `count` of the literals are true. */
   atMost(count, literals) {
     this.#count(literals, "<=", count);
   }
 
-  /** Adds that exactly so many of the literals are true. */
+  /** Adds that exactly `count` of the literals are true. */
   exactly(count, literals) {
     this.#count(literals, "=", count);
   }

@@ -156,7 +156,7 @@ export class Session {
     return new Kind(this.#calls.memory.buffer, Number(pointer), length);
   }
 
-  /** Room for so many bytes, which is the caller's up to the next call of this. */
+  /** Room of at least this size, which is the caller's up to the next call of this. */
   #taken(bytes) {
     if (bytes > this.#size || this.#size === 0) {
       const size = Math.max(bytes, 64);

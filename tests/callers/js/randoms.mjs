@@ -12,7 +12,7 @@ export function randomsOf(seed) {
   return {
     /** A number from 0 to below the limit. */
     below: (limit) => next() % limit,
-    /** A number of so many bits. */
+    /** A number below 2 to the power of `count`. */
     bits(count) {
       let number = 0n;
       for (let left = count; left > 0; left -= 32) number = (number << 32n) | BigInt(next());
