@@ -40,7 +40,7 @@ export type Code =
 
 /** A call was refused, and what it was made on is as before. */
 export class PbcubeError extends Error {
-  private constructor();
+  protected constructor();
   /** Why. */
   readonly code: Code;
   /** What may help, or an empty text. */
