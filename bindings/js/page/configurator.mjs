@@ -4,10 +4,12 @@ import { element, inWords } from "./elements.mjs";
 
 const WORDS = { chosen: "chosen", forced: "included", impossible: "impossible", free: "" };
 
-/** The part of the page with this solver. */
+/** The part of the page. It asks two solvers at a time: one that knows the rules alone says what is forced and why, and one that knows
+ * the prices too says what is cheapest. Without prices the first has less to search. */
 export class Configurator {
-  #solver;
-  #variables;
+  #rules;
+  #prices;
+  #variables; // of the rules
   #line = productLine();
   #chosen = new Set(); // places of options
   #buttons = [];
@@ -20,9 +22,11 @@ export class Configurator {
     this.#draw();
   }
 
-  async begin(solver) {
-    this.#solver = solver;
-    this.#variables = await tellProductLine(solver);
+  async begin(rules, prices) {
+    this.#rules = rules;
+    this.#prices = prices;
+    this.#variables = await tellProductLine(rules, false);
+    await tellProductLine(prices);
     await this.#ask();
   }
 
@@ -76,15 +80,15 @@ export class Configurator {
   }
 
   #assuming() {
-    return [...this.#chosen].map((place) => this.#variables[place]);
+    return [...this.#chosen].map((place) => place + 1);
   }
 
   async #ask() {
     const begun = performance.now();
     const assuming = this.#assuming();
-    const fixed = await this.#solver.fixed({ assuming });
+    const [fixed, least] = await Promise.all([this.#rules.fixed({ assuming }), this.#prices.solve({ assuming })]);
     this.#buttons.forEach((button, place) => this.#show(button, place, fixed.get(this.#variables[place])));
-    this.#least = await this.#solver.solve({ assuming });
+    this.#least = least;
     const took = performance.now() - begun;
     this.#place.querySelector("#price").textContent = `${this.#least.cost} €`;
     this.#place.querySelector("#count").textContent = `${this.#chosen.size} chosen`;
@@ -108,7 +112,7 @@ export class Configurator {
   async #explain(place, state) {
     const literal = this.#variables[place];
     const asked = state === "forced" ? literal.not() : literal;
-    const { core } = await this.#solver.explain([...this.#assuming(), asked]);
+    const { core } = await this.#rules.explain([...this.#assuming(), asked]);
     const choices = core.filter((it) => it.number !== asked.number).map((it) => it.number - 1);
     const names = choices.map((it) => this.#line.options[it].name);
     const why = this.#place.querySelector("#why");

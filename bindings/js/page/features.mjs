@@ -49,8 +49,8 @@ export function productLine() {
   return { groups: GROUPS, options, rules };
 }
 
-/** Tells a model or a solver the product line, and answers its variables. */
-export async function tellProductLine(model) {
+/** Tells a model or a solver the product line, with its prices where they are wanted, and answers its variables. */
+export async function tellProductLine(model, hasPrices = true) {
   const { groups, options, rules } = productLine();
   const them = await model.variables(options.map((it) => it.name));
   for (let at = 0; at < groups.length; at++) {
@@ -61,6 +61,6 @@ export async function tellProductLine(model) {
   for (const { clause } of rules) await model.clause(clause);
   await model.add(options.map((it, place) => [it.weight, them[place]]), "<=", MOST_WEIGHT);
   await model.add(options.map((it, place) => [it.power, them[place]]), "<=", 0);
-  await model.minimise(options.map((it, place) => [it.price, them[place]]));
+  if (hasPrices) await model.minimise(options.map((it, place) => [it.price, them[place]]));
   return them;
 }

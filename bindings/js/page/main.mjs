@@ -20,7 +20,7 @@ export async function begin(bytes, worker, examples) {
     const wasm = await moduleOf(bytes);
     const made = () => Solver.create({ wasm, worker });
     texts.begin(await made());
-    await configurator.begin(await made());
+    await configurator.begin(await made(), await made());
     at("#draw-schedule").addEventListener("click", () => draw(drawSchedule, "#schedule"));
     at("#draw-picture").addEventListener("click", () => draw(drawPicture, "#picture"));
     document.documentElement.dataset.ready = "yes";
