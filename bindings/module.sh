@@ -1,4 +1,4 @@
-# shellcheck shell=bash
+# shellcheck shell=bash disable=SC2154
 # For the builds of bindings/, to be sourced behind crates.sh: crates/pb_c, and the LLVM module that its compiler is handed.
 #
 # `rattle build` proves a static library, writes it as one LLVM module, and has the clang of its toolchain compile that for x86-64.

@@ -44,7 +44,8 @@ export function productLine() {
     if (options[one - 1].group === group) continue;
     const first = below(GRADES.length - 4);
     const taken = [0, 1, 2, 3].map((step) => group * GRADES.length + first + step + 1);
-    rules.push({ text: `${options[one - 1].name} needs one of ${taken.map((it) => options[it - 1].name).join(", ")}`, clause: [-one, ...taken] });
+    const names = taken.map((it) => options[it - 1].name);
+    rules.push({ text: `${options[one - 1].name} needs one of ${names.join(", ")}`, clause: [-one, ...taken] });
   }
   return { groups: GROUPS, options, rules };
 }

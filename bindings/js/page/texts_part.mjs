@@ -86,7 +86,8 @@ export class Texts {
       ["Time", `${took.toFixed(1)} ms`],
       ["Budget", budget === undefined ? null : `${budget} decisions`],
     ].filter(([, told]) => told !== null && told !== undefined);
-    const table = element("table", {}, ...rows.map(([head, told]) => element("tr", {}, element("th", {}, head), element("td", {}, `${told}`))));
+    const row = ([head, told]) => element("tr", {}, element("th", { scope: "row" }, head), element("td", {}, `${told}`));
+    const table = element("table", {}, ...rows.map(row));
     this.#at("#answer").replaceChildren(table, ...this.#saved(report));
   }
 

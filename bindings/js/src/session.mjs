@@ -203,7 +203,7 @@ function budgetOf(nodes) {
 }
 
 /** A limit of memory as the module takes it. */
-function limitOf(memory) {
+export function limitOf(memory) {
   if (memory === undefined) return undefined;
   if (!Number.isSafeInteger(memory) || memory < 0) refuse("a limit of memory is a whole number of bytes");
   return BigInt(memory);

@@ -3,6 +3,7 @@ import { Answer, Explanation, Fixed } from "./answers.mjs";
 import { moduleOf } from "./engine.mjs";
 import { PbcubeError } from "./errors.mjs";
 import { Rules } from "./rules.mjs";
+import { limitOf } from "./session.mjs";
 import { textAnswer, textQuestion } from "./texts.mjs";
 
 const MOST_CONSTRAINTS = 4_194_304;
@@ -44,6 +45,7 @@ export class Solver {
 
   /** A solver that was told nothing. */
   static async create({ wasm, memory, worker = workerBeside } = {}) {
+    limitOf(memory); // which refuses what is none
     return new Solver({ wasm: await moduleOf(wasm), memory }, worker);
   }
 

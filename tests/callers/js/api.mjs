@@ -186,7 +186,7 @@ async function modules() {
     await refused("BadModule", () => Model.create({ wasm: bytes.subarray(0, length) }));
   }
   await refused("BadModule", () => Model.create({ wasm: new Uint8Array([0, 0x61, 0x73, 0x6d, 1, 0, 0, 0]) }));
-  await refused("BadArgument", () => Model.create({ memory: 0.5 }));
+  for (const Kind of [Model, Solver]) await refused("BadArgument", () => Kind.create({ memory: 0.5 }));
   await refused("Memory", () => Model.create({ memory: 10 }));
   const { model } = await covered(Model, { wasm: await WebAssembly.compile(bytes) });
   is(model.solve().cost, 3);

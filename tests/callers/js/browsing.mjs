@@ -19,7 +19,8 @@ export class Page {
   static async open(browser) {
     const page = new Page();
     page.#folder = mkdtempSync(join(tmpdir(), "pbcube-page-"));
-    page.#process = spawn(browser, [...SWITCHES, `--user-data-dir=${page.#folder}`, "about:blank"], { stdio: ["ignore", "ignore", "pipe"] });
+    const words = [...SWITCHES, `--user-data-dir=${page.#folder}`, "about:blank"];
+    page.#process = spawn(browser, words, { stdio: ["ignore", "ignore", "pipe"] });
     page.#socket = await connected(await address(page.#process));
     page.#socket.onmessage = ({ data }) => page.#hear(JSON.parse(data));
     const { targetId } = await page.call("Target.createTarget", { url: "about:blank" });

@@ -143,7 +143,8 @@ async function pictures(page) {
   await page.until(() => document.querySelector("#picture-time").textContent);
   const wrong = await page.value(() => {
     const rows = [...document.querySelector(".picture").rows].map((row) => [...row.cells]);
-    const runs = (cells) => cells.map((it) => (it.className === "dark" ? "#" : " ")).join("").split(/ +/).filter(Boolean).map((it) => it.length);
+    const drawn = (cells) => cells.map((it) => (it.className === "dark" ? "#" : " ")).join("");
+    const runs = (cells) => (drawn(cells).match(/#+/g) ?? []).map((it) => it.length);
     const across = rows.slice(1).filter((row) => runs(row.slice(1)).join(" ") !== row[0].textContent);
     const down = rows[0].slice(1).filter((head, at) => runs(rows.slice(1).map((row) => row[at + 1])).join("\n") !== head.textContent);
     return across.length + down.length;
