@@ -1,7 +1,8 @@
 /** Loads the page in a browser, uses each part of it, and checks what it shows: page.mjs BROWSER PAGE [PICTURE]. */
 import assert from "node:assert/strict";
 import { readFileSync, writeFileSync } from "node:fs";
-import { dirname, join } from "node:path";
+import { createServer } from "node:http";
+import { basename, dirname, join } from "node:path";
 import { pathToFileURL } from "node:url";
 import { Page } from "./browsing.mjs";
 import { randomsOf } from "./randoms.mjs";
@@ -167,6 +168,38 @@ async function ways(page) {
   await page.call("Emulation.clearDeviceMetricsOverride");
 }
 
+/** The modules of dist/ as a web server has them: a model, and a solver in a worker of the file beside it. */
+async function modules(page) {
+  const server = createServer(({ url }, response) => {
+    const name = basename(url);
+    const kinds = { mjs: "text/javascript", wasm: "application/wasm" };
+    if (!name) return response.setHeader("content-type", "text/html").end("<title>served</title><link rel=icon href=data:,>");
+    return response.setHeader("content-type", kinds[name.split(".").at(-1)]).end(readFileSync(join(folder, "../dist", name)));
+  });
+  await new Promise((resolve) => server.listen(0, "127.0.0.1", resolve));
+  await page.call("Page.navigate", { url: `http://127.0.0.1:${server.address().port}/` });
+  await page.until(() => document.title === "served");
+  const found = await page.value(async (hard) => {
+    const { Model, Solver } = await import("/pbcube.mjs");
+    const costs = [];
+    for (const Kind of [Model, Solver]) {
+      const model = await Kind.create();
+      const [x, y] = await model.variables(2);
+      await model.minimise([[3, x], [2, y]]);
+      await model.clause([x, y]);
+      if (Kind === Solver) {
+        const fault = await model.solveText(hard, { signal: AbortSignal.timeout(200) }).catch((it) => it);
+        costs.push(fault.name);
+      }
+      costs.push((await model.solve()).cost, (await model.solve({ assuming: [y.not()] })).cost);
+    }
+    return costs;
+  }, pigeons(PIGEONS));
+  assert.deepEqual(found, [2, 3, "TimeoutError", 2, 3]);
+  server.close();
+  told.push("the modules from a server");
+}
+
 async function write(page, name, scheme) {
   await page.call("Emulation.setEmulatedMedia", { features: [{ name: "prefers-color-scheme", value: scheme }] });
   await page.call("Emulation.setDeviceMetricsOverride", { width: 1100, height: 1400, deviceScaleFactor: 1, mobile: false });
@@ -181,6 +214,7 @@ try {
   await page.until(() => document.documentElement?.dataset.ready === "yes");
   for (const part of [texts, stops, configurator, pictures, ways]) await part(page);
   if (picture) await write(page, picture, "light");
+  await modules(page);
   assert.deepEqual(page.errors, []);
   console.log(told.join("; "));
 } finally {
