@@ -10,7 +10,8 @@ Every call is made in the ways that pbcube.d.ts declares and in ways that it doe
 and 10,000 times in a row (api.mjs). npm installs the package, from no registry, and the example of docs/WEB.md runs on it. Without the
 flag, a Node that wants it is refused by name.
 
-With --page it loads the page of bindings/js/page in headless Chromium instead (page.mjs), from a file, and may write a picture of it.
+With --page it loads the page of bindings/js/page in headless Chromium instead (page.mjs), from a file, uses each part of it, and may
+write a picture of it; then it loads the modules from a server.
 """
 import base64
 import json

@@ -1,13 +1,13 @@
 /** The configurator: each click tells what is forced, what is impossible, and the least price. */
 import { productLine, tellProductLine } from "./features.mjs";
-import { element, inWords } from "./elements.mjs";
+import { element, faultText, inWords } from "./elements.mjs";
 
 const WORDS = { chosen: "chosen", forced: "included", impossible: "impossible", free: "" };
 
 /** The part of the page. It asks two solvers at a time: one that knows the rules alone says what is forced and why, and one that knows
  * the prices too says what is cheapest. Without prices the first has less to search. */
 export class Configurator {
-  #rules;
+  #rules = null; // until it has begun
   #prices;
   #variables; // of the rules
   #line = productLine();
@@ -23,11 +23,11 @@ export class Configurator {
   }
 
   async begin(rules, prices) {
-    this.#rules = rules;
-    this.#prices = prices;
     this.#variables = await tellProductLine(rules, false);
     await tellProductLine(prices);
-    await this.#ask();
+    this.#rules = rules;
+    this.#prices = prices;
+    await this.#inTurn(() => this.#ask());
   }
 
   #draw() {
@@ -75,7 +75,10 @@ export class Configurator {
 
   /** Does one thing after the other, since a solver is in one call at a time. */
   #inTurn(work) {
-    this.#last = this.#last.then(work);
+    if (this.#rules === null) return undefined;
+    this.#last = this.#last.then(work).catch((fault) => {
+      this.#place.querySelector("#why").textContent = faultText(fault);
+    });
     return this.#last;
   }
 

@@ -26,12 +26,19 @@ export async function begin(bytes, worker, examples) {
     document.documentElement.dataset.ready = "yes";
 
     async function draw(part, selector) {
-      const solver = await made();
-      const begun = performance.now();
+      const button = at(selector.replace("#", "#draw-"));
+      button.disabled = true;
       at(selector).replaceChildren("Searching ..");
-      await part(solver, at(selector));
-      at(`${selector}-time`).textContent = `${(performance.now() - begun).toFixed(0)} ms, with the drawing`;
+      const begun = performance.now();
+      const solver = await made();
+      try {
+        await part(solver, at(selector));
+        at(`${selector}-time`).textContent = `${(performance.now() - begun).toFixed(0)} ms, with the drawing`;
+      } catch (fault) {
+        at(selector).replaceChildren(faultText(fault));
+      }
       solver.close();
+      button.disabled = false;
     }
   } catch (fault) {
     at("#fault").hidden = false;

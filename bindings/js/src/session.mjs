@@ -90,13 +90,12 @@ export class Session {
 
   #explain({ literals, nodes }) {
     const count = BigInt(literals.length);
-    const room = this.#taken(8 * literals.length + 8);
-    const core = room + 4n * count + (count % 2n) * 4n; // the literals, the core, and how many that are at last, aligned to 8
-    this.#view(Int32Array, room, literals.length).set(literals);
-    const told = room + 8n * count + (count % 2n) * 8n;
-    const status = STATUSES[
-      this.#checked("pb_c_explain", this.#solver, room, count, budgetOf(nodes), core, count, told)
-    ];
+    const told = this.#taken(8 + 8 * literals.length); // how many literals the core has, then the given ones, then the core
+    const given = told + 8n;
+    const core = given + 4n * count;
+    this.#view(Int32Array, given, literals.length).set(literals);
+    const code = this.#checked("pb_c_explain", this.#solver, given, count, budgetOf(nodes), core, count, told);
+    const status = STATUSES[code];
     if (status !== "Unsatisfiable" && status !== "Core") return { status };
     const found = Number(this.#view(BigUint64Array, told, 1)[0]);
     return { status: "Unsatisfiable", core: this.#view(Int32Array, core, found).slice(), isMinimal: status === "Unsatisfiable" };
@@ -107,9 +106,8 @@ export class Session {
     const room = this.#taken(4 * literals.length + variables);
     const statuses = room + 4n * BigInt(literals.length);
     this.#view(Int32Array, room, literals.length).set(literals);
-    const status = STATUSES[
-      this.#checked("pb_c_fixed", this.#solver, room, BigInt(literals.length), among, budgetOf(nodes), statuses, BigInt(variables))
-    ];
+    const words = [room, BigInt(literals.length), among, budgetOf(nodes), statuses, BigInt(variables)];
+    const status = STATUSES[this.#checked("pb_c_fixed", this.#solver, ...words)];
     return status === "Unsatisfiable" ? { status } : { status, statuses: this.#view(Uint8Array, statuses, variables).slice() };
   }
 

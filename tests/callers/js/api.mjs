@@ -206,7 +206,7 @@ async function refusedMemory() {
       return undefined;
     }
   };
-  for (let memory = 200; memory < 1_000_000; memory += 16 + (memory >> 7)) {
+  for (let memory = 200; memory < 1_000_000; memory += 16 + (memory >> 6)) {
     const model = await Model.create({ memory }).catch((fault) => assert.equal(fault.code, "Memory"));
     if (!model) continue;
     const them = model.variables(12);
@@ -225,6 +225,18 @@ async function refusedMemory() {
   }
   for (const costs of owed) is(new Set(costs).size, 1, `with memory refused: ${costs}`);
   is(ends.Memory > 100 && ends.whole > 50, true, `of memory: ${JSON.stringify(ends)}`);
+}
+
+/** Cores and statuses of each length are written where there is room for them, and nothing else is. */
+async function lengths() {
+  const model = await Model.create();
+  for (let count = 1; count <= 80; count++) {
+    const them = model.variables(1).concat(Array.from({ length: model.size - 1 }, (_, place) => place + 1));
+    model.clause(them.slice(0, 1));
+    const why = model.explain(them.map((it) => (it.not ? it.not() : it)));
+    is([why.core.length, why.core[0].number], [1, -count]);
+    is(model.fixed({ assuming: them }).get(count), true);
+  }
 }
 
 async function manyQuestions() {
@@ -313,6 +325,7 @@ await texts();
 for (const Kind of [Model, Solver]) await badInput(Kind);
 await modules();
 await refusedMemory();
+await lengths();
 await manyQuestions();
 await workers();
 console.log(`${checks} checks; the first model took ${created.toFixed(0)} ms`);
