@@ -266,7 +266,7 @@ async function workers() {
   const pigeons = hardText(11);
   const begun = performance.now();
   await assert.rejects(solver.solveText(pigeons, { signal: AbortSignal.timeout(300) }), { name: "TimeoutError" });
-  is(performance.now() - begun < 5000, true, "an abort that takes longer");
+  is(performance.now() - begun < 10_000, true, "an abort that takes longer");
   await refused("Busy", async () => {
     const first = solver.solve();
     try {
