@@ -1,6 +1,6 @@
 /** A model in the caller's own thread. */
 import { Answer, Explanation, Fixed } from "./answers.mjs";
-import { Rules } from "./rules.mjs";
+import { Rules, explainQuestion, fixedQuestion, snapshotOf, solveQuestion } from "./rules.mjs";
 import { Session } from "./session.mjs";
 import { textAnswer, textQuestion } from "./texts.mjs";
 
@@ -10,7 +10,7 @@ export class Model extends Rules {
 
   /** A model that was told nothing. `Model.create` makes one. */
   constructor(session) {
-    super();
+    super((statement) => session.tell(statement));
     if (!(session instanceof Session)) throw new TypeError("a model is made by `await Model.create()`");
     this.#session = session;
   }
@@ -25,27 +25,22 @@ export class Model extends Rules {
     return this.#session.memory;
   }
 
-  /** Tells the module a statement; where it is refused, nothing has changed. */
-  tell(statement) {
-    this.#session.tell(statement);
-  }
-
   /** Searches for the least assignment. */
   solve(options) {
-    const question = this.solveQuestion(options);
-    return new Answer(this.snapshot(), this.#session.ask(question));
+    const question = solveQuestion(this, options);
+    return new Answer(snapshotOf(this), this.#session.ask(question));
   }
 
   /** Asks why nothing is feasible under literals. */
   explain(literals, options) {
-    const question = this.explainQuestion(literals, options);
-    return new Explanation(this.snapshot(), this.#session.ask(question));
+    const question = explainQuestion(this, literals, options);
+    return new Explanation(snapshotOf(this), this.#session.ask(question));
   }
 
   /** Asks which variables have one value in all assignments that are feasible, or of the least cost. */
   fixed(options) {
-    const question = this.fixedQuestion(options);
-    return new Fixed(this.snapshot(), this.#session.ask(question));
+    const question = fixedQuestion(this, options);
+    return new Fixed(snapshotOf(this), this.#session.ask(question));
   }
 
   /** Solves a text by itself, apart from what the model was told. */

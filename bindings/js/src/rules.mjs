@@ -1,4 +1,4 @@
-/** What a model and a solver are told: variables with names, and statements as plain data, which go where `tell` puts them. */
+/** What a model and a solver are told: variables with names, and statements as plain data, which are handed on. */
 import { PbcubeError, refuse, shown } from "./errors.mjs";
 import { Literal, asLiteral, asSum, total, whole } from "./sums.mjs";
 
@@ -7,13 +7,29 @@ const RELATIONS = { ">=": 0, "<=": 1, "=": 2, "==": 2 };
 const AMONG = { feasible: 0, least: 1 };
 const MOST_DECISIONS = 2n ** 64n - 2n;
 
-/** Variables and statements. A subclass has `tell`, which is handed each statement. */
+let asked; // what the functions below ask of rules
+
+/** Variables and statements. */
 export class Rules {
+  static {
+    asked = {
+      question: (rules, ...words) => rules.#question(...words),
+      start: (rules, start) => rules.#valuesOf(start),
+      snapshot: (rules) => rules.#snapshot(),
+    };
+  }
+
+  #tell;
   #owner = Object.freeze({});
   #names = []; // by the places of the variables: a name, or nothing
   #numbers = new Map(); // by name
   #variables = 0;
   #aim = null;
+
+  /** Rules that hand each statement to `tell`, which throws where it is refused. */
+  constructor(tell) {
+    this.#tell = tell;
+  }
 
   /** How many variables there are. */
   get size() {
@@ -72,13 +88,13 @@ export class Rules {
 
   #aimAt(given, sign) {
     const sum = this.#own(asSum(given));
-    this.tell({ kind: "objective", ...columnsOf(sum.times(sign)) });
+    this.#tell({ kind: "objective", ...columnsOf(sum.times(sign)) });
     this.#aim = { sign, constant: sum.constant };
   }
 
   /** Adds that a sum is at least, at most or exactly a number or another sum. */
   add(sum, relation, bound) {
-    this.tell(this.#compared(sum, relation, bound));
+    this.#tell(this.#compared(sum, relation, bound));
   }
 
   #compared(sum, relation, bound) {
@@ -89,13 +105,13 @@ export class Rules {
 
   /** Adds that at least one of the literals is true. */
   clause(literals) {
-    this.tell({ kind: "clause", literals: this.literals(literals) });
+    this.#tell({ kind: "clause", literals: this.#literals(literals) });
   }
 
   /** Adds that where the condition is true, so is a literal, or so holds a comparison. */
   implies(condition, consequence, relation, bound) {
-    const [given] = this.literals([condition]);
-    if (relation === undefined) return this.clause([-given, ...this.literals([consequence])]);
+    const [given] = this.#literals([condition]);
+    if (relation === undefined) return this.clause([-given, ...this.#literals([consequence])]);
     const { relation: number } = this.#compared(consequence, relation, bound);
     const left = asSum(consequence).minus(bound);
     const sums = { 0: [left], 1: [left.times(-1)], 2: [left, left.times(-1)] }[number];
@@ -120,12 +136,12 @@ export class Rules {
   }
 
   #count(literals, relation, count) {
-    const sum = total(Array.from(this.literals(literals), (literal) => [[1, literal]]));
+    const sum = total(Array.from(this.#literals(literals), (literal) => [[1, literal]]));
     this.add(sum, relation, whole(count, "a count"));
   }
 
   /** The numbers of literals, each a literal of this model or a whole number. */
-  literals(given) {
+  #literals(given) {
     if (typeof given?.[Symbol.iterator] !== "function" || typeof given === "string") {
       refuse(`literals stand in an array, and not in ${shown(given)}`);
     }
@@ -146,24 +162,8 @@ export class Rules {
     return number;
   }
 
-  /** A question for the least assignment, as plain data. */
-  solveQuestion({ assuming = [], nodes, start } = {}) {
-    return this.#question("solve", assuming, nodes, { start: start === undefined ? undefined : this.#valuesOf(start) });
-  }
-
-  /** A question why nothing is feasible, as plain data. */
-  explainQuestion(assuming, { nodes } = {}) {
-    return this.#question("explain", assuming, nodes);
-  }
-
-  /** A question which variables are fixed, as plain data. */
-  fixedQuestion({ assuming = [], among = "feasible", nodes } = {}) {
-    if (!Object.hasOwn(AMONG, among)) refuse(`what is asked about is 'feasible' or 'least', and not ${shown(among)}`);
-    return this.#question("fixed", assuming, nodes, { among: AMONG[among] });
-  }
-
   #question(kind, assuming, nodes, more = {}) {
-    return { kind, literals: this.literals(assuming), nodes: budgetOf(nodes), variables: this.#variables, ...more };
+    return { kind, literals: this.#literals(assuming), nodes: budgetOf(nodes), variables: this.#variables, ...more };
   }
 
   /** Values to be tried first, a byte 0 or 1 for each variable: those of an answer, an array, or an object or a map by names. */
@@ -191,10 +191,30 @@ export class Rules {
     return values;
   }
 
-  /** What answers need to know of the model as it is now. */
-  snapshot() {
+  #snapshot() {
     return { owner: this.#owner, names: this.#names, numbers: this.#numbers, variables: this.#variables, aim: this.#aim };
   }
+}
+
+/** A question for the least assignment, as plain data. */
+export function solveQuestion(rules, { assuming = [], nodes, start } = {}) {
+  return asked.question(rules, "solve", assuming, nodes, { start: start === undefined ? undefined : asked.start(rules, start) });
+}
+
+/** A question why nothing is feasible, as plain data. */
+export function explainQuestion(rules, assuming, { nodes } = {}) {
+  return asked.question(rules, "explain", assuming, nodes);
+}
+
+/** A question which variables are fixed, as plain data. */
+export function fixedQuestion(rules, { assuming = [], among = "feasible", nodes } = {}) {
+  if (!Object.hasOwn(AMONG, among)) refuse(`what is asked about is 'feasible' or 'least', and not ${shown(among)}`);
+  return asked.question(rules, "fixed", assuming, nodes, { among: AMONG[among] });
+}
+
+/** What answers need to know of rules as they are now. */
+export function snapshotOf(rules) {
+  return asked.snapshot(rules);
 }
 
 /** What has to be added, where the condition is false, so that the sum is at least 0 whatever its literals are. */

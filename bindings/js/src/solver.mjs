@@ -2,7 +2,7 @@
 import { Answer, Explanation, Fixed } from "./answers.mjs";
 import { moduleOf } from "./engine.mjs";
 import { PbcubeError } from "./errors.mjs";
-import { Rules } from "./rules.mjs";
+import { Rules, explainQuestion, fixedQuestion, snapshotOf, solveQuestion } from "./rules.mjs";
 import { limitOf } from "./session.mjs";
 import { textAnswer, textQuestion } from "./texts.mjs";
 
@@ -16,7 +16,11 @@ class Record extends Rules {
   #terms = 0;
   #aimed = 0; // terms of the objective
 
-  tell(statement) {
+  constructor() {
+    super((statement) => this.#keep(statement));
+  }
+
+  #keep(statement) {
     const isAim = statement.kind === "objective";
     const terms = this.#terms + statement.literals.length - (isAim ? this.#aimed : 0);
     const constraints = this.#constraints + (isAim ? 0 : 1);
@@ -100,22 +104,22 @@ export class Solver {
 
   async solve(options) {
     const record = this.#free();
-    const question = record.solveQuestion(options);
-    const model = record.snapshot();
+    const question = solveQuestion(record, options);
+    const model = snapshotOf(record);
     return new Answer(model, await this.#ask(question, options?.signal));
   }
 
   async explain(literals, options) {
     const record = this.#free();
-    const question = record.explainQuestion(literals, options);
-    const model = record.snapshot();
+    const question = explainQuestion(record, literals, options);
+    const model = snapshotOf(record);
     return new Explanation(model, await this.#ask(question, options?.signal));
   }
 
   async fixed(options) {
     const record = this.#free();
-    const question = record.fixedQuestion(options);
-    const model = record.snapshot();
+    const question = fixedQuestion(record, options);
+    const model = snapshotOf(record);
     return new Fixed(model, await this.#ask(question, options?.signal));
   }
 

@@ -133,7 +133,6 @@ async function texts() {
 /** What no caller ought to hand over: each has its name, and the model is as before. */
 async function badInput(Kind) {
   const { model, x, y } = await covered(Kind);
-  const { x: foreign } = await covered(Model);
   for (const literal of [1.5, "x", NaN, Infinity, 2n, null, undefined, {}, [x]]) {
     await refused("BadArgument", () => model.clause([literal]), model);
     await refused("BadArgument", () => model.solve({ assuming: [y, literal] }), model);
@@ -143,6 +142,17 @@ async function badInput(Kind) {
     await refused("BadVariable", () => model.clause([x, literal]), model);
     await refused("BadVariable", () => model.add([[1, literal]], ">=", 1), model);
   }
+  await badSums(Kind);
+  await badQuestions(Kind);
+  const none = await model.solve({ assuming: [x.not(), y.not()] });
+  is([none.status, none.cost, none.values], ["Unsatisfiable", null, null]);
+  await refused("NoAnswer", () => none.get(x));
+  is(model.size, 3, "a refused call made a variable");
+  model.close?.();
+}
+
+async function badSums(Kind) {
+  const { model, x, y } = await covered(Kind);
   for (const coefficient of [0.5, "2", NaN, 2 ** 53, null, x]) {
     await refused("BadArgument", () => model.add([[coefficient, x]], ">=", 1), model);
     await refused("BadArgument", () => x.times(coefficient), model);
@@ -154,13 +164,20 @@ async function badInput(Kind) {
   for (const relation of [">", "<", "!=", "=>", "toString", undefined, 0]) {
     await refused("BadArgument", () => model.add(x, relation, 1), model);
   }
+  await refused("TooLarge", () => model.add([[2n ** 63n, x]], ">=", 1), model);
+  await refused("TooLarge", () => model.add(x, ">=", 2n ** 64n), model);
+  await refused("BadArgument", async () => +x, model);
+  model.close?.();
+}
+
+async function badQuestions(Kind) {
+  const { model, x } = await covered(Kind);
+  const { x: foreign } = await covered(Model);
   for (const nodes of [-1, 0.5, "1", 2n ** 64n - 1n]) await refused("BadArgument", () => model.solve({ nodes }), model);
   await refused("ForeignLiteral", () => model.clause([x, foreign]), model);
   await refused("ForeignLiteral", () => model.add(foreign.plus(foreign), ">=", 1), model);
   await refused("ForeignLiteral", () => x.plus(foreign), model);
   await refused("ForeignLiteral", () => model.implies(x, foreign), model);
-  await refused("TooLarge", () => model.add([[2n ** 63n, x]], ">=", 1), model);
-  await refused("TooLarge", () => model.add(x, ">=", 2n ** 64n), model);
   await refused("NameTaken", () => model.variable("x"), model);
   await refused("NameTaken", () => model.variables("a b a"), model);
   await refused("BadArgument", () => model.variable(7), model);
@@ -172,10 +189,6 @@ async function badInput(Kind) {
   await refused("BadArgument", () => model.solveText("", { format: "lp" }), model);
   await refused("BadArgument", () => model.solveText(7), model);
   await refused("TooLarge", () => model.solveText("1 x1 >= 1 ;\n".repeat(8_400_000)), model);
-  await refused("BadArgument", async () => +x, model);
-  const none = await model.solve({ assuming: [x.not(), y.not()] });
-  is([none.status, none.cost, none.values], ["Unsatisfiable", null, null]);
-  await refused("NoAnswer", () => none.get(x));
   is(model.size, 3, "a refused call made a variable");
   model.close?.();
 }
@@ -310,6 +323,9 @@ function declarations() {
   for (const [, name, body] of declared.matchAll(/^export class (\w+).*?\{\n(.*?)^\}/gms)) {
     const methods = [...body.matchAll(/^ {2}(\w+)\(/gm)].map(([, method]) => method);
     for (const method of methods) is(typeof pbcube[name].prototype[method], "function", `${name}.${method}`);
+    const own = Object.getOwnPropertyNames(pbcube[name].prototype).filter((it) => it !== "constructor");
+    const told = new Set([...methods, ...[...body.matchAll(/^ {2}readonly (\w+)/gm)].map(([, property]) => property)]);
+    is(own.filter((it) => !told.has(it) && it !== "toMessage"), [], `${name} has what is not declared`);
     for (const [, method] of body.matchAll(/^ {2}static (\w+)\(/gm)) is(typeof pbcube[name][method], "function", `${name}.${method}`);
   }
 }
