@@ -21,6 +21,7 @@ sys.dont_write_bytecode = True
 from lib import PROCESSORS, PROGRAMS, TOP, UNPROVED
 
 NO_LIBRARY = "the kit compiles no library for C without proof"
+NO_MODULE = "bindings/js/build --unproved makes a module for it"
 
 
 @dataclass(frozen=True)
@@ -44,7 +45,9 @@ STEPS = [
     Step("recipes", "tests/runs/recipes.py"),
     Step("ways", "tests/runs/ways.py", after="library", left_out=NO_LIBRARY),
     Step("questions", "tests/runs/questions.py", after="library", left_out=NO_LIBRARY),
-    Step("packages", "tests/runs/packages.py", after="library", left_out=NO_LIBRARY),
+    Step("module", "bindings/js/build --as-built", after="library", left_out=NO_MODULE),
+    Step("browser", "tests/runs/browser.py", after="module", left_out=NO_MODULE),
+    Step("packages", "tests/runs/packages.py", after="module", left_out=NO_LIBRARY),
     Step("python", "tests/runs/python_package.py", after="library", left_out=NO_LIBRARY),
     Step("python searches", "tests/runs/python_searches.py", after="library", left_out=NO_LIBRARY),
     Step("budgets", "tests/runs/budgets.py"),

@@ -22,6 +22,7 @@ import shlex
 import shutil
 import subprocess
 import sys
+import tarfile
 import tempfile
 import zipfile
 from importlib import metadata
@@ -215,7 +216,7 @@ def unbuilt_copy(top):
     (top / "tests").mkdir()
     shutil.copy(TOP / "tests/EDITS.md", top / "tests")
     for name in ("packaging", "docs", "bindings", "examples"):
-        shutil.copytree(TOP / name, top / name, ignore=shutil.ignore_patterns("target", "out"))
+        shutil.copytree(TOP / name, top / name, ignore=shutil.ignore_patterns("target", "out", "dist"))
     return top
 
 
@@ -366,6 +367,20 @@ def from_wheel(folder, out):
     return bad
 
 
+def from_npm(folder, out):
+    """The package for npm has what bindings/js/build made, and nothing else; where that is there, and proved."""
+    dist = TOP / "bindings/js/dist"
+    found = list(out.glob("*.tgz"))
+    if not found:
+        say("no proved bindings/js/dist here, so there is no package for npm")
+        return []
+    with tarfile.open(found[0]) as archive:
+        files = {it.name: archive.extractfile(it).read() for it in archive}
+    made = {f"package/{it.name}": it.read_bytes() for it in dist.iterdir()}
+    say("the package for npm")
+    return [] if files == made else [f"{found[0].name}: {sorted(files)} and not {sorted(made)}, or other bytes"]
+
+
 def packed(folder):
     """The packages, made twice, and each used."""
     outs = [folder / "out", folder / "again"]
@@ -374,7 +389,7 @@ def packed(folder):
         return [f"package: {it}" for it in ends]
     first, second = ({it.name: hashlib.sha256(it.read_bytes()).hexdigest() for it in out.iterdir()} for out in outs)
     bad = [] if first == second else [f"package: {first} and then {second}"]
-    parts = (from_archive, from_debian_package, from_wheel)
+    parts = (from_archive, from_debian_package, from_wheel, from_npm)
     return bad + [text for texts in side_by_side(lambda part: part(folder, outs[0]), parts) for text in texts]
 
 
