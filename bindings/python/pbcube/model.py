@@ -368,9 +368,12 @@ class Model:
             >>> model.implies(desk, chair, name="a seat at the desk")
             >>> model.explain().constraints
             ('budget', 'a place to work', 'a seat at the desk')
-            >>> why = model.explain([lamp, ~chair, desk])
+            >>> model = Model()
+            >>> cheap, light, strong = model.variables("cheap light strong")
+            >>> model.at_most(1, [cheap, strong])
+            >>> why = model.explain([cheap, light, strong])
             >>> why.status, [literal.name for literal in why.core], why.is_minimal
-            (Status.UNSATISFIABLE, ['desk'], True)
+            (Status.UNSATISFIABLE, ['cheap', 'strong'], True)
         """
         limits = searches.Limits.of(nodes, time_limit)
         if assuming is None:
