@@ -15,11 +15,11 @@ FOLDER = Path(__file__).resolve().parent / "completions"
 HEAD = "packaging/completions.py writes this file from its list of options."
 FORMATS = "opb cnf icnf"
 LIST = """
-pbcube --format FORMAT How FILE is written: opb, cnf or icnf
-pbcube --workers W Workers, 1 to 64: the threads that share the work
+pbcube --format FORMAT Format of FILE: opb, cnf or icnf
+pbcube --workers W Number of threads that share the pieces, 1 to 64
 pbcube --split K Divide the work by the K most frequent variables, 0 to 12
-pbcube --cubes FILE A file of cubes that divide the work, lines `a LITERALS 0`; none by default
-pbcube --nodes B Make at most B decisions in each piece, 0 to 1000000000; no limit by default
+pbcube --cubes FILE File of cubes that divide the work, with lines `a LITERALS 0`; none by default
+pbcube --nodes B Stop each piece after B decisions, 0 to 1000000000; no limit by default
 pbcube_pieces --format FORMAT How FILE is written: opb, cnf or icnf
 pbcube_pieces --split K Divide by the K most frequent variables, 0 to 12
 pbcube_pieces --cubes FILE A file of cubes that divide the instance, lines `a LITERALS 0`; none by default

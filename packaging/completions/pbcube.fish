@@ -1,9 +1,9 @@
 # Completions for fish. packaging/completions.py writes this file from its list of options.
-complete -c pbcube -l format -x -a 'opb cnf icnf' -d 'How FILE is written: opb, cnf or icnf'
-complete -c pbcube -l workers -x -d 'Workers, 1 to 64: the threads that share the work'
+complete -c pbcube -l format -x -a 'opb cnf icnf' -d 'Format of FILE: opb, cnf or icnf'
+complete -c pbcube -l workers -x -d 'Number of threads that share the pieces, 1 to 64'
 complete -c pbcube -l split -x -d 'Divide the work by the K most frequent variables, 0 to 12'
-complete -c pbcube -l cubes -r -F -d 'A file of cubes that divide the work, lines `a LITERALS 0`; none by default'
-complete -c pbcube -l nodes -x -d 'Make at most B decisions in each piece, 0 to 1000000000; no limit by default'
+complete -c pbcube -l cubes -r -F -d 'File of cubes that divide the work, with lines `a LITERALS 0`; none by default'
+complete -c pbcube -l nodes -x -d 'Stop each piece after B decisions, 0 to 1000000000; no limit by default'
 complete -c pbcube_pieces -l format -x -a 'opb cnf icnf' -d 'How FILE is written: opb, cnf or icnf'
 complete -c pbcube_pieces -l split -x -d 'Divide by the K most frequent variables, 0 to 12'
 complete -c pbcube_pieces -l cubes -r -F -d 'A file of cubes that divide the instance, lines `a LITERALS 0`; none by default'

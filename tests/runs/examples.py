@@ -22,6 +22,7 @@ from lib import PROGRAMS, STATUSES, TOP, built, name_of, program, ran, side_by_s
 from lib.examples import divisions_of, examples, with_workers
 from lib.shown_commands import SHOWN
 
+ONE_PIECE = "pbcube: one worker searches the one piece: --split divides the work among several"
 SPLITS = (0, 1, 6)  # of six variables: more pieces than workers
 FRESH = ["./pbcube examples/tie.opb", "./prove", "./test quick", "./test"]  # a newcomer's first commands: the program, and its tests
 
@@ -36,7 +37,13 @@ def example_rows():
         status = next(STATUSES[line] for line in out.splitlines() if line in STATUSES)
         for division in with_workers(divisions_of(instance, SPLITS)):
             words = ["--format", instance.suffix[1:], *division, str(instance.relative_to(TOP))]
-            yield words, out, "", status
+            yield words, out, ONE_PIECE if is_one_piece(words) else "", status
+
+
+def is_one_piece(words):
+    """Whether the words give one piece to several workers. iCNF texts may have cubes, so nothing is said of them."""
+    told = dict(zip(words[:-1:2], words[1::2]))
+    return told["--workers"] != "1" and told["--split"] == "0" and "--cubes" not in told and told["--format"] != "icnf"
 
 
 def shown_rows(name):

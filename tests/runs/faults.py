@@ -82,6 +82,9 @@ def solved(words, out, status):
 TIE_REPORT = "o 3\ns OPTIMUM FOUND\nv -x1 x2 -x3\n"
 UNSUPPORTED = "s UNSUPPORTED\n"
 PRODUCT = "pbcube: line 1, column 6: 'x2': no product is read: write a variable of its own for it\n"
+OVER = "pbcube: over.cubes: line 1, column 3: '4': variables are numbered from 1 to 3\n"
+FEW = "pbcube: contradiction.opb has 1 variables, too few for --split 2\n"
+OLDER = "pbcube: line 2, column 1: '+1*x1': write a space between a number and its literal, and no *, as 2 x1\n"
 CASES = [
     Case("tie.opb", Ended(TIE_REPORT, "", 30)),
     Case("--format icnf cube.icnf", Ended("s SATISFIABLE\nv -1 2 0\n", "", 10)),
@@ -92,12 +95,12 @@ CASES = [
     solved("--format cnf clauses.cnf", "s SATISFIABLE\nv -1 2 0\n", 10),
     solved("--format icnf cube.icnf", "s SATISFIABLE\nv -1 2 0\n", 10),
     solved("--cubes long.cubes tie.opb", TIE_REPORT, 30),
-    solved("--cubes over.cubes tie.opb", f"c refused cubes: BadVariable at line 1\n{UNSUPPORTED}", 0),
+    Case("--cubes over.cubes tie.opb", Ended(f"c refused cubes: BadVariable at line 1\n{UNSUPPORTED}", OVER, 0)),
     Case("product.opb", Ended(f"c refused: NonLinear at line 1\n{UNSUPPORTED}", PRODUCT, 0)),
     solved("long.opb", f"s SATISFIABLE\nv{''.join(f' -x{i}' for i in range(1, 1000))} x1000\n", 10),
-    Case("--split 2 contradiction.opb", Ended(f"c refused split: BadSplit\n{UNSUPPORTED}", "", 0)),
+    Case("--split 2 contradiction.opb", Ended(f"c refused split: BadSplit\n{UNSUPPORTED}", FEW, 0)),
     Case("clauses.cnf", Ended(f"c refused: Unfinished at line 1\n{UNSUPPORTED}", "pbcube: clauses.cnf begins as DIMACS CNF: --format cnf reads it\n", 0)),
-    Case("older.opb", Ended(f"c refused: Syntax at line 2\n{UNSUPPORTED}", "pbcube: line 2, column 1: '+1*x1'\n", 0)),
+    Case("older.opb", Ended(f"c refused: Syntax at line 2\n{UNSUPPORTED}", OLDER, 0)),
     Case("none.opb", Ended("", "pbcube: cannot read none.opb\n", 1)),
 ]
 # command lines of each program, and their statuses: what is written is taken from a run without a fault
