@@ -42,7 +42,6 @@ pub(crate) struct ClauseReader {
     pub(crate) begun: Option<u64>,
 }
 
-// Written by hand, so that each drop of a reader is one call, and only this place names its parts.
 impl Drop for ClauseReader {
     fn drop(self) {
         let ClauseReader {

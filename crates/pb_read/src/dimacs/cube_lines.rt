@@ -53,7 +53,6 @@ pub(crate) struct CubeReader {
     pub(crate) scan: Scan,
 }
 
-// Written by hand, so that each drop of a reader is one call, and only this place names its parts.
 impl Drop for CubeReader {
     fn drop(self) {
         let CubeReader {

@@ -56,7 +56,6 @@ fn statement_error(fault: InstFault) -> StatementError
     }
 }
 
-// Written by hand, so that each drop of a builder is one call, and only this place names its parts.
 impl Drop for OpbBuilder {
     fn drop(self) {
         let OpbBuilder {

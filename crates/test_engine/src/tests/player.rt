@@ -17,7 +17,6 @@ pub struct Player<C: Coefficient = u64> {
     propagator: Propagator<C>,
 }
 
-// Written by hand, so that a test that drops a player sees one call.
 impl<C: Coefficient> Drop for Player<C> {
     fn drop(self) {
         let Player {
