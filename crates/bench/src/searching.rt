@@ -10,7 +10,7 @@ use crate::texts::instance_of;
 use pb_cubes::{Pieces, split};
 use pb_inst::{Assignment, Best, Instance, Number};
 use pb_normal::normalise;
-use pb_search::{Search, SearchTables, Share};
+use pb_search::{FIRST_TURNS, Search, SearchTables, Share};
 use std::alloc::Global;
 use std::io;
 use std::time::{CpuClock, Duration};
@@ -51,6 +51,10 @@ impl Share for Counter {
 
     fn borrow(&mut self, _below: Number, _into: &mut Assignment) -> bool {
         self.asked = self.asked.saturating_add(1);
+        false
+    }
+
+    fn is_over(&self) -> bool {
         false
     }
 }
@@ -132,7 +136,7 @@ fn begin(
     }
     let asked = counter.asked;
     let start = rt.process_cpu_time().ok()?;
-    search.begin(best, counter, None);
+    search.begin(best, counter, FIRST_TURNS, None);
     let taken = rt.process_cpu_time().ok()?.saturating_sub(start);
     let intervals = counter.asked.saturating_sub(asked).saturating_sub(1);
     Some(Spent {

@@ -1,6 +1,6 @@
 -- Each atomic step keeps the board's rule.
 use Rattle.std.proofs.Common.{◌≡◌, ℕ, zero, suc, ◌+◌, ◌%◌, ◌^◌, ◌<◌, ◌≤◌, List, [], ◌∷◌, ◌++◌, length, set, min, sym, refl, ap, subst, arith}
-use Rattle.std.specs.Prelude.{slice_index}
+use Rattle.std.specs.Prelude.{slice_index, max}
 use mathlib.Core.Option.{none, some}
 use lib.ListN.{get_elem?}
 use Rattle.atomic_table.specs.Table.{State, step, keeps, Allows, Splits, Joins}
@@ -108,6 +108,9 @@ stores workers slots id i n m h s r homes at fits = (m.0, keeps, tt, row_kept wo
 
 pub loads : (workers slots id i : ℕ) (m : Held) → 2 ≤ i → Allows (BoardRule workers {S = U}) slots id m i (λ n. n) (Stays (step slots i 0 0 none) m)
 loads workers slots id i m h s r homes at fits = (m.0, keeps, tt, row_kept workers id i (slice_index s.words i) m.0 s h r at, refl)
+
+pub raises : (workers slots id i k : ℕ) (m : Held) → 2 ≤ i → Allows (BoardRule workers {S = U}) slots id m i (λ n. max n k) (Stays (step slots i k 0 none) m)
+raises workers slots id i k m h s r homes at fits = (m.0, keeps, tt, row_kept workers id i (max (slice_index s.words i) k) m.0 s h r at, refl)
 
 pub counts : (workers slots id : ℕ) (m : Held) → Allows (BoardRule workers {S = U}) slots id m 0 (λ n. n) (Counts (step slots 0 0 0 none) m)
 counts workers slots id m s r homes at fits =

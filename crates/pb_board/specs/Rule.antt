@@ -55,7 +55,7 @@ pub record OfferRule (least : ℕ) (seats : List View) : Type 0 where
   pub is_least : IsLeast least (top_key ∷ all_offered seats)
   pub each : All (SeesRightly least seats) seats
 
--- The words are the claim counter, the least word, and the words of the rows, of which nothing is said
+-- The words are the claim counter, the least word, and then the signal and the words of the rows, of which nothing is said
 pub record BoardRule (workers : ℕ) {S : Type 0} (s : State S View) : Type 0 where
   pub counter : ℕ
   pub least : ℕ

@@ -16,12 +16,14 @@ use pb_inst::{Assignment, MAX_WORKERS, Memory, Workers};
 use std::alloc::Global;
 use std::marker::{Brand, Model};
 
-// The words of the table: the claim counter, the least word, and then the rows, one after the other.
+// The words of the table: the claim counter, the least word, the signal, and then the rows, one after the other.
 const COUNTER: usize = 0;
 
 const LEAST: usize = 1;
 
-const ROWS: usize = 2;
+const SIGNAL: usize = 2;
+
+const ROWS: usize = 3;
 
 const WORD_BITS: usize = 64;
 
@@ -30,7 +32,7 @@ const WORD_BITS: usize = 64;
 ///
 /// A worker steps on it with a [`Seat`], which has to be one of this board. Between any two steps, whichever seats step
 /// and in whatever order, the claimed numbers are those below the counter, each once, and the least word is the least
-/// of `u64::MAX` and all offered keys. Nothing is promised of rows between threads.
+/// of `u64::MAX` and all offered keys. Nothing is promised of rows and of the signal between threads.
 #[derive(Drop)]
 pub struct Board {
     table: Table<(), View, u32, Rule, Global>,
@@ -230,6 +232,20 @@ impl Board {
             let word = self.load_word(seat, self.row_word(row, j));
             bits.set_word(j, word);
         }
+    }
+
+    /// Raises the signal, which is 0 at first, where it is less than this. One `fetch_max`.
+    pub fn signal(&self, seat: &mut Seat, value: u64)
+        requires { seat.old.board ≡ self.now.id }
+        ensures { seat.new ≡ seat.old }
+    {
+        let words = &self.table.shared;
+        words.fetch_max::<Stay>(&mut seat.token, SIGNAL, value);
+    }
+
+    /// The signal, as workers may have raised it. One load.
+    pub fn signalled(&self) -> u64 {
+        self.table.shared.peek(SIGNAL)
     }
 
     /// Ends the board. Asks for the whole seat, which is then the only one.

@@ -1,5 +1,5 @@
 -- What a search asks for, and what it leaves.
-use Rattle.std.specs.Prelude.{◌≡◌, ◌⊎◌, ◌≤◌, ℕ, Bool, false, List, [], ◌∷◌, All, Option, Some, IsSomeAnd}
+use Rattle.std.specs.Prelude.{◌≡◌, ◌⊎◌, ◌≤◌, ℕ, Bool, false, List, [], ◌∷◌, All, Option, None, Some, IsSomeAnd}
 use Rattle.pb_inst.specs.Literal.{Literal}
 use Rattle.pb_inst.specs.Problem.{Problem}
 use Rattle.pb_inst.specs.Incumbent.{Incumbent}
@@ -33,10 +33,10 @@ pub record IsSearchedUnder (cube : List Literal) (goal : Goal) (lends : Bool) (o
   pub own : lends ≡ false → (new ≡ old) ⊎ IsSomeAnd new.held (λ s. MakesTrue s.assignment cube)
   pub same_instance : new.problem ≡ old.problem
 
--- The same of a search of a piece for the least assignment.
-pub record IsPieceSearched (d : Division) (piece : ℕ) (lends : Bool) (old new : Incumbent) (allowed left : Option ℕ) (outcome : Outcome) : Type 0 where
+-- The same of a search of a piece for the least assignment, which is cut by its budget alone where no turns are counted.
+pub record IsPieceSearched (d : Division) (piece : ℕ) (lends : Bool) (turns : Option ℕ) (old new : Incumbent) (allowed left : Option ℕ) (outcome : Outcome) : Type 0 where
   pub done : outcome ≡ Whole → IsDone d piece new.held
-  pub used_up : outcome ≡ Cut → left ≡ Some 0
+  pub used_up : turns ≡ None → outcome ≡ Cut → left ≡ Some 0
   pub budget : IsLeftOf allowed left
   pub not_after : IsNotAfter d.problem old.held new.held
   pub own : lends ≡ false → (new ≡ old) ⊎ IsSomeAnd new.held (λ s. LiesIn d.cubes piece s.assignment)

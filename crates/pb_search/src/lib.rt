@@ -15,6 +15,6 @@ mod whole_search;
 mod whole_search_at;
 
 pub use pb_subtree::{Alone, Goal, Outcome, Share};
-pub use search::Search;
+pub use search::{FIRST_TURNS, LONG_TURNS, Search};
 pub use tables::SearchTables;
 pub use whole_search::WholeSearch;

@@ -2,7 +2,8 @@
 //! learning.
 //! Source: [H11]
 
-ghost use Rattle.std.specs.Prelude.{◌≡◌, ◌≤◌, [], length, IfOk, IfNone, IfSome, Option};
+ghost use Rattle.std.specs.Prelude.{◌≡◌, ◌≤◌, ℕ, [], length, IfOk, IfNone, IfSome, IsTrue, Option};
+ghost use Rattle.pb_cubes.specs.Done.{IsDone};
 ghost use Rattle.pb_inst.specs.Incumbent.{Solution};
 ghost use Rattle.pb_inst.specs.Problem.{Problem};
 ghost use Rattle.pb_search.specs.Form.{IsFormOf};
@@ -120,8 +121,8 @@ impl<'a, C: Coefficient> PieceSearch<'a, C> {
         })
     }
 
-    /// Begins the search of the whole, where there is a cube. What it fixes for good is kept for the searches of pieces.
-    pub fn begin<S: Share>(&mut self, best: &mut Best<'_>, share: &mut S)
+    /// Begins the search of the whole for so long, where there is a cube. What it fixes for good is kept for the searches of pieces.
+    pub fn begin<S: Share>(&mut self, best: &mut Best<'_>, share: &mut S, turns: u32)
         requires { best.old.problem ≡ self.old.problem }
         ensures moves_on { MovesOn best.old best.new }
         ensures kept { S.keeps share.old share.new }
@@ -138,21 +139,35 @@ impl<'a, C: Coefficient> PieceSearch<'a, C> {
             return;
         }
         whole.serve(best);
-        whole.begin(state, best, share);
+        whole.begin(state, best, share, turns);
+    }
+
+    /// Whether nothing comes before the best assignment, since the whole was searched.
+    pub fn is_settled(&mut self, best: &Best<'_>) -> bool
+        requires { best.now.problem ≡ self.old.problem }
+        ensures settled { IsTrue result → (i : ℕ) → IsDone self.old i best.now.held }
+        ensures unchanged { self.new ≡ self.old }
+    {
+        // The contract of this call says that what is held is a solution.
+        let _ = best.cost();
+        serve(&mut self.whole, best);
+        let (_, is_closed) = fixed(&self.whole);
+        is_closed
     }
 
     /// Searches a piece: that of a cube, or the remainder as the last one; or stops where it would need one decision more than
-    /// are left.
+    /// are left, and where turns are counted as `search_under` does.
     pub fn search<S: Share>(
         &mut self,
         piece: u32,
         best: &mut Best<'_>,
         share: &mut S,
+        turns: Option<u32>,
         left: &mut Option<u64>,
     ) -> Outcome
         requires piece { piece ≤ length self.old.cubes }
         requires same_instance { best.old.problem ≡ self.old.problem }
-        ensures searched { IsPieceSearched self.old piece (S.lends share.old) best.old best.new left.old left.new result }
+        ensures searched { IsPieceSearched self.old piece (S.lends share.old) turns best.old best.new left.old left.new result }
         ensures kept { S.keeps share.old share.new }
         ensures same_lending { S.lends share.new ≡ S.lends share.old }
         ensures unchanged { self.new ≡ self.old }
@@ -171,13 +186,13 @@ impl<'a, C: Coefficient> PieceSearch<'a, C> {
                     return Outcome::Whole;
                 };
                 let cube = cube.lits();
-                let outcome = search_under(state, root, cube, best, share, Goal::Least, None, left);
+                let outcome = search_under(state, root, cube, best, share, Goal::Least, turns, left);
                 state.begin_piece();
                 outcome
             }
             Piece::Rest(_) => {
                 let state = &mut self.rest;
-                search_under(state, root, &[], best, share, Goal::Least, None, left)
+                search_under(state, root, &[], best, share, Goal::Least, turns, left)
             }
         }
     }

@@ -1,6 +1,6 @@
 //! Searches of pieces.
 
-ghost use Rattle.std.specs.Prelude.{◌≡◌, ◌⊎◌, ◌≤◌, false, length, IfOk, Some, IfSome, IfNone, IsSomeAnd};
+ghost use Rattle.std.specs.Prelude.{◌≡◌, ◌⊎◌, ◌≤◌, ℕ, false, length, IfOk, Some, IfSome, IfNone, IsSomeAnd, IsTrue};
 ghost use Rattle.pb_normal.specs.NormalForm.{KeepsCost, KeepsFeasible};
 ghost use Rattle.pb_cubes.specs.Pieces.{LiesIn};
 ghost use Rattle.pb_subtree.specs.Held.{IsNotAfter};
@@ -13,6 +13,14 @@ use pb_normal::{Normal, Width};
 use pb_subtree::{Outcome, Share};
 use std::alloc::Global;
 use std::marker::Model;
+
+/// How many times the search of the whole is about to flip a decision before a worker turns to the pieces. One worker took a tenth more
+/// seconds for a split of 4 with 64, and with 1,024.
+pub const FIRST_TURNS: u32 = 256;
+
+/// The same for the worker that stays with the whole, as long as nothing says that it will not come to an end. Chosen by hand: a search
+/// that takes more is one of minutes.
+pub const LONG_TURNS: u32 = 1 << 20;
 
 /// What the searches of an instance's pieces need: an engine for the cubes and one for the remainder, which all searches
 /// use again, and the room for decisions and assignments. They count in numbers of the normal form's width.
@@ -89,11 +97,17 @@ impl<'a> Search<'a> {
     }
 
     /// Begins the search of the whole instance, where there is a cube, and keeps what it fixes for good: the pieces are then searched
-    /// below that. Where it has begun before, it does nothing, unless the best cost has fallen since: then it adds what this cost fixes
+    /// below that. It goes on until it was about to flip a decision as often as `turns` says, or the share says that it is over. Where it has begun before, it does nothing, unless the best cost has fallen since: then it adds what this cost fixes
     /// at the root. So a call before each piece does what is due. With a budget for each piece it does nothing at all, since then
     /// nothing is searched outside pieces. The best assignment is not after what it was. The share is asked and told as by `run`. Takes
     /// no memory.
-    pub fn begin<S: Share>(&mut self, best: &mut Best<'_>, share: &mut S, nodes: Option<u64>)
+    pub fn begin<S: Share>(
+        &mut self,
+        best: &mut Best<'_>,
+        share: &mut S,
+        turns: u32,
+        nodes: Option<u64>,
+    )
         requires { best.old.problem ≡ self.old.division.problem }
         ensures not_after { IsNotAfter self.old.division.problem best.old.held best.new.held }
         ensures kept { S.keeps share.old share.new }
@@ -106,8 +120,47 @@ impl<'a> Search<'a> {
             return;
         }
         match &mut self.at_width {
-            Width::Narrow(search) => search.begin(best, share),
-            Width::Wide(search) => search.begin(best, share),
+            Width::Narrow(search) => search.begin(best, share, turns),
+            Width::Wide(search) => search.begin(best, share, turns),
+        }
+    }
+
+    /// Whether nothing comes before the best assignment, since `begin` went through the whole: then each piece is done. Without a
+    /// cube it is false.
+    pub fn is_settled(&mut self, best: &Best<'_>) -> bool
+        requires { best.now.problem ≡ self.old.division.problem }
+        ensures settled { IsTrue result → (i : ℕ) → IsDone self.old.division i best.now.held }
+        ensures unchanged { self.new ≡ self.old }
+    {
+        match &mut self.at_width {
+            Width::Narrow(search) => search.is_settled(best),
+            Width::Wide(search) => search.is_settled(best),
+        }
+    }
+
+    /// Searches a piece as `run` does without a budget, and answers `Cut` where the share says that it is over before all was
+    /// searched. Takes no memory.
+    pub fn run_beside<S: Share>(
+        &mut self,
+        piece: u32,
+        best: &mut Best<'_>,
+        share: &mut S,
+    ) -> Outcome
+        requires piece { piece ≤ length self.old.division.cubes }
+        requires same_instance { best.old.problem ≡ self.old.division.problem }
+        ensures done { result ≡ Outcome.Whole → IsDone self.old.division piece best.new.held }
+        ensures not_after { IsNotAfter self.old.division.problem best.old.held best.new.held }
+        ensures own { S.lends share.old ≡ false → (best.new ≡ best.old) ⊎ IsSomeAnd best.new.held (λ s. LiesIn self.old.division.cubes piece s.assignment) }
+        ensures kept { S.keeps share.old share.new }
+        ensures same_lending { S.lends share.new ≡ S.lends share.old }
+        ensures same_instance { best.new.problem ≡ best.old.problem }
+        ensures unchanged { self.new ≡ self.old }
+    {
+        let mut left = None;
+        let turns = Some(u32::MAX);
+        match &mut self.at_width {
+            Width::Narrow(search) => search.search(piece, best, share, turns, &mut left),
+            Width::Wide(search) => search.search(piece, best, share, turns, &mut left),
         }
     }
 
@@ -139,8 +192,8 @@ impl<'a> Search<'a> {
     {
         let mut left = nodes;
         let outcome = match &mut self.at_width {
-            Width::Narrow(search) => search.search(piece, best, share, &mut left),
-            Width::Wide(search) => search.search(piece, best, share, &mut left),
+            Width::Narrow(search) => search.search(piece, best, share, None, &mut left),
+            Width::Wide(search) => search.search(piece, best, share, None, &mut left),
         };
         if let (Some(budget), Some(left)) = (nodes, left) {
             self.decisions = budget - left;

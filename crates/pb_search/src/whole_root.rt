@@ -12,10 +12,6 @@ use pb_subtree::{Outcome, SearchState, Share, begin_whole};
 use std::alloc::Global;
 use std::marker::Model;
 
-/// How many times the search of the whole is about to flip a decision before that of the pieces begins. One worker took a tenth more
-/// seconds for a split of 4 with 64, and with 1,024.
-const FIRST_TURNS: u32 = 256;
-
 /// Literals that are fixed for good, the best assignment when they were, and whether the whole was searched then: a feasible assignment
 /// that comes before that one makes the literals true, and where the whole was searched there is none.
 pub struct WholeRoot<'a> {
@@ -61,13 +57,14 @@ impl<'a> WholeRoot<'a> {
         })
     }
 
-    /// Begins the search of the whole, and keeps what it fixed. Where it has begun before, it goes no further than the root, and adds
-    /// what the best cost fixes there. Asks for literals that serve the best assignment.
+    /// Begins the search of the whole, for as many turns as are given, and keeps what it fixed. Where it has begun before, it goes no
+    /// further than the root, and adds what the best cost fixes there. Asks for literals that serve the best assignment.
     pub fn begin<C: Coefficient, S: Share>(
         &mut self,
         state: &mut SearchState<C>,
         best: &mut Best<'_>,
         share: &mut S,
+        turns: u32,
     )
         requires state { IsCubeState best.old.problem state.old }
         requires same_instance { self.old.best.problem ≡ best.old.problem }
@@ -78,7 +75,7 @@ impl<'a> WholeRoot<'a> {
         ensures kept { S.keeps share.old share.new }
         ensures same_lending { S.lends share.new ≡ S.lends share.old }
     {
-        let turns = if self.has_begun { 0 } else { FIRST_TURNS };
+        let turns = if self.has_begun { 0 } else { turns };
         self.has_begun = true;
         let outcome = begin_whole(state, &mut self.literals, best, share, turns);
         self.is_closed = outcome == Outcome::Whole;

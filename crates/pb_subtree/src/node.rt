@@ -114,7 +114,7 @@ fn expand_above<C: Coefficient, S: Share>(
 }
 
 /// Searches all solutions below the trail, or stops where it would need one decision more than are left, or a decision where
-/// the goal is met, or where there are no turns left, if these are counted. It does not recurse, so that no stack grows with the
+/// the goal is met, or where there are no turns left or the share says that it is over, if turns are counted. It does not recurse, so that no stack grows with the
 /// instance, and it takes no memory.
 pub fn search_subtree<C: Coefficient, S: Share>(
     state: &mut SearchState<C>,
@@ -134,7 +134,9 @@ pub fn search_subtree<C: Coefficient, S: Share>(
 {
     state.root_work.begin(goal, run.left, turns);
     while let Some(branch) = next_branch(state, best, share, run) {
-        if goal.is_reached(best, run.left) || is_out_of_turns(state, turns, branch.flipped) {
+        if goal.is_reached(best, run.left)
+            || is_out_of_turns(state, share, turns, branch.flipped)
+        {
             return Outcome::Cut;
         }
         decide(
@@ -148,10 +150,15 @@ pub fn search_subtree<C: Coefficient, S: Share>(
     Outcome::Whole
 }
 
-/// Whether turns are counted and none is left. A decision with a single value to try, which is `forced`, costs no turn: it is still part of
-/// what the root fixes.
-fn is_out_of_turns<C: Coefficient>(state: &SearchState<C>, turns: Option<u32>, forced: bool) -> bool
+/// Whether turns are counted, and none is left or the share says that the search is over. A decision with a single value to try, which
+/// is `forced`, costs no turn: it is still part of what the root fixes.
+fn is_out_of_turns<C: Coefficient, S: Share>(
+    state: &SearchState<C>,
+    share: &S,
+    turns: Option<u32>,
+    forced: bool,
+) -> bool
     ensures { result ≡ true → turns ≢ None }
 {
-    turns.is_some() && !forced && state.root_work.has_no_turns()
+    turns.is_some() && !forced && (state.root_work.has_no_turns() || share.is_over())
 }

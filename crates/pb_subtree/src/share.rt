@@ -24,6 +24,10 @@ pub trait Share {
         ensures lent { IsTrue result → IsTrue (lends self.old) }
         ensures same_length { length into.new ≡ length into.old };
 
+    /// Whether others have done what the search is for. A search that counts turns ends then. It is asked before
+    /// each decision, so an answer costs no more than a load.
+    fn is_over(&self) -> bool;
+
     ghost keeps_itself: { (s : Self) → keeps s s };
 
     ghost keeps_onward: { (s t u : Self) → keeps s t → keeps t u → keeps s u };
@@ -45,6 +49,10 @@ impl Share for Alone {
     fn offer(&mut self, _cost: Number, _assignment: &Assignment) {}
 
     fn borrow(&mut self, _below: Number, _into: &mut Assignment) -> bool {
+        false
+    }
+
+    fn is_over(&self) -> bool {
         false
     }
 }

@@ -19,7 +19,7 @@ use pb_inst::{Best, Lit};
 
 /// Searches all solutions of the state's constraints under the assumption that the literals of the root and of the cube are true.
 /// It stops where it would need one decision more than are left, or any decision once the goal is met, or where it was about to
-/// flip a decision as often as `turns` says, if that is given.
+/// flip a decision as often as `turns` says, if that is given; then it also stops where the share says that it is over.
 pub fn search_under<C: Coefficient, S: Share>(
     state: &mut SearchState<C>,
     root: &[Lit],

@@ -26,6 +26,10 @@ division part = record { problem = part.best.problem; cubes = part.pieces.cubes 
 abbrev pub AreDone : PartView → Type 0
 AreDone part = All (λ i. IsDone (division part) i part.best.held) part.named
 
+-- each piece of the list is done, whoever searched it
+abbrev pub IsSettled : CubeList → Incumbent → Type 0
+IsSettled list best = (i : ℕ) → IsDone (record { problem = best.problem; cubes = list.cubes }) i best.held
+
 -- the parts are of this list of pieces, and each of its pieces is named by some part
 pub record AreWhole (list : CubeList) (parts : List PartView) : Type 0 where
   pub of_list : All (λ part. part.pieces ≡ list) parts

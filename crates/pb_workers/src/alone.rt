@@ -9,7 +9,7 @@ use crate::solving::{Answer, SolveFault};
 use pb_cubes::Pieces;
 use pb_inst::{Best, Instance};
 use pb_normal::normalise;
-use pb_search::{Alone, Outcome, Search};
+use pb_search::{Alone, LONG_TURNS, Outcome, Search};
 use std::alloc::Global;
 
 /// Finds the least assignment, or none where nothing is feasible, as `solve` does with one worker. One search goes through the
@@ -27,9 +27,28 @@ pub fn solve_alone<'i>(
     ensures no_budget { IfNone nodes (IfOk result (λ answer. answer.cut ≡ false)) }
     ensures parts { IfOk result (λ answer. (parts : List PartView) × IsAnswerOf inst.now pieces.now parts answer.best.held answer.cut × IfSome nodes (λ budget. All (KeepsBudget budget) parts)) }
 {
-    let mut best = Best::none(alloc, inst)?;
+    let best = Best::none(alloc, inst)?;
+    solve_from(alloc, inst, pieces, best, nodes)
+}
+
+/// The same, where an assignment may be held already.
+pub(crate) fn solve_from<'i>(
+    alloc: Global,
+    inst: &'i Instance,
+    pieces: &Pieces,
+    mut best: Best<'i>,
+    nodes: Option<u64>,
+) -> Result<Answer<'i>, SolveFault>
+    requires pieces { pieces.now.vars ≡ inst.now.vars }
+    requires same_instance { best.problem ≡ inst.now }
+    ensures same_instance { IfOk result (λ answer. answer.best.problem ≡ inst.now) }
+    ensures least { IfOk result (λ answer. answer.cut ≡ false → HoldsLeast inst.now answer.best.held) }
+    ensures no_budget { IfNone nodes (IfOk result (λ answer. answer.cut ≡ false)) }
+    ensures parts { IfOk result (λ answer. (parts : List PartView) × IsAnswerOf inst.now pieces.now parts answer.best.held answer.cut × IfSome nodes (λ budget. All (KeepsBudget budget) parts)) }
+{
     let normal = normalise(alloc, inst)?;
     let mut search = Search::new(alloc, inst, &normal, pieces)?;
+    search.begin(&mut best, &mut Alone, LONG_TURNS, nodes);
     let cut = search_all(&mut search, pieces.len(), &mut best, nodes);
     Ok(Answer { best, cut })
 }

@@ -3,7 +3,7 @@ ghost use Rattle.std.specs.Prelude.{◌≡◌, ◌≢◌, ◌↔◌, ◌∷◌, 
 ghost use Rattle.std.specs.Option.{IfSome};
 ghost use Rattle.pb_inst.specs.Incumbent.{Solution, IsSolution};
 ghost use Rattle.pb_cubes.specs.Pieces.{CubeList};
-ghost use Rattle.pb_workers.specs.Parts.{AreDone, AreSolutions, AreWhole, IsFirst};
+ghost use Rattle.pb_workers.specs.Parts.{AreDone, AreSolutions, AreWhole, IsFirst, IsSettled};
 ghost use Rattle.pb_cubes.specs.Solving.{HoldsLeast};
 
 use crate::facts::facts_of;
@@ -28,6 +28,18 @@ pub fn gather(into: &mut Best<'_>, parts: &[Part<'_>]) -> bool
         cut |= !part.cut().is_empty();
     }
     cut
+}
+
+/// Whether one of the parts went through the whole.
+pub(crate) fn is_one_settled(parts: &[Part<'_>]) -> bool
+    ensures { IsTrue result → Any (λ part. IsSettled part.pieces part.best) parts.now }
+{
+    for part in parts {
+        if part.is_settled() {
+            return true;
+        }
+    }
+    false
 }
 
 /// Takes what the other holds, where that comes before what is held.

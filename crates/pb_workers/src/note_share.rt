@@ -85,6 +85,10 @@ impl<'n, N: Notes> Share for NoteShare<'n, N> {
             None => false,
         }
     }
+
+    fn is_over(&self) -> bool {
+        false
+    }
 }
 
 impl<'n, N: Notes> OuterShare for NoteShare<'n, N> {

@@ -1,6 +1,6 @@
 //! What one worker did.
-ghost use Rattle.std.specs.Prelude.{◌≡◌};
-ghost use Rattle.pb_workers.specs.Parts.{AreDone};
+ghost use Rattle.std.specs.Prelude.{◌≡◌, true, IsTrue};
+ghost use Rattle.pb_workers.specs.Parts.{AreDone, IsSettled};
 
 use crate::named::Named;
 use pb_cubes::Pieces;
@@ -15,25 +15,47 @@ pub struct Part<'i> {
     list: &'i Pieces,
     named: Named,
     best: Best<'i>,
+    // whether the worker went through the whole
+    is_settled: bool,
 }
 
 impl<'i> Model for Part<'i> {
-    ghost use Rattle.pb_workers.specs.Parts.{PartView, AreDone};
+    ghost use Rattle.std.specs.Prelude.{◌≡◌, true};
+    ghost use Rattle.pb_workers.specs.Parts.{PartView, AreDone, IsSettled};
 
     ghost Value = { PartView };
 
     ghost view = { λ p. record { pieces = p.list.now; named = p.named.done.items; cut = p.named.cut.items; decisions = p.named.decisions.items; cut_decisions = p.named.cut_decisions.items; best = p.best } };
 
-    ghost invariant = { λ p. AreDone (record { pieces = p.list.now; named = p.named.done.items; cut = p.named.cut.items; decisions = p.named.decisions.items; cut_decisions = p.named.cut_decisions.items; best = p.best }) };
+    ghost invariant = { λ p. AreDone (record { pieces = p.list.now; named = p.named.done.items; cut = p.named.cut.items; decisions = p.named.decisions.items; cut_decisions = p.named.cut_decisions.items; best = p.best }) × (p.is_settled ≡ true → IsSettled p.list.now p.best) };
 }
 
 impl<'i> Part<'i> {
-    /// The part that names these pieces of the list: those that are done, and those that were cut.
-    pub(crate) fn new(list: &'i Pieces, named: Named, best: Best<'i>) -> Part<'i>
-        requires { AreDone (record { pieces = list.now; named = named.done.items; cut = named.cut.items; decisions = named.decisions.items; cut_decisions = named.cut_decisions.items; best = best }) }
+    /// The part that names these pieces of the list: those that are done, and those that were cut. It is settled where each piece
+    /// of the list is done, whoever got it.
+    pub(crate) fn new(
+        list: &'i Pieces,
+        named: Named,
+        best: Best<'i>,
+        is_settled: bool,
+    ) -> Part<'i>
+        requires settled { is_settled ≡ true → IsSettled list.now best }
+        requires done { AreDone (record { pieces = list.now; named = named.done.items; cut = named.cut.items; decisions = named.decisions.items; cut_decisions = named.cut_decisions.items; best = best }) }
         ensures { result ≡ record { pieces = list.now; named = named.done.items; cut = named.cut.items; decisions = named.decisions.items; cut_decisions = named.cut_decisions.items; best = best.entry } }
     {
-        Part { list, named, best }
+        Part {
+            list,
+            named,
+            best,
+            is_settled,
+        }
+    }
+
+    /// Whether each piece of the list is done, whoever got it.
+    pub(crate) fn is_settled(&self) -> bool
+        ensures { IsTrue result → IsSettled self.now.pieces self.now.best }
+    {
+        self.is_settled
     }
 
     /// The numbers of the pieces that are done.

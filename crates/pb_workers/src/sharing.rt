@@ -20,6 +20,12 @@ const LOWEST: Number = -9_223_372_036_854_775_808;
 
 const HIGHEST: Number = 9_223_372_036_854_775_807;
 
+/// The signal of the board: all pieces were searched but for those of one worker, so that worker need not go on with the whole.
+const PIECES_ARE_DONE: u64 = 1;
+
+/// The signal of the board: the whole was searched, so no piece need be.
+const WHOLE_IS_DONE: u64 = 2;
+
 /// How a worker reaches the others: by its seat on the board, by its own row, and by the rows of the others, which it reads in
 /// turn. Beside the board it has a share with others who are not on it, `Alone` where there are none.
 #[derive(Drop)]
@@ -29,6 +35,8 @@ pub struct BoardShare<'b, S: OuterShare + Drop> {
     worker: u32,
     // the worker whose row was read last, and at first this worker itself
     last_read: u32,
+    // the least signal that ends the search
+    ends_at: u64,
     beside: S,
 }
 
@@ -53,6 +61,7 @@ impl<'b, S: OuterShare + Drop> BoardShare<'b, S> {
             seat,
             worker,
             last_read: worker,
+            ends_at: PIECES_ARE_DONE,
             beside,
         }
     }
@@ -73,6 +82,7 @@ impl<'b, S: OuterShare + Drop> BoardShare<'b, S> {
             seat,
             worker: _,
             last_read: _,
+            ends_at: _,
             beside: _,
         } = self;
         seat
@@ -84,7 +94,26 @@ impl<'b, S: OuterShare + Drop> BoardShare<'b, S> {
         ensures { self.new ≡ record self.old { seat = record self.old.seat { claimed = self.old.seat.claimed ++ result ∷ [] } } }
     {
         self.beside.begin();
+        self.ends_at = WHOLE_IS_DONE;
         self.board.claim(&mut self.seat)
+    }
+
+    /// Tells all workers that the whole was searched.
+    pub(crate) fn tell_whole(&mut self)
+        ensures { self.new ≡ self.old }
+    {
+        self.board.signal(&mut self.seat, WHOLE_IS_DONE);
+    }
+
+    /// Of `count` pieces all are claimed, and the worker drew this number. Where all workers but one drew such a number, their pieces
+    /// are done, and the one that is left need not go on with the whole.
+    pub(crate) fn tell_end(&mut self, count: u32, number: u64)
+        ensures { self.new ≡ self.old }
+    {
+        let workers = u64::from(self.board.workers().get());
+        if number.saturating_sub(u64::from(count)).saturating_add(2) == workers {
+            self.board.signal(&mut self.seat, PIECES_ARE_DONE);
+        }
     }
 }
 
@@ -113,6 +142,11 @@ impl<'b, S: OuterShare + Drop> Share for BoardShare<'b, S> {
     /// whoever is beside the board.
     fn borrow(&mut self, below: Number, into: &mut Assignment) -> bool {
         self.borrow_from_row(below, into) || self.beside.borrow(below, into)
+    }
+
+    /// By the board's signal.
+    fn is_over(&self) -> bool {
+        self.board.signalled() >= self.ends_at
     }
 }
 

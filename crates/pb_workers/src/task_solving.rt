@@ -56,11 +56,13 @@ pub fn solve_task<'i, R: Threads + Sync, N: Notes + Sync, G: Gate + Sync>(
         gate,
         Some(task),
         nodes,
+        false,
     )?;
     let Dealt {
         best,
         names,
         cut: _,
+        is_settled: _,
     } = dealt;
     // The proof learns by this call that what is held is a solution, so what some part did is done by the first of all parts.
     facts_of(&best);

@@ -8,7 +8,7 @@ ghost use Rattle.pb_cubes.specs.Solving.{HoldsLeast};
 
 use crate::fork::fork;
 use crate::gate::Gate;
-use crate::gathering::gather;
+use crate::gathering::{gather, is_one_settled};
 use crate::names::Names;
 use crate::note_share::Correspondence;
 use crate::task::Task;
@@ -29,8 +29,10 @@ pub(crate) struct Dealt<'i> {
     pub(crate) best: Best<'i>,
     /// The pieces of a task, as they name them; none without a task.
     pub(crate) names: Names,
-    /// Whether the search of some piece was cut by its budget.
+    /// Whether the search of some piece was cut: by its budget, or in a race since another worker settled the whole.
     pub(crate) cut: bool,
+    /// Whether one of the workers went through the whole.
+    pub(crate) is_settled: bool,
 }
 
 /// Searches the pieces that the task is dealt, and without a task all pieces. The workers, numbered from 0, run on threads of
@@ -46,12 +48,14 @@ pub(crate) fn work_together<'i, R: Threads + Sync, N: Notes + Sync, G: Gate + Sy
     gate: &G,
     task: Option<Task>,
     nodes: Option<u64>,
+    is_race: bool,
 ) -> Result<Dealt<'i>, Memory>
     requires { pieces.now.vars ≡ inst.now.vars }
     ensures same_instance { IfOk result (λ dealt. dealt.best.problem ≡ inst.now) }
-    ensures work { IfOk result (λ dealt. (parts : List PartView) × AreDealtWork inst.now pieces.now task nodes parts dealt.best.held dealt.cut × AreNamesOf task parts dealt.names.done.items dealt.names.cut.items) }
+    ensures work { IfOk result (λ dealt. (parts : List PartView) × AreDealtWork inst.now pieces.now task nodes is_race parts dealt.best.held dealt.cut × AreNamesOf task parts dealt.names.done.items dealt.names.cut.items) }
     ensures least { IfOk result (λ dealt. task ≡ None → dealt.cut ≡ false → HoldsLeast inst.now dealt.best.held) }
-    ensures no_budget { IfNone nodes (IfOk result (λ dealt. dealt.cut ≡ false)) }
+    ensures settled { IfOk result (λ dealt. dealt.is_settled ≡ true → IsSettled pieces.now dealt.best) }
+    ensures no_budget { is_race ≡ false → IfNone nodes (IfOk result (λ dealt. dealt.cut ≡ false)) }
 {
     let mut best = Best::none(alloc, inst)?;
     let normal = normalise(alloc, inst)?;
@@ -60,13 +64,19 @@ pub(crate) fn work_together<'i, R: Threads + Sync, N: Notes + Sync, G: Gate + Sy
     let mut names = Names::with_room(alloc, &task, dealt)?;
     let workers = workers_with_a_piece(workers, dealt);
     let (board, seat) = Board::new(alloc, workers, inst.vars())?;
-    let set = SearchWorkers::new(inst, pieces, &tables, &board, notes, gate, task, nodes);
+    let set = SearchWorkers::new(inst, pieces, &tables, &board, notes, gate, task, nodes, is_race);
     let (parts, seat) = fork(rt, alloc, &set, seat, 0)?;
     let cut = gather(&mut best, &parts);
+    let is_settled = is_one_settled(&parts);
     names.take(&task, &parts)?;
     drop(parts);
     board.close(seat);
-    Ok(Dealt { best, names, cut })
+    Ok(Dealt {
+        best,
+        names,
+        cut,
+        is_settled,
+    })
 }
 
 /// How many of `pieces` pieces are dealt, and 1 where there are none, since there is at least one worker.

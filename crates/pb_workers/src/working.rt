@@ -14,7 +14,7 @@ use crate::gate::Gate;
 use crate::named::Named;
 use crate::note_share::{Correspondence, NoNotes, NoteShare, OuterShare};
 use crate::part::Part;
-use crate::piece::search_piece;
+use crate::piece::{search_piece, search_piece_beside};
 use crate::sharing::BoardShare;
 use crate::task::{Task, has_piece};
 use crate::worker_set::WorkerSet;
@@ -23,7 +23,7 @@ use pb_cubes::Pieces;
 use pb_inst::{Best, Instance, Memory};
 use pb_normal::Normal;
 use pb_notes::Notes;
-use pb_search::{Search, SearchTables};
+use pb_search::{FIRST_TURNS, LONG_TURNS, Outcome, Search, SearchTables};
 use std::alloc::Global;
 
 /// The whole work of one worker. It claims numbers from the board until it gets one that is no piece. It tells the gate of each
@@ -59,7 +59,7 @@ pub fn work<'i, G: Gate + Sync>(
 {
     let tables = SearchTables::new(alloc, inst, normal, pieces)?;
     let no_notes = None::<&Correspondence<'_, NoNotes>>;
-    let set = SearchWorkers::new(inst, pieces, &tables, board, no_notes, gate, None, nodes);
+    let set = SearchWorkers::new(inst, pieces, &tables, board, no_notes, gate, None, nodes, false);
     set.work_of(alloc, seat, worker)
 }
 
@@ -75,6 +75,8 @@ pub(crate) struct SearchWorkers<'a, 'i, N, G> {
     gate: &'a G,
     task: Option<Task>,
     nodes: Option<u64>,
+    // whether one worker stays with the whole, and who comes to its end first ends the search of all
+    is_race: bool,
     ghost tables_of_all: { tables.now ≡ record { problem = inst.now; cubes = pieces.now.cubes } },
     ghost board_vars: { board.now.vars ≡ inst.now.vars },
 }
@@ -90,10 +92,11 @@ impl<'a, 'i, N: Notes, G: Gate> SearchWorkers<'a, 'i, N, G> {
         gate: &'a G,
         task: Option<Task>,
         nodes: Option<u64>,
+        is_race: bool,
     ) -> SearchWorkers<'a, 'i, N, G>
         requires tables { tables.now ≡ record { problem = inst.now; cubes = pieces.now.cubes } }
         requires board { board.now.vars ≡ inst.now.vars }
-        ensures lent { (result.inst.now ≡ inst.now) × (result.pieces.now ≡ pieces.now) × (result.board.now ≡ board.now) × (result.nodes ≡ nodes) × (result.task ≡ task) }
+        ensures lent { (result.inst.now ≡ inst.now) × (result.pieces.now ≡ pieces.now) × (result.board.now ≡ board.now) × (result.nodes ≡ nodes) × (result.task ≡ task) × (result.is_race ≡ is_race) }
     {
         SearchWorkers {
             inst,
@@ -104,6 +107,7 @@ impl<'a, 'i, N: Notes, G: Gate> SearchWorkers<'a, 'i, N, G> {
             gate,
             task,
             nodes,
+            is_race,
         }
     }
 
@@ -117,9 +121,59 @@ impl<'a, 'i, N: Notes, G: Gate> SearchWorkers<'a, 'i, N, G> {
         let mut search = Search::over(alloc, self.tables)?;
         let beyond = NoteShare::new(alloc, self.notes, self.inst.vars(), worker)?;
         let mut share = BoardShare::beside(self.board, seat, worker, beyond);
+        self.begin(&mut search, &mut best, &mut share);
         let count = self.pieces.len();
         let named = self.search_claimed(alloc, &mut search, count, &mut best, &mut share)?;
-        Ok((Part::new(self.pieces, named, best), share.into_seat()))
+        let is_settled = search.is_settled(&best);
+        let part = Part::new(self.pieces, named, best, is_settled);
+        Ok((part, share.into_seat()))
+    }
+
+    /// Begins the search of the whole. In a race the first worker stays with it, and tells the others where it comes to its end.
+    fn begin<S: OuterShare + Drop>(
+        &self,
+        search: &mut Search<'_>,
+        best: &mut Best<'_>,
+        share: &mut BoardShare<'_, S>,
+    )
+        requires same_instance { best.old.problem ≡ search.old.division.problem }
+        ensures same_instance { best.new.problem ≡ best.old.problem }
+        ensures unchanged { search.new ≡ search.old }
+        ensures kept { KeepsClaims share.old share.new }
+    {
+        let turns = if self.is_race && share.worker() == 0 {
+            LONG_TURNS
+        } else {
+            FIRST_TURNS
+        };
+        search.begin(best, share, turns, self.nodes);
+        if self.is_race && search.is_settled(best) {
+            share.tell_whole();
+        }
+    }
+
+    /// Searches a piece, within the budget where there is one. In a race it answers `Cut` where the whole is settled first.
+    fn search_one<S: OuterShare + Drop>(
+        &self,
+        search: &mut Search<'_>,
+        piece: u32,
+        best: &mut Best<'_>,
+        share: &mut BoardShare<'_, S>,
+    ) -> Outcome
+        requires piece { piece ≤ length search.old.division.cubes }
+        requires same_instance { best.old.problem ≡ search.old.division.problem }
+        ensures done { result ≡ Outcome.Whole → IsDone search.old.division piece best.new.held }
+        ensures within { IfSome self.now.nodes (λ budget. search.new.decisions ≤ budget) }
+        ensures cut { result ≡ Outcome.Cut → self.now.is_race ≡ false → self.now.nodes ≡ Some search.new.decisions }
+        ensures not_after { IsNotAfter search.old.division.problem best.old.held best.new.held }
+        ensures kept { KeepsClaims share.old share.new }
+        ensures same_instance { best.new.problem ≡ best.old.problem }
+        ensures unchanged { search.new.division ≡ search.old.division }
+    {
+        if !self.is_race || self.nodes.is_some() {
+            return search_piece(search, piece, best, share, self.nodes);
+        }
+        search_piece_beside(search, piece, best, share)
     }
 
     /// Searches the pieces that the share claims and the task is dealt, each within the budget, and answers their numbers.
@@ -154,7 +208,7 @@ impl<'a, 'i, N: Notes, G: Gate> SearchWorkers<'a, 'i, N, G> {
             // Memory is asked for before the piece is searched, so that a refusal loses no finished work.
             named.reserve(self.nodes)?;
             self.gate.pass(share.worker(), piece);
-            let outcome = search_piece(search, piece, best, share, self.nodes);
+            let outcome = self.search_one(search, piece, best, share);
             // The proof learns by this call that what is held is a solution, so a piece that is done stays done.
             facts_of(best);
             named.push_reserved(piece, outcome, decisions_of(search, self.nodes));
@@ -205,6 +259,7 @@ fn claim_piece<S: OuterShare + Drop>(share: &mut BoardShare<'_, S>, count: u32) 
     if number < u64::from(count) {
         Some(number as u32)
     } else {
+        share.tell_end(count, number);
         None
     }
 }

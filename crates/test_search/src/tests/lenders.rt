@@ -79,4 +79,8 @@ impl<'a> Share for Lender<'a> {
         self.next += 1;
         true
     }
+
+    fn is_over(&self) -> bool {
+        false
+    }
 }
