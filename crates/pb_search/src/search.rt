@@ -18,8 +18,8 @@ use std::marker::Model;
 /// seconds for a split of 4 with 64, and with 1,024.
 pub const FIRST_TURNS: u32 = 256;
 
-/// The same for the worker that stays with the whole, as long as nothing says that it will not come to an end. Chosen by hand: a search
-/// that takes more is one of minutes.
+/// How many times it is about to flip a decision before the worker that stays with the whole turns to the pieces, too. Chosen by hand: a
+/// search that takes more is one of minutes.
 pub const LONG_TURNS: u32 = 1 << 20;
 
 /// What the searches of an instance's pieces need: an engine for the cubes and one for the remainder, which all searches

@@ -15,7 +15,10 @@ use Rattle.pb_subtree.specs.declared.outcome.Outcome.{Outcome}
 use Rattle.pb_subtree.specs.declared.outcome.Outcome.TheVariants.{Whole, Cut}
 use Rattle.pb_search.specs.Done.{Division, IsDone}
 use Rattle.pb_search.specs.Held.{IsNotAfter}
-use Rattle.pb_workers.specs.Parts.{PartView, AreDone, AreSearched, IsAnswerOf, IsNotBefore, KeepsBudget, all_numbers}
+use Rattle.pb_workers.specs.Parts.{PartView, AreDone, AreSearched, IsAnswerOf, IsNotBefore, IsSettled, KeepsBudget, all_numbers}
+use Rattle.pb_subtree.proofs.HeldLemmas.{not_after_itself}
+use Rattle.pb_cubes.specs.Solving.{HoldsLeast}
+use Rattle.pb_cubes.proofs.LeastLaws.{least_of_all_done}
 use Rattle.pb_workers.proofs.ClaimLaws.{budget_of_one, counted_once, holds_some}
 use Rattle.pb_workers.proofs.CutLaws.{HasCut, known_more}
 use Rattle.pb_cubes.proofs.FirstLaws.{not_before_itself}
@@ -76,6 +79,14 @@ one_more_searched d piece nodes Cut n some_cut told old new is later same sound 
       told = ((λ yes. pushed_some h.cut piece), (λ some. both.1 (inr refl)));
     }
 
+-- where each piece is done, all of them are searched
+pub searched_where_done : (d : Division) (best : Incumbent) → best.problem ≡ d.problem → IsSound best → ((i : ℕ) → IsDone d i best.held) → (count : ℕ) → AreSearched d count None best.held false
+searched_where_done d best same sound done zero = none_searched d None best.held
+searched_where_done d best same sound done (suc n) =
+    let more : n + 1 ≡ suc n = omega arith in
+    subst (λ (k : ℕ). AreSearched d k None best.held false) more
+    (one_more_searched d n None Whole 0 false false best.held best ((λ yes. absurd (false≢true yes)), (λ wrong. cc)) (not_after_itself d.problem best.held) same sound (λ _. done n) tt (λ wrong. cc) (searched_where_done d best same sound done n))
+
 -- where none of them was cut each is done
 pub all_done : (d : Division) (count : ℕ) (nodes : Option ℕ) (held : Option Solution) (some_cut : Bool) → AreSearched d count nodes held some_cut → some_cut ≡ false → (i : ℕ) → i < count → IsDone d i held
 all_done d count nodes held some_cut h uncut i within =
@@ -119,3 +130,14 @@ answer_alone p pieces d count nodes best some_cut is of_instance number h = (
 
     same : d ≡ record { problem = best.problem; cubes = pieces.cubes }
     same = is ∙ ap (λ (q : Problem). let e : Division = record { problem = q; cubes = pieces.cubes } in e) (sym of_instance)
+
+-- the answer where each piece is done
+pub answer_where_done : (pieces : CubeList) (best : Incumbent) → IsSound best → IsSettled pieces best → (parts : List PartView) × IsAnswerOf best.problem pieces parts best.held false
+answer_where_done pieces best sound done =
+    let d : Division = record { problem = best.problem; cubes = pieces.cubes } in
+    let count = length pieces.cubes + 1 in
+    let answer = answer_alone best.problem pieces d count None best false refl refl refl (searched_where_done d best refl sound done count) in
+    (answer.0, answer.1)
+
+pub least_where_done : (pieces : CubeList) (best : Incumbent) → IsSettled pieces best → HoldsLeast best.problem best.held
+least_where_done pieces best done = least_of_all_done (record { problem = best.problem; cubes = pieces.cubes }) best.held (λ i within. done i)

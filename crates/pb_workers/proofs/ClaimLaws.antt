@@ -18,7 +18,7 @@ use Rattle.pb_board.specs.Numbers.{IsEachOnceBelow, times}
 use Rattle.pb_board.proofs.Counts.{counted, found, mark, none_here, times-append, times-cons}
 use Rattle.pb_workers.specs.Parts.{PartView, AreDone, AreWhole, IsAnswerOf, KeepsBudget, IsFirst, all_numbers}
 use Rattle.pb_workers.specs.Dealing.{TaskView, AreDealtWork, IsEachOwnOnce, is_dealt, is_own_piece}
-use Rattle.pb_workers.specs.Claims.{piece_count, pieces_among, AreDealt, EndsPast, GoesPast, IsWholeWork, AreWholeWork}
+use Rattle.pb_workers.specs.Claims.{piece_count, pieces_among, AreDealt, EndsPast, GoesPast, IsWork, AreWholeWork}
 
 Any-append_left : {X : Type 0} (P : X → Type 0) (xs ys : List X) → Any P xs → Any P (xs ++ ys)
 Any-append_left P xs ys h =
@@ -86,14 +86,14 @@ budget_of_all None some others h k = tt
 budget_of_all (Some budget) some others h k = All-append (KeepsBudget budget) some others h k
 
 -- one worker's work, as the work of one
-pub work_of_one : (p : Problem) (pieces : CubeList) (task : Option TaskView) (nodes : Option ℕ) (part : PartView) (parts none : List PartView) (claimed : List ℕ) → parts ≡ none ++ part ∷ [] → none ≡ [] → IsWholeWork p pieces task nodes part claimed → AreWholeWork p pieces task nodes parts claimed
-work_of_one p pieces task nodes part parts none claimed pushed empty h =
+pub work_of_one : (p : Problem) (pieces : CubeList) (task : Option TaskView) (nodes : Option ℕ) (race : Bool) (part : PartView) (parts none : List PartView) (claimed : List ℕ) → parts ≡ none ++ part ∷ [] → none ≡ [] → IsWork p pieces task nodes race part claimed → AreWholeWork p pieces task nodes race parts claimed
+work_of_one p pieces task nodes race part parts none claimed pushed empty h =
     let is : parts ≡ part ∷ [] = pushed ∙ ap (λ (l : List PartView). l ++ part ∷ []) empty in
-    subst (λ (l : List PartView). AreWholeWork p pieces task nodes l claimed) (sym is) (record {
+    subst (λ (l : List PartView). AreWholeWork p pieces task nodes race l claimed) (sym is) (record {
       of_instance = All-push (λ (x : PartView). x.best.problem ≡ p) [] part (All-nil (λ (x : PartView). x.best.problem ≡ p)) h.of_instance;
       of_pieces = All-push (λ (x : PartView). x.pieces ≡ pieces) [] part (All-nil (λ (x : PartView). x.pieces ≡ pieces)) h.of_pieces;
       named = λ i. omega (arith, times-append i (part.named ++ part.cut) [], times-append i part.named part.cut, dealt_times (pieces_among task (piece_count pieces) claimed) part.named part.cut i h.named);
-      uncut = uncut_of_one nodes part h.uncut;
+      uncut = λ none. uncut_of_one nodes part (h.uncut none);
       budget = budget_of_one nodes part h.budget;
       past = past h.ends;
     })
@@ -107,13 +107,13 @@ goes_past_more count xs ys (inl h) = inl (Any-append_left (λ n. count ≤ n) xs
 goes_past_more count xs ys (inr h) = inr (omega (arith, length-append xs ys))
 
 -- the work of some workers and the work of others, as the work of all
-work_of_all : (p : Problem) (pieces : CubeList) (task : Option TaskView) (nodes : Option ℕ) (some others all : List PartView) (claimed more both : List ℕ) → all ≡ some ++ others → both ≡ claimed ++ more → AreWholeWork p pieces task nodes some claimed → AreWholeWork p pieces task nodes others more → AreWholeWork p pieces task nodes all both
-work_of_all p pieces task nodes some others all claimed more both parts_are claims_are h k =
-    subst (λ (l : List PartView). AreWholeWork p pieces task nodes l both) (sym parts_are) (subst (λ (l : List ℕ). AreWholeWork p pieces task nodes (some ++ others) l) (sym claims_are) (record {
+work_of_all : (p : Problem) (pieces : CubeList) (task : Option TaskView) (nodes : Option ℕ) (race : Bool) (some others all : List PartView) (claimed more both : List ℕ) → all ≡ some ++ others → both ≡ claimed ++ more → AreWholeWork p pieces task nodes race some claimed → AreWholeWork p pieces task nodes race others more → AreWholeWork p pieces task nodes race all both
+work_of_all p pieces task nodes race some others all claimed more both parts_are claims_are h k =
+    subst (λ (l : List PartView). AreWholeWork p pieces task nodes race l both) (sym parts_are) (subst (λ (l : List ℕ). AreWholeWork p pieces task nodes race (some ++ others) l) (sym claims_are) (record {
       of_instance = All-append (λ (x : PartView). x.best.problem ≡ p) some others h.of_instance k.of_instance;
       of_pieces = All-append (λ (x : PartView). x.pieces ≡ pieces) some others h.of_pieces k.of_pieces;
       named = λ i. named_of_all i;
-      uncut = uncut_of_all nodes some others h.uncut k.uncut;
+      uncut = λ none. uncut_of_all nodes some others (h.uncut none) (k.uncut none);
       budget = budget_of_all nodes some others h.budget k.budget;
       past = goes_past_more (piece_count pieces) claimed more h.past;
     }))
@@ -132,9 +132,9 @@ abbrev joined : BoardView → SeatView → SeatView → SeatView
 joined board v w = record { board = board.id; parts = v.parts + w.parts; claimed = v.claimed ++ w.claimed; offered = v.offered ++ w.offered; seen = min v.seen w.seen }
 
 -- their work where their seats were joined
-pub work_of_both : (p : Problem) (pieces : CubeList) (task : Option TaskView) (nodes : Option ℕ) (some others all : List PartView) (board : BoardView) (low high both : SeatView) → all ≡ some ++ others → both ≡ joined board low high → AreWholeWork p pieces task nodes some low.claimed → AreWholeWork p pieces task nodes others high.claimed → AreWholeWork p pieces task nodes all both.claimed
-work_of_both p pieces task nodes some others all board low high both parts_are is h k =
-    work_of_all p pieces task nodes some others all low.claimed high.claimed both.claimed parts_are (ap (λ (s : SeatView). s.claimed) is) h k
+pub work_of_both : (p : Problem) (pieces : CubeList) (task : Option TaskView) (nodes : Option ℕ) (race : Bool) (some others all : List PartView) (board : BoardView) (low high both : SeatView) → all ≡ some ++ others → both ≡ joined board low high → AreWholeWork p pieces task nodes race some low.claimed → AreWholeWork p pieces task nodes race others high.claimed → AreWholeWork p pieces task nodes race all both.claimed
+work_of_both p pieces task nodes race some others all board low high both parts_are is h k =
+    work_of_all p pieces task nodes race some others all low.claimed high.claimed both.claimed parts_are (ap (λ (s : SeatView). s.claimed) is) h k
 
 -- where numbers below the total count once, one that counts is below the total
 counted_below : (n total count : ℕ) → count ≡ (if nat_lt n total then 1 else 0) → 0 < count → n < total
@@ -179,8 +179,8 @@ each_claimed task count total claimed number once past i =
     ∙ once_chosen (is_own_piece task count i) i count total (times i claimed) (once i) all (own_below task count i)
 
 -- the joined claims of all workers leave no piece out, so the parts name each piece that the task is dealt once
-pub each_named : (p : Problem) (pieces : CubeList) (task : Option TaskView) (nodes : Option ℕ) (parts : List PartView) (claimed : List ℕ) (total : ℕ) → AreWholeWork p pieces task nodes parts claimed → total ≡ length claimed → IsEachOnceBelow total claimed → IsEachOwnOnce task (piece_count pieces) (all_numbers parts)
-each_named p pieces task nodes parts claimed total h number once = λ i. h.named i ∙ each_claimed task (piece_count pieces) total claimed number once h.past i
+pub each_named : (p : Problem) (pieces : CubeList) (task : Option TaskView) (nodes : Option ℕ) (race : Bool) (parts : List PartView) (claimed : List ℕ) (total : ℕ) → AreWholeWork p pieces task nodes race parts claimed → total ≡ length claimed → IsEachOnceBelow total claimed → IsEachOwnOnce task (piece_count pieces) (all_numbers parts)
+each_named p pieces task nodes race parts claimed total h number once = λ i. h.named i ∙ each_claimed task (piece_count pieces) total claimed number once h.past i
 
 -- what some part names, where no part has a cut piece, it names as done
 named_as_done : (parts : List PartView) (i : ℕ) → (Any (λ (x : PartView). x.cut ≢ []) parts → ⊥) → Any (λ (x : PartView). Contains (x.named ++ x.cut) i) parts → Any (λ (x : PartView). Contains x.named i) parts
@@ -198,28 +198,29 @@ all_named pieces parts of_pieces once none = record {
 }
 
 -- the parts' work on what the task is dealt, where they did all of it and what they hold was gathered
-pub dealt_work : (p q : Problem) (pieces list : CubeList) (task dealt : Option TaskView) (nodes budget : Option ℕ) (parts seen : List PartView) (claimed : List ℕ) (total : ℕ) (before held : Option Solution) (some_cut : Bool)
-    → q ≡ p → list ≡ pieces → dealt ≡ task → budget ≡ nodes → AreWholeWork q list dealt budget parts claimed → total ≡ length claimed → IsEachOnceBelow total claimed
+pub dealt_work : (p q : Problem) (pieces list : CubeList) (task dealt : Option TaskView) (nodes budget : Option ℕ) (race in_race : Bool) (parts seen : List PartView) (claimed : List ℕ) (total : ℕ) (before held : Option Solution) (some_cut : Bool)
+    → q ≡ p → list ≡ pieces → dealt ≡ task → budget ≡ nodes → in_race ≡ race → AreWholeWork q list dealt budget in_race parts claimed → total ≡ length claimed → IsEachOnceBelow total claimed
     → seen ≡ parts → before ≡ None → All AreDone seen → IsFirst (before ∷ map (λ part. part.best.held) seen) held → (IsTrue some_cut ↔ Any (λ (x : PartView). x.cut ≢ []) seen)
-    → AreDealtWork p pieces task nodes parts held some_cut
-dealt_work p q pieces list task dealt nodes budget parts seen claimed total before held some_cut same_instance same_list same_task same_nodes work number once same none done first told =
-    subst (λ (x : Problem). AreDealtWork x pieces task nodes parts held some_cut) same_instance
-    (subst (λ (l : CubeList). AreDealtWork q l task nodes parts held some_cut) same_list
-    (subst (λ (t : Option TaskView). AreDealtWork q list t nodes parts held some_cut) same_task
-    (subst (λ (n : Option ℕ). AreDealtWork q list dealt n parts held some_cut) same_nodes (record {
+    → AreDealtWork p pieces task nodes race parts held some_cut
+dealt_work p q pieces list task dealt nodes budget race in_race parts seen claimed total before held some_cut same_instance same_list same_task same_nodes same_race work number once same none done first told =
+    subst (λ (x : Problem). AreDealtWork x pieces task nodes race parts held some_cut) same_instance
+    (subst (λ (l : CubeList). AreDealtWork q l task nodes race parts held some_cut) same_list
+    (subst (λ (t : Option TaskView). AreDealtWork q list t nodes race parts held some_cut) same_task
+    (subst (λ (n : Option ℕ). AreDealtWork q list dealt n race parts held some_cut) same_nodes
+    (subst (λ (r : Bool). AreDealtWork q list dealt budget r parts held some_cut) same_race (record {
       of_instance = work.of_instance;
       of_pieces = work.of_pieces;
-      each_once = each_named q list dealt budget parts claimed total work number once;
+      each_once = each_named q list dealt budget in_race parts claimed total work number once;
       uncut = work.uncut;
       budget = work.budget;
       done = subst (λ (l : List PartView). All AreDone l) same done;
       first = subst (λ (l : List PartView). IsFirst (None ∷ map (λ part. part.best.held) l) held) same (subst (λ (o : Option Solution). IsFirst (o ∷ map (λ part. part.best.held) seen) held) none first);
       told = subst (λ (l : List PartView). IsTrue some_cut ↔ Any (λ (x : PartView). x.cut ≢ []) l) same told;
-    }))))
+    })))))
 
 -- the work on all pieces, as their answer
-pub answer_of_work : (p : Problem) (pieces : CubeList) (nodes : Option ℕ) (parts : List PartView) (held : Option Solution) (some_cut : Bool) → AreDealtWork p pieces None nodes parts held some_cut → IsAnswerOf p pieces parts held some_cut
-answer_of_work p pieces nodes parts held some_cut work = record {
+pub answer_of_work : (p : Problem) (pieces : CubeList) (nodes : Option ℕ) (race : Bool) (parts : List PartView) (held : Option Solution) (some_cut : Bool) → AreDealtWork p pieces None nodes race parts held some_cut → IsAnswerOf p pieces parts held some_cut
+answer_of_work p pieces nodes race parts held some_cut work = record {
   of_instance = work.of_instance;
   of_pieces = work.of_pieces;
   each_once = work.each_once;

@@ -59,9 +59,9 @@ part_done_by_first p pieces held part is of_problem of_list done not_before =
     λ k i within. done_by_first d (get_or part.named k i) part.best.held held (subst (λ (e : Division). IsDone e (get_or part.named k i) part.best.held) same (done k i within)) is not_before
 
 -- the answer of a task, from its workers' work and their names
-pub answer_of_task : (p : Problem) (pieces : CubeList) (task : TaskView) (nodes : Option ℕ) (parts : List PartView) (done cut : List ℕ) (held : Option Solution) (some_cut : Bool)
-    → AreDealtWork p pieces (Some task) nodes parts held some_cut → AreNamesOf (Some task) parts done cut → IfSome held (IsSolution p) → IsAnswerOfTask p pieces task done cut held
-answer_of_task p pieces task nodes parts done cut held some_cut work names is =
+pub answer_of_task : (p : Problem) (pieces : CubeList) (task : TaskView) (nodes : Option ℕ) (race : Bool) (parts : List PartView) (done cut : List ℕ) (held : Option Solution) (some_cut : Bool)
+    → AreDealtWork p pieces (Some task) nodes race parts held some_cut → AreNamesOf (Some task) parts done cut → IfSome held (IsSolution p) → IsAnswerOfTask p pieces task done cut held
+answer_of_task p pieces task nodes race parts done cut held some_cut work names is =
     let d : Division = record { problem = p; cubes = pieces.cubes } in
     let none_before : All (λ (x : PartView). IsNotBefore x.best.held held) parts =
     All-from_map (λ s. IsNotBefore s held) (λ (x : PartView). x.best.held) parts (All-tail (λ s. IsNotBefore s held) None (map (λ x. x.best.held) parts) work.first.none_before) in

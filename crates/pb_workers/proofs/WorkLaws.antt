@@ -13,7 +13,7 @@ use Rattle.pb_workers.specs.Parts.{PartView, AreCounted, AreDone}
 use Rattle.pb_subtree.specs.declared.outcome.Outcome.{Outcome}
 use Rattle.pb_subtree.specs.declared.outcome.Outcome.TheVariants.{Whole, Cut}
 use Rattle.pb_workers.specs.Dealing.{TaskView, is_dealt, is_own_piece}
-use Rattle.pb_workers.specs.Claims.{piece_count, pieces_among, AreDealt, EndsPast, IsWholeWork, NamesOneMore}
+use Rattle.pb_workers.specs.Claims.{piece_count, pieces_among, AreDealt, EndsPast, IsWork, NamesOneMore}
 use Rattle.pb_workers.specs.Sharing.{BoardShareView, KeepsClaims, SameSeat}
 
 -- what is held is a solution, where anything is
@@ -90,9 +90,18 @@ own_piece task count i told is below = ap (λ b. is_dealt task i && b) (is_piece
     and_true false = refl
 
 -- without a budget each search is whole, by what it tells
-pub whole_by : (X : Type 0) (nodes : Option ℕ) (outcome : Outcome) → IfNone nodes ((outcome ≡ Whole) × X) → nodes ≡ None → outcome ≡ Whole
-whole_by X None outcome told none = told.0
-whole_by X (Some budget) outcome told none = cc
+pub whole_by : (nodes : Option ℕ) (outcome : Outcome) → IfNone nodes (outcome ≡ Whole) → nodes ≡ None → outcome ≡ Whole
+whole_by None outcome told none = told
+whole_by (Some budget) outcome told none = cc
+
+pub whole_alone : (X : Type 0) (nodes : Option ℕ) (outcome : Outcome) → IfNone nodes ((outcome ≡ Whole) × X) → IfNone nodes (outcome ≡ Whole)
+whole_alone X None outcome told = told.0
+whole_alone X (Some budget) outcome told = tt
+
+-- a search that was cut made all decisions of its budget, where there is one
+pub used_up_by : (nodes : Option ℕ) (outcome : Outcome) (n : ℕ) → (outcome ≡ Cut → nodes ≡ Some n) → IfSome nodes (λ budget. outcome ≡ Cut → budget ≡ n)
+used_up_by None outcome n used_up = tt
+used_up_by (Some budget) outcome n used_up = λ is_cut. let same : Some budget ≡ Some n = used_up is_cut in cc
 
 -- without a budget nothing is cut, also where one more is named
 pub uncut_more : (nodes : Option ℕ) (outcome : Outcome) (i : ℕ) (done cut done' cut' : List ℕ) → NamesOneMore outcome i done cut done' cut' → (nodes ≡ None → outcome ≡ Whole) → IfNone nodes (cut ≡ []) → IfNone nodes (cut' ≡ [])
@@ -160,13 +169,13 @@ counted_where (Some budget) outcome i n done decisions cut cut_decisions done' d
 -- and they are counted by what is told of the search
 pub counted_more : (nodes told : Option ℕ) (outcome : Outcome) (i n : ℕ) (done decisions cut cut_decisions done' decisions' cut' cut_decisions' : List ℕ)
     → told ≡ option_map (λ _. n) nodes → NamesOneMore outcome i done cut done' cut' → IfSome told (λ k. NamesOneMore outcome k decisions cut_decisions decisions' cut_decisions')
-    → IfSome nodes (λ budget. n ≤ budget) → (outcome ≡ Cut → nodes ≡ Some n)
+    → IfSome nodes (λ budget. n ≤ budget) → IfSome nodes (λ budget. outcome ≡ Cut → budget ≡ n)
     → IfSome nodes (λ budget. AreCounted budget done decisions cut cut_decisions) → IfSome nodes (λ budget. AreCounted budget done' decisions' cut' cut_decisions')
 counted_more None told outcome i n done decisions cut cut_decisions done' decisions' cut' cut_decisions' is names counts within used_up h = tt
 counted_more (Some budget) told outcome i n done decisions cut cut_decisions done' decisions' cut' cut_decisions' is names counts within used_up h =
     counted_where (Some budget) outcome i n done decisions cut cut_decisions done' decisions' cut' cut_decisions' names
     (subst (λ (o : Option ℕ). IfSome o (λ k. NamesOneMore outcome k decisions cut_decisions decisions' cut_decisions')) is counts)
-    within used_up h
+    within (λ is_cut. ap Some (used_up is_cut)) h
 
 -- room for the decisions of one more search
 pub room_told : (X : Type 0) (nodes told : Option ℕ) (n : ℕ) → told ≡ option_map (λ _. n) nodes → IfSome nodes (λ _. X) → IfSome told (λ _. X)
@@ -174,13 +183,13 @@ room_told X None told n is room = subst (λ (o : Option ℕ). IfSome o (λ _. X)
 room_told X (Some budget) told n is room = subst (λ (o : Option ℕ). IfSome o (λ _. X)) (sym is) room
 
 -- what a worker did, from what it claimed and named
-pub whole_work : (p : Problem) (pieces : CubeList) (task : Option TaskView) (nodes : Option ℕ) (part : PartView) (claimed after named cut decisions cut_decisions : List ℕ) (count : ℕ) (best : Incumbent)
+pub whole_work : (p : Problem) (pieces : CubeList) (task : Option TaskView) (nodes : Option ℕ) (race : Bool) (part : PartView) (claimed after named cut decisions cut_decisions : List ℕ) (count : ℕ) (best : Incumbent)
     → part ≡ record { pieces = pieces; named = named; cut = cut; decisions = decisions; cut_decisions = cut_decisions; best = best } → claimed ≡ after → count ≡ piece_count pieces → best.problem ≡ p
-    → AreDealt (pieces_among task count after) named cut → IfNone nodes (cut ≡ []) → IfSome nodes (λ budget. AreCounted budget named decisions cut cut_decisions)
-    → length after ≤ count + 1 → EndsPast count after ⊎ (length after ≡ count + 1) → IsWholeWork p pieces task nodes part claimed
-whole_work p pieces task nodes part claimed after named cut decisions cut_decisions count best is same number of_instance names uncut budget most ends =
-    subst (λ (x : PartView). IsWholeWork p pieces task nodes x claimed) (sym is)
-    (subst (λ (l : List ℕ). IsWholeWork p pieces task nodes (record { pieces = pieces; named = named; cut = cut; decisions = decisions; cut_decisions = cut_decisions; best = best }) l) (sym same) (record {
+    → AreDealt (pieces_among task count after) named cut → (race ≡ false → IfNone nodes (cut ≡ [])) → IfSome nodes (λ budget. AreCounted budget named decisions cut cut_decisions)
+    → length after ≤ count + 1 → EndsPast count after ⊎ (length after ≡ count + 1) → IsWork p pieces task nodes race part claimed
+whole_work p pieces task nodes race part claimed after named cut decisions cut_decisions count best is same number of_instance names uncut budget most ends =
+    subst (λ (x : PartView). IsWork p pieces task nodes race x claimed) (sym is)
+    (subst (λ (l : List ℕ). IsWork p pieces task nodes race (record { pieces = pieces; named = named; cut = cut; decisions = decisions; cut_decisions = cut_decisions; best = best }) l) (sym same) (record {
       of_instance = of_instance;
       of_pieces = refl;
       named = subst (λ (n : ℕ). AreDealt (pieces_among task n after) named cut) number names;

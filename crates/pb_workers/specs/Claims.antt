@@ -1,5 +1,5 @@
 -- What workers claim of the pieces, and which of it their parts name.
-use Rattle.std.specs.Prelude.{◌≡◌, ℕ, ◌+◌, ◌*◌, ◌^◌, ◌<◌, ◌≤◌, ◌⊎◌, List, [], ◌∷◌, ◌++◌, length, filter, All, Any, Option, IfNone, IfSome}
+use Rattle.std.specs.Prelude.{◌≡◌, ℕ, ◌+◌, ◌*◌, ◌^◌, ◌<◌, ◌≤◌, ◌⊎◌, Bool, false, List, [], ◌∷◌, ◌++◌, length, filter, All, Any, Option, IfNone, IfSome}
 use Rattle.pb_inst.specs.Problem.{Problem}
 use Rattle.pb_inst.specs.declared.limits.TheConstants.{MAX_WORKERS}
 use Rattle.pb_cubes.specs.Pieces.{CubeList}
@@ -37,28 +37,32 @@ NamesOneMore Whole piece done cut done' cut' = (done' ≡ done ++ piece ∷ []) 
 NamesOneMore Cut piece done cut done' cut' = (done' ≡ done) × (cut' ≡ cut ++ piece ∷ [])
 
 -- One worker's whole work: its part names those of its claims that are pieces and that the task is dealt, in order, some as
--- done and, where there is a budget, others as cut, each within the budget. It has at most one claim more than there are
--- pieces, and its last claim is no piece, or it has that many.
-pub record IsWholeWork (p : Problem) (pieces : CubeList) (task : Option TaskView) (nodes : Option ℕ) (part : PartView) (claimed : List ℕ) : Type 0 where
+-- done and, where there is a budget or a race, others as cut, each within the budget. It has at most one claim more than there
+-- are pieces, and its last claim is no piece, or it has that many.
+pub record IsWork (p : Problem) (pieces : CubeList) (task : Option TaskView) (nodes : Option ℕ) (race : Bool) (part : PartView) (claimed : List ℕ) : Type 0 where
   pub of_instance : part.best.problem ≡ p
   pub of_pieces : part.pieces ≡ pieces
   pub named : AreDealt (pieces_among task (piece_count pieces) claimed) part.named part.cut
-  pub uncut : IfNone nodes (part.cut ≡ [])
+  pub uncut : race ≡ false → IfNone nodes (part.cut ≡ [])
   pub budget : IfSome nodes (λ budget. KeepsBudget budget part)
   pub most : length claimed ≤ piece_count pieces + 1
   pub ends : EndsPast (piece_count pieces) claimed ⊎ (length claimed ≡ piece_count pieces + 1)
+
+-- the same where there is no race: without a budget each piece is done
+abbrev pub IsWholeWork : Problem → CubeList → Option TaskView → Option ℕ → PartView → List ℕ → Type 0
+IsWholeWork p pieces task nodes part claimed = IsWork p pieces task nodes false part claimed
 
 -- some claim is the number of no piece, or there are more claims than pieces
 abbrev pub GoesPast : ℕ → List ℕ → Type 0
 GoesPast count claimed = Any (λ n. count ≤ n) claimed ⊎ (count < length claimed)
 
 -- The work of several workers: the parts name each number as often as it was claimed, where it is a piece that the task is dealt,
--- as done or, where there is a budget, as cut, and no other number; and the claims go past the pieces.
-pub record AreWholeWork (p : Problem) (pieces : CubeList) (task : Option TaskView) (nodes : Option ℕ) (parts : List PartView) (claimed : List ℕ) : Type 0 where
+-- as done or, where there is a budget or a race, as cut, and no other number; and the claims go past the pieces.
+pub record AreWholeWork (p : Problem) (pieces : CubeList) (task : Option TaskView) (nodes : Option ℕ) (race : Bool) (parts : List PartView) (claimed : List ℕ) : Type 0 where
   pub of_instance : All (λ part. part.best.problem ≡ p) parts
   pub of_pieces : All (λ part. part.pieces ≡ pieces) parts
   pub named : (i : ℕ) → times i (all_numbers parts) ≡ times i (pieces_among task (piece_count pieces) claimed)
-  pub uncut : IfNone nodes (All (λ part. part.cut ≡ []) parts)
+  pub uncut : race ≡ false → IfNone nodes (All (λ part. part.cut ≡ []) parts)
   pub budget : IfSome nodes (λ budget. All (KeepsBudget budget) parts)
   pub past : GoesPast (piece_count pieces) claimed
 
@@ -76,15 +80,15 @@ pub record MayFork (board : BoardView) (seat : SeatView) (first : ℕ) : Type 0 
   pub most : board.workers ≤ MAX_WORKERS
 
 -- One worker's whole work with a seat, which it gives back with its claims. The seat's board and parts stay.
-pub record IsWorkWith (p : Problem) (pieces : CubeList) (task : Option TaskView) (nodes : Option ℕ) (seat : SeatView) (part : PartView) (after : SeatView) : Type 0 where
-  pub whole : IsWholeWork p pieces task nodes part after.claimed
+pub record IsWorkWith (p : Problem) (pieces : CubeList) (task : Option TaskView) (nodes : Option ℕ) (race : Bool) (seat : SeatView) (part : PartView) (after : SeatView) : Type 0 where
+  pub whole : IsWork p pieces task nodes race part after.claimed
   pub board : after.board ≡ seat.board
   pub parts : after.parts ≡ seat.parts
   pub claims : length after.claimed ≤ 2 ^ 32
 
 -- the same of several workers, who have a part of the seat each
-pub record AreWorkWith (p : Problem) (pieces : CubeList) (task : Option TaskView) (nodes : Option ℕ) (seat : SeatView) (work : List PartView) (after : SeatView) : Type 0 where
-  pub whole : AreWholeWork p pieces task nodes work after.claimed
+pub record AreWorkWith (p : Problem) (pieces : CubeList) (task : Option TaskView) (nodes : Option ℕ) (race : Bool) (seat : SeatView) (work : List PartView) (after : SeatView) : Type 0 where
+  pub whole : AreWholeWork p pieces task nodes race work after.claimed
   pub board : after.board ≡ seat.board
   pub parts : after.parts ≡ seat.parts
   pub claims : length after.claimed ≤ 2 ^ 32 * seat.parts

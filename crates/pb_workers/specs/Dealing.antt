@@ -1,5 +1,5 @@
 -- Which pieces a task is dealt, and what its workers did of them.
-use Rattle.std.specs.Prelude.{◌≡◌, ◌≢◌, ◌↔◌, ℕ, ◌+◌, ◌%◌, ◌==◌, ◌&&◌, nat_lt, if◌then◌else◌, Bool, true, IsTrue, List, [], ◌∷◌, ◌++◌, length, map, flat_map, All, Any, ⊤, Option, None, Some, IfNone, IfSome}
+use Rattle.std.specs.Prelude.{◌≡◌, ◌≢◌, ◌↔◌, ℕ, ◌+◌, ◌%◌, ◌==◌, ◌&&◌, nat_lt, if◌then◌else◌, Bool, true, false, IsTrue, List, [], ◌∷◌, ◌++◌, length, map, flat_map, All, Any, ⊤, Option, None, Some, IfNone, IfSome}
 use Rattle.std.specs.List.Sorted.{IsPermutation}
 use Rattle.pb_inst.specs.Problem.{Problem}
 use Rattle.pb_inst.specs.Incumbent.{Solution, IsSolution}
@@ -27,13 +27,13 @@ abbrev pub IsEachOwnOnce : Option TaskView → ℕ → List ℕ → Type 0
 IsEachOwnOnce task count numbers = (i : ℕ) → times i numbers ≡ (if is_own_piece task count i then 1 else 0)
 
 -- The work of workers on the pieces that a task is dealt. Each of these is named once, by one part, as done or, where there is a
--- budget, as cut; what a part names as done is done by what it holds. Of what the parts hold, this is the first. It is told
+-- budget or a race, as cut; what a part names as done is done by what it holds. Of what the parts hold, this is the first. It is told
 -- whether some part names a piece as cut.
-pub record AreDealtWork (p : Problem) (pieces : CubeList) (task : Option TaskView) (nodes : Option ℕ) (parts : List PartView) (held : Option Solution) (some_cut : Bool) : Type 0 where
+pub record AreDealtWork (p : Problem) (pieces : CubeList) (task : Option TaskView) (nodes : Option ℕ) (race : Bool) (parts : List PartView) (held : Option Solution) (some_cut : Bool) : Type 0 where
   pub of_instance : All (λ part. part.best.problem ≡ p) parts
   pub of_pieces : All (λ part. part.pieces ≡ pieces) parts
   pub each_once : IsEachOwnOnce task (length pieces.cubes + 1) (all_numbers parts)
-  pub uncut : IfNone nodes (All (λ part. part.cut ≡ []) parts)
+  pub uncut : race ≡ false → IfNone nodes (All (λ part. part.cut ≡ []) parts)
   pub budget : IfSome nodes (λ budget. All (KeepsBudget budget) parts)
   pub done : All AreDone parts
   pub first : IsFirst (None ∷ map (λ part. part.best.held) parts) held

@@ -31,7 +31,7 @@ pub fn solve_alone<'i>(
     solve_from(alloc, inst, pieces, best, nodes)
 }
 
-/// The same, where an assignment may be held already.
+/// Solves as `solve_alone` does, where an assignment may be held already.
 pub(crate) fn solve_from<'i>(
     alloc: Global,
     inst: &'i Instance,

@@ -21,7 +21,7 @@ pub(crate) fn fork<'c, R: Threads + Sync, C: WorkerSet + Sync>(
     first: u32,
 ) -> Result<(Vec<Part<'c>>, Seat), Memory>
     requires { MayFork (C.meets_on set.now) seat first }
-    ensures { IfOk result (λ done. AreWorkWith (C.problem set.now) (C.pieces set.now) (C.task set.now) (C.nodes set.now) seat done.0.items done.1) }
+    ensures { IfOk result (λ done. AreWorkWith (C.problem set.now) (C.pieces set.now) (C.task set.now) (C.nodes set.now) (C.race set.now) seat done.0.items done.1) }
 {
     let parts = seat.parts();
     if parts == 1 {
@@ -36,11 +36,11 @@ pub(crate) fn fork<'c, R: Threads + Sync, C: WorkerSet + Sync>(
         rt,
         move || -> Result<(Vec<Part<'_>>, Seat), Memory>
             requires { IsSync R.row × IsSync C.row × MayFork (C.meets_on set.now) low first }
-            ensures { IfOk result (λ done. AreWorkWith (C.problem set.entry.now) (C.pieces set.entry.now) (C.task set.entry.now) (C.nodes set.entry.now) low done.0.items done.1) }
+            ensures { IfOk result (λ done. AreWorkWith (C.problem set.entry.now) (C.pieces set.entry.now) (C.task set.entry.now) (C.nodes set.entry.now) (C.race set.entry.now) low done.0.items done.1) }
         { fork(rt, alloc, set, low, first) },
         move || -> Result<(Vec<Part<'_>>, Seat), Memory>
             requires { IsSync R.row × IsSync C.row × MayFork (C.meets_on set.now) high middle }
-            ensures { IfOk result (λ done. AreWorkWith (C.problem set.entry.now) (C.pieces set.entry.now) (C.task set.entry.now) (C.nodes set.entry.now) high done.0.items done.1) }
+            ensures { IfOk result (λ done. AreWorkWith (C.problem set.entry.now) (C.pieces set.entry.now) (C.task set.entry.now) (C.nodes set.entry.now) (C.race set.entry.now) high done.0.items done.1) }
         { fork(rt, alloc, set, high, middle) },
     );
     let (mut parts, low) = low?;

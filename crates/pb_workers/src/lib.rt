@@ -12,6 +12,7 @@ mod names;
 mod note_share;
 mod part;
 mod piece;
+mod racing;
 mod sharing;
 mod solving;
 mod task;

@@ -3,9 +3,9 @@ ghost use Rattle.std.specs.Prelude.{◌≡◌, List, false, All, IfOk, IfNone, I
 ghost use Rattle.pb_workers.specs.Parts.{IsAnswerOf, KeepsBudget, PartView};
 ghost use Rattle.pb_cubes.specs.Solving.{HoldsLeast};
 
-use crate::alone::solve_from;
 use crate::gate::Gate;
 use crate::note_share::{Correspondence, NoNotes};
+use crate::racing::race;
 use crate::together::{Dealt, work_together};
 use pb_cubes::Pieces;
 use pb_inst::{Best, Instance, Memory, Workers};
@@ -57,32 +57,18 @@ pub fn solve<'i, R: Threads + Sync, G: Gate + Sync>(
     ensures no_budget { IfNone nodes (IfOk result (λ answer. answer.cut ≡ false)) }
     ensures parts { IfOk result (λ answer. (parts : List PartView) × IsAnswerOf inst.now pieces.now parts answer.best.held answer.cut × IfSome nodes (λ budget. All (KeepsBudget budget) parts)) }
 {
-    let is_race = nodes.is_none();
+    let Some(_) = nodes else {
+        return race(rt, alloc, inst, pieces, workers, gate);
+    };
+    let no_notes = None::<&Correspondence<'_, NoNotes>>;
     let dealt = work_together(
-        rt,
-        alloc,
-        inst,
-        pieces,
-        workers,
-        None::<&Correspondence<'_, NoNotes>>,
-        gate,
-        None,
-        nodes,
-        is_race,
+        rt, alloc, inst, pieces, workers, no_notes, gate, None, nodes, false,
     )?;
     let Dealt {
         best,
         names: _,
         cut,
-        is_settled,
+        is_settled: _,
     } = dealt;
-    if !is_race || !cut {
-        return Ok(Answer { best, cut });
-    }
-    if is_settled {
-        return Ok(Answer { best, cut: false });
-    }
-    // No run comes here: a worker leaves a piece only where another one settled the whole. The signal promises nothing, so what
-    // is left is searched all the same.
-    solve_from(alloc, inst, pieces, best, None)
+    Ok(Answer { best, cut })
 }

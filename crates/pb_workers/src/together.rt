@@ -1,11 +1,12 @@
 //! Workers on threads of their own, on all pieces of an instance or on those of a task.
 //! Source: [H11]
-ghost use Rattle.std.specs.Prelude.{◌≡◌, ◌≤◌, List, None, false, min, IfOk, IfNone};
+ghost use Rattle.std.specs.Prelude.{◌≡◌, ◌≤◌, List, None, false, true, min, IfOk, IfNone};
 ghost use Rattle.pb_inst.specs.declared.limits.TheConstants.{MAX_WORKERS};
 ghost use Rattle.pb_workers.specs.Dealing.{AreDealtWork, AreNamesOf};
-ghost use Rattle.pb_workers.specs.Parts.{PartView};
+ghost use Rattle.pb_workers.specs.Parts.{IsSettled, PartView};
 ghost use Rattle.pb_cubes.specs.Solving.{HoldsLeast};
 
+use crate::facts::facts_of;
 use crate::fork::fork;
 use crate::gate::Gate;
 use crate::gathering::{gather, is_one_settled};
@@ -67,6 +68,8 @@ pub(crate) fn work_together<'i, R: Threads + Sync, N: Notes + Sync, G: Gate + Sy
     let set = SearchWorkers::new(inst, pieces, &tables, &board, notes, gate, task, nodes, is_race);
     let (parts, seat) = fork(rt, alloc, &set, seat, 0)?;
     let cut = gather(&mut best, &parts);
+    // The proof learns by this call that what is held is a solution, so what some part did is done by the first of all parts.
+    facts_of(&best);
     let is_settled = is_one_settled(&parts);
     names.take(&task, &parts)?;
     drop(parts);

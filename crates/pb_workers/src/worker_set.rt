@@ -1,5 +1,5 @@
 //! A set of workers, as those who fork it know it.
-ghost use Rattle.std.specs.Prelude.{◌≡◌, ℕ, Option, IfOk};
+ghost use Rattle.std.specs.Prelude.{◌≡◌, ℕ, Bool, Option, IfOk};
 ghost use Rattle.pb_inst.specs.Problem.{Problem};
 ghost use Rattle.pb_cubes.specs.Pieces.{CubeList};
 ghost use Rattle.pb_board.specs.Seats.{BoardView};
@@ -27,6 +27,8 @@ pub(crate) trait WorkerSet {
 
     ghost nodes: { Self → Option ℕ };
 
+    ghost race: { Self → Bool };
+
     /// The board that the workers share.
     fn board(&self) -> &Board
         ensures { result.now ≡ meets_on self.now };
@@ -35,5 +37,5 @@ pub(crate) trait WorkerSet {
     /// workers. At `Memory` the seat is dropped.
     fn work(&self, alloc: Global, seat: Seat, worker: u32) -> Result<(Part<'_>, Seat), Memory>
         requires { MayWork (meets_on self.now) seat worker }
-        ensures { IfOk result (λ done. IsWorkWith (problem self.now) (pieces self.now) (task self.now) (nodes self.now) seat done.0 done.1) };
+        ensures { IfOk result (λ done. IsWorkWith (problem self.now) (pieces self.now) (task self.now) (nodes self.now) (race self.now) seat done.0 done.1) };
 }

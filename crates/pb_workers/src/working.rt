@@ -1,13 +1,14 @@
 //! The whole work of one worker, which claims pieces and searches them.
 //! Source: [G69]
-ghost use Rattle.std.specs.Prelude.{◌≡◌, ◌<◌, ◌≤◌, ◌⊎◌, ◌+◌, ◌^◌, ◌++◌, ◌∷◌, [], length, Option, All, IfOk, IfSome, IfNone};
+ghost use Rattle.std.specs.Prelude.{◌≡◌, ◌<◌, ◌≤◌, ◌⊎◌, false, ◌+◌, ◌^◌, ◌++◌, ◌∷◌, [], length, Option, All, IfOk, IfSome, IfNone};
 ghost use Rattle.pb_normal.specs.NormalForm.{KeepsCost, KeepsFeasible};
 ghost use Rattle.pb_search.specs.Done.{IsDone};
+ghost use Rattle.pb_search.specs.Held.{IsNotAfter};
 ghost use Rattle.pb_workers.specs.Claims.{AreDealt, EndsPast, IsWholeWork, IsWorkWith, MayWork, pieces_among};
 ghost use Rattle.pb_workers.specs.Dealing.{TaskView};
 ghost use Rattle.std.specs.Option.{option_map};
 ghost use Rattle.pb_workers.specs.Parts.{AreCounted};
-ghost use Rattle.pb_workers.specs.Sharing.{SameSeat};
+ghost use Rattle.pb_workers.specs.Sharing.{KeepsClaims, SameSeat};
 
 use crate::facts::facts_of;
 use crate::gate::Gate;
@@ -115,7 +116,7 @@ impl<'a, 'i, N: Notes, G: Gate> SearchWorkers<'a, 'i, N, G> {
     /// number of workers. At `Memory` the seat is dropped.
     fn work_of(&self, alloc: Global, seat: Seat, worker: u32) -> Result<(Part<'i>, Seat), Memory>
         requires { MayWork self.now.board.now seat worker }
-        ensures { IfOk result (λ done. IsWorkWith self.now.inst.now self.now.pieces.now self.now.task self.now.nodes seat done.0 done.1) }
+        ensures { IfOk result (λ done. IsWorkWith self.now.inst.now self.now.pieces.now self.now.task self.now.nodes self.now.is_race seat done.0 done.1) }
     {
         let mut best = Best::none(alloc, self.inst)?;
         let mut search = Search::over(alloc, self.tables)?;
@@ -163,17 +164,18 @@ impl<'a, 'i, N: Notes, G: Gate> SearchWorkers<'a, 'i, N, G> {
         requires piece { piece ≤ length search.old.division.cubes }
         requires same_instance { best.old.problem ≡ search.old.division.problem }
         ensures done { result ≡ Outcome.Whole → IsDone search.old.division piece best.new.held }
+        ensures uncut { self.now.is_race ≡ false → IfNone self.now.nodes (result ≡ Outcome.Whole) }
         ensures within { IfSome self.now.nodes (λ budget. search.new.decisions ≤ budget) }
-        ensures cut { result ≡ Outcome.Cut → self.now.is_race ≡ false → self.now.nodes ≡ Some search.new.decisions }
+        ensures cut { IfSome self.now.nodes (λ budget. result ≡ Outcome.Cut → budget ≡ search.new.decisions) }
         ensures not_after { IsNotAfter search.old.division.problem best.old.held best.new.held }
         ensures kept { KeepsClaims share.old share.new }
         ensures same_instance { best.new.problem ≡ best.old.problem }
         ensures unchanged { search.new.division ≡ search.old.division }
     {
-        if !self.is_race || self.nodes.is_some() {
-            return search_piece(search, piece, best, share, self.nodes);
+        match self.nodes {
+            None if self.is_race => search_piece_beside(search, piece, best, share),
+            nodes => search_piece(search, piece, best, share, nodes),
         }
-        search_piece_beside(search, piece, best, share)
     }
 
     /// Searches the pieces that the share claims and the task is dealt, each within the budget, and answers their numbers.
@@ -191,11 +193,12 @@ impl<'a, 'i, N: Notes, G: Gate> SearchWorkers<'a, 'i, N, G> {
         ensures same_instance { best.new.problem ≡ best.old.problem }
         ensures done { IfOk result (λ named. All (λ i. IsDone search.old.division i best.new.held) named.done.items) }
         ensures named { IfOk result (λ named. AreDealt (pieces_among self.now.task count share.new.seat.claimed) named.done.items named.cut.items) }
-        ensures uncut { IfOk result (λ named. IfNone self.now.nodes (named.cut.items ≡ [])) }
+        ensures uncut { IfOk result (λ named. self.now.is_race ≡ false → IfNone self.now.nodes (named.cut.items ≡ [])) }
         ensures budget { IfOk result (λ named. IfSome self.now.nodes (λ budget. AreCounted budget named.done.items named.decisions.items named.cut.items named.cut_decisions.items)) }
         ensures most { IfOk result (λ named. length share.new.seat.claimed ≤ count + 1) }
         ensures ends { IfOk result (λ named. EndsPast count share.new.seat.claimed ⊎ (length share.new.seat.claimed ≡ count + 1)) }
         ensures seat { SameSeat share.old share.new }
+        ensures unchanged { search.new.division ≡ search.old.division }
     {
         let mut named = Named::new(alloc);
         for _turn in 0..u64::from(count) + 1 {
@@ -227,6 +230,8 @@ impl<'a, 'i, N: Notes, G: Gate> WorkerSet for SearchWorkers<'a, 'i, N, G> {
     ghost task = { λ c. c.task };
 
     ghost nodes = { λ c. c.nodes };
+
+    ghost race = { λ c. c.is_race };
 
     fn board(&self) -> &Board {
         self.board

@@ -7,7 +7,7 @@ use Rattle.pb_workers.specs.Parts.{AreSearched}
 use Rattle.pb_cubes.specs.Solving.{HoldsLeast}
 use Rattle.pb_workers.proofs.AloneLaws.{all_done, none_cut, none_searched, one_more_searched, still_uncut}
 use Rattle.pb_workers.proofs.LeastLaws.{least_of_all_done}
-use Rattle.pb_workers.proofs.WorkLaws.{whole_by}
+use Rattle.pb_workers.proofs.WorkLaws.{whole_alone, whole_by}
 use Rattle.pb_workers.proofs.alone.search_all.Goals as goal
 
 pub loop-piece-init : goal.loop-piece-init
@@ -32,7 +32,7 @@ loop-piece-preserved c =
           (ran.ensures.same_instance ∙ kept.same_instance ∙ c.requires.same_instance) c.facts_of.ensures
           (λ whole. subst (λ (e : Division). IsDone e c.loop-piece.piece ran.new.best.held) same (ran.ensures.done whole))
           ran.ensures.within ran.ensures.cut kept.searched;
-      uncut = still_uncut c.args.nodes ran.result c.loop-piece.cut c.eq-cut.result is_cut (whole_by _ c.args.nodes ran.result ran.ensures.no_budget) kept.uncut;
+      uncut = still_uncut c.args.nodes ran.result c.loop-piece.cut c.eq-cut.result is_cut (whole_by c.args.nodes ran.result (whole_alone _ c.args.nodes ran.result ran.ensures.no_budget)) kept.uncut;
     }
 
 pub returns-clause-searched : goal.returns-clause-searched

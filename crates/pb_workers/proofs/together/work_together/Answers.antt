@@ -14,8 +14,8 @@ pub returns-clause-work : goal.returns-clause-work
 returns-clause-work g c =
     let lent = c.new-set.ensures.lent in (
       c.in_ok-parts.parts.items,
-      dealt_work c.args.inst.now c.new-set.result.inst.now c.args.pieces.now c.new-set.result.pieces.now c.args.task c.new-set.result.task c.args.nodes c.new-set.result.nodes c.in_ok-parts.parts.items c.deref.result.now c.in_ok-parts.seat.claimed c.close.result.claims c.in_ok-best.best.held c.gather-cut.new.into.held c.gather-cut.result
-          lent.0 lent.1 lent.4 lent.3 c.in_ok-parts.ensures.whole c.close.ensures.count c.close.ensures.numbers c.deref.ensures.value (ap (λ (b : Incumbent). b.held) c.in_ok-best.ensures)
+      dealt_work c.args.inst.now c.new-set.result.inst.now c.args.pieces.now c.new-set.result.pieces.now c.args.task c.new-set.result.task c.args.nodes c.new-set.result.nodes c.args.is_race c.new-set.result.is_race c.in_ok-parts.parts.items c.deref.result.now c.in_ok-parts.seat.claimed c.close.result.claims c.in_ok-best.best.held c.gather-cut.new.into.held c.gather-cut.result
+          lent.0 lent.1 lent.4 lent.3 lent.5 c.in_ok-parts.ensures.whole c.close.ensures.count c.close.ensures.numbers c.deref.ensures.value (ap (λ (b : Incumbent). b.held) c.in_ok-best.ensures)
           c.gather-cut.ensures.done c.gather-cut.ensures.first c.gather-cut.ensures.cut,
       subst (λ (ps : List PartView). AreNamesOf c.args.task ps c.take.new.self.done.items c.take.new.self.cut.items) c.deref-2.ensures.value c.in_ok-take.ensures,
     )
@@ -28,13 +28,13 @@ returns-clause-least g c = λ every uncut.
     let list = c.new-set.result.pieces.now in
     let named : IsEachOwnOnce None (piece_count list) (all_numbers parts) =
     subst (λ (t : Option TaskView). IsEachOwnOnce t (piece_count list) (all_numbers parts)) (c.new-set.ensures.lent.4 ∙ every)
-    (each_named c.new-set.result.inst.now list c.new-set.result.task c.new-set.result.nodes parts c.in_ok-parts.seat.claimed c.close.result.claims work c.close.ensures.count c.close.ensures.numbers) in
+    (each_named c.new-set.result.inst.now list c.new-set.result.task c.new-set.result.nodes c.new-set.result.is_race parts c.in_ok-parts.seat.claimed c.close.result.claims work c.close.ensures.count c.close.ensures.numbers) in
     let whole : AreWhole list parts = all_named list parts work.of_pieces named none in
     subst (λ (p : Problem). HoldsLeast p c.gather-cut.new.into.held) (ap (λ (b : Incumbent). b.problem) c.in_ok-best.ensures)
     (c.gather-cut.ensures.least list (subst (λ (ps : List PartView). AreWhole list ps) (sym c.deref.ensures.value) whole))
 
 pub returns-clause-no_budget : goal.returns-clause-no_budget
-returns-clause-no_budget g c =
+returns-clause-no_budget g c = λ no_race.
     let parts : List PartView = c.in_ok-parts.parts.items in
-    none_cut_of_all c.args.nodes parts c.gather-cut.result (subst (λ (n : Option ℕ). IfNone n (All (λ (x : PartView). x.cut ≡ []) parts)) c.new-set.ensures.lent.3 c.in_ok-parts.ensures.whole.uncut)
+    none_cut_of_all c.args.nodes parts c.gather-cut.result (subst (λ (n : Option ℕ). IfNone n (All (λ (x : PartView). x.cut ≡ []) parts)) c.new-set.ensures.lent.3 (c.in_ok-parts.ensures.whole.uncut (c.new-set.ensures.lent.5 ∙ no_race)))
     (subst (λ (ps : List PartView). IsTrue c.gather-cut.result → Any (λ (x : PartView). x.cut ≢ []) ps) c.deref.ensures.value c.gather-cut.ensures.cut.0)

@@ -14,7 +14,7 @@ loop-turn-init g c = record {
   same_search = refl;
   count = ap length c.requires.unclaimed;
   named = none_named c.args.self.now.task c.args.count c.new-named.result.done.items c.new-named.result.cut.items c.args.share.now.seat.claimed c.new-named.ensures.pieces.0 c.new-named.ensures.pieces.1 c.requires.unclaimed;
-  uncut = none_cut c.args.self.now.nodes c.new-named.result.cut.items c.new-named.ensures.pieces.1;
+  uncut = λ no_race. none_cut c.args.self.now.nodes c.new-named.result.cut.items c.new-named.ensures.pieces.1;
   budget = none_counted c.args.self.now.nodes c.new-named.result.done.items c.new-named.result.decisions.items c.new-named.result.cut.items c.new-named.result.cut_decisions.items
       c.new-named.ensures.pieces.0 c.new-named.ensures.decisions.0 c.new-named.ensures.pieces.1 c.new-named.ensures.decisions.1;
   done = subst (λ (ns : List ℕ). All (λ i. IsDone c.args.search.now.division i c.args.best.now.held) ns) (sym c.new-named.ensures.pieces.0) (All-nil (λ i. IsDone c.args.search.now.division i c.args.best.now.held));
@@ -24,22 +24,22 @@ loop-turn-init g c = record {
 pub claim_piece-requires : goal.claim_piece-requires
 claim_piece-requires g c = omega arith
 
-pub search_piece-outcome-requires-clause-piece : goal.search_piece-outcome-requires-clause-piece
-search_piece-outcome-requires-clause-piece g c =
+pub search_one-outcome-requires-clause-piece : goal.search_one-outcome-requires-clause-piece
+search_one-outcome-requires-clause-piece g c =
     let below = c.in-Some.ensures.piece.0 in
     let number : length c.loop-turn.search.division.cubes ≡ length c.args.search.now.division.cubes = ap (λ (d : Division). length d.cubes) c.loop-turn.invariant.same_search in
     omega arith
 
-pub search_piece-outcome-requires-clause-same_instance : goal.search_piece-outcome-requires-clause-same_instance
-search_piece-outcome-requires-clause-same_instance g c =
+pub search_one-outcome-requires-clause-same_instance : goal.search_one-outcome-requires-clause-same_instance
+search_one-outcome-requires-clause-same_instance g c =
     c.loop-turn.invariant.same_instance ∙ c.requires.same_instance ∙ sym (ap (λ (d : Division). d.problem) c.loop-turn.invariant.same_search)
 
 pub push_reserved-requires-clause-counts : goal.push_reserved-requires-clause-counts
-push_reserved-requires-clause-counts g c = room_told _ c.args.self.now.nodes c.decisions_of.result c.search_piece-outcome.new.search.decisions c.decisions_of.ensures c.in_ok-reserve.ensures.counts
+push_reserved-requires-clause-counts g c = room_told _ c.args.self.now.nodes c.decisions_of.result c.search_one-outcome.new.search.decisions c.decisions_of.ensures c.in_ok-reserve.ensures.counts
 
 pub loop-turn-preserved : goal.loop-turn-preserved
 loop-turn-preserved g c =
-    let ran = c.search_piece-outcome in
+    let ran = c.search_one-outcome in
     let d : Division = c.args.search.now.division in
     let same_search : c.loop-turn.search.division ≡ d = c.loop-turn.invariant.same_search in
     let search : ran.new.search.division ≡ d = ran.ensures.unchanged ∙ same_search in
@@ -60,7 +60,7 @@ loop-turn-preserved g c =
       count = omega arith;
       named = dealt_more c.args.self.now.task c.args.count ran.result c.loop-turn.named.done.items c.loop-turn.named.cut.items c.push_reserved.new.self.done.items c.push_reserved.new.self.cut.items c.loop-turn.share.seat.claimed ran.new.share.seat.claimed c.in-Some.piece
           c.loop-turn.invariant.named names claim (own_piece c.args.self.now.task c.args.count c.in-Some.piece c.has_piece.result c.has_piece.ensures c.in-Some.ensures.piece.0 ∙ c.if-not-has_piece.false);
-      uncut = uncut_more c.args.self.now.nodes ran.result c.in-Some.piece c.loop-turn.named.done.items c.loop-turn.named.cut.items c.push_reserved.new.self.done.items c.push_reserved.new.self.cut.items names (whole_by _ c.args.self.now.nodes ran.result ran.ensures.no_budget) c.loop-turn.invariant.uncut;
+      uncut = λ no_race. uncut_more c.args.self.now.nodes ran.result c.in-Some.piece c.loop-turn.named.done.items c.loop-turn.named.cut.items c.push_reserved.new.self.done.items c.push_reserved.new.self.cut.items names (whole_by c.args.self.now.nodes ran.result (ran.ensures.uncut no_race)) (c.loop-turn.invariant.uncut no_race);
       budget = counted_more c.args.self.now.nodes c.decisions_of.result ran.result c.in-Some.piece ran.new.search.decisions
           c.loop-turn.named.done.items c.loop-turn.named.decisions.items c.loop-turn.named.cut.items c.loop-turn.named.cut_decisions.items
           c.push_reserved.new.self.done.items c.push_reserved.new.self.decisions.items c.push_reserved.new.self.cut.items c.push_reserved.new.self.cut_decisions.items
@@ -124,3 +124,12 @@ returns-clause-ends g c = inr (omega arith)
 
 pub returns-clause-seat : goal.returns-clause-seat
 returns-clause-seat g c = c.loop-turn.invariant.seat
+
+pub returns-clause-unchanged : goal.returns-clause-unchanged
+returns-clause-unchanged g c = c.loop-turn.invariant.same_search
+
+pub returns-in_default-clause-unchanged : goal.returns-in_default-clause-unchanged
+returns-in_default-clause-unchanged g c = c.loop-turn.invariant.same_search
+
+pub returns-in_err-reserve-clause-unchanged : goal.returns-in_err-reserve-clause-unchanged
+returns-in_err-reserve-clause-unchanged g c = c.loop-turn.invariant.same_search

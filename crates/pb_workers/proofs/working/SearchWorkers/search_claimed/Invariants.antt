@@ -1,4 +1,4 @@
-use Rattle.std.proofs.Common.{◌≡◌, [], length}
+use Rattle.std.proofs.Common.{◌≡◌, [], false, length}
 use Rattle.std.specs.Prelude.{All, IfNone}
 use Rattle.std.specs.Option.{IfSome}
 use Rattle.pb_workers.specs.Parts.{AreCounted}
@@ -14,7 +14,7 @@ invariant-loop-turn g l = record {
   same_search : l.search.division ≡ l.initial.search.division;
   count : length l.share.seat.claimed ≡ l._turn;
   named : AreDealt (pieces_among l.self.task l.count l.share.seat.claimed) l.named.done.items l.named.cut.items;
-  uncut : IfNone l.self.nodes (l.named.cut.items ≡ []);
+  uncut : l.self.is_race ≡ false → IfNone l.self.nodes (l.named.cut.items ≡ []);
   budget : IfSome l.self.nodes (λ budget. AreCounted budget l.named.done.items l.named.decisions.items l.named.cut.items l.named.cut_decisions.items);
   done : All (λ i. IsDone l.initial.search.division i l.best.held) l.named.done.items;
   seat : SameSeat l.initial.share l.share;
