@@ -186,7 +186,16 @@ impl<'a, C: Coefficient> PieceSearch<'a, C> {
                     return Outcome::Whole;
                 };
                 let cube = cube.lits();
-                let outcome = search_under(state, root, cube, best, share, Goal::Least, turns, left);
+                let outcome = search_under(
+                    state,
+                    root,
+                    cube,
+                    best,
+                    share,
+                    Goal::Least,
+                    turns,
+                    left,
+                );
                 state.begin_piece();
                 outcome
             }

@@ -134,9 +134,7 @@ pub fn search_subtree<C: Coefficient, S: Share>(
 {
     state.root_work.begin(goal, run.left, turns);
     while let Some(branch) = next_branch(state, best, share, run) {
-        if goal.is_reached(best, run.left)
-            || is_out_of_turns(state, share, turns, branch.flipped)
-        {
+        if goal.is_reached(best, run.left) || is_out_of_turns(state, share, turns, branch.flipped) {
             return Outcome::Cut;
         }
         decide(

@@ -33,12 +33,7 @@ impl<'i> Model for Part<'i> {
 impl<'i> Part<'i> {
     /// The part that names these pieces of the list: those that are done, and those that were cut. It is settled where each piece
     /// of the list is done, whoever got it.
-    pub(crate) fn new(
-        list: &'i Pieces,
-        named: Named,
-        best: Best<'i>,
-        is_settled: bool,
-    ) -> Part<'i>
+    pub(crate) fn new(list: &'i Pieces, named: Named, best: Best<'i>, is_settled: bool) -> Part<'i>
         requires settled { is_settled ≡ true → IsSettled list.now best }
         requires done { AreDone (record { pieces = list.now; named = named.done.items; cut = named.cut.items; decisions = named.decisions.items; cut_decisions = named.cut_decisions.items; best = best }) }
         ensures { result ≡ record { pieces = list.now; named = named.done.items; cut = named.cut.items; decisions = named.decisions.items; cut_decisions = named.cut_decisions.items; best = best.entry } }

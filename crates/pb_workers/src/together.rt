@@ -65,7 +65,9 @@ pub(crate) fn work_together<'i, R: Threads + Sync, N: Notes + Sync, G: Gate + Sy
     let mut names = Names::with_room(alloc, &task, dealt)?;
     let workers = workers_with_a_piece(workers, dealt);
     let (board, seat) = Board::new(alloc, workers, inst.vars())?;
-    let set = SearchWorkers::new(inst, pieces, &tables, &board, notes, gate, task, nodes, is_race);
+    let set = SearchWorkers::new(
+        inst, pieces, &tables, &board, notes, gate, task, nodes, is_race,
+    );
     let (parts, seat) = fork(rt, alloc, &set, seat, 0)?;
     let cut = gather(&mut best, &parts);
     // The proof learns by this call that what is held is a solution, so what some part did is done by the first of all parts.

@@ -60,7 +60,9 @@ pub fn work<'i, G: Gate + Sync>(
 {
     let tables = SearchTables::new(alloc, inst, normal, pieces)?;
     let no_notes = None::<&Correspondence<'_, NoNotes>>;
-    let set = SearchWorkers::new(inst, pieces, &tables, board, no_notes, gate, None, nodes, false);
+    let set = SearchWorkers::new(
+        inst, pieces, &tables, board, no_notes, gate, None, nodes, false,
+    );
     set.work_of(alloc, seat, worker)
 }
 

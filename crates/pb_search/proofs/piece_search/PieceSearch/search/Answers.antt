@@ -34,9 +34,9 @@ returns-in-Some-clause-searched g c =
     let there : IsFixedFor c.args.best.now.problem c.fixed-is_closed.result.0.now c.fixed-is_closed.result.1 c.args.best.now.held = c.fixed-is_closed.ensures c.args.best.now.problem c.args.best.now.held c.serve.ensures.fixed in
     let engine : IsEngineOf c.args.best.now.problem c.in-Some.state.engine = subst (λ (x : Problem). IsEngineOf x c.in-Some.state.engine) (sym e) made.state.engine in
     let piece : slice_get d.cubes c.args.piece ≡ Some c.lits-cube.result.now = c.in-Cube.ensures.piece ∙ ap (λ (x : List Literal). Some x) (sym c.lits-cube.ensures) in
-    subst (λ (x : Division). IsPieceSearched x c.args.piece (g.S.Share.lends c.args.share.now) c.args.best.now under.new.best c.args.left.now under.new.left under.result) c.self.view_is (record {
+    subst (λ (x : Division). IsPieceSearched x c.args.piece (g.S.Share.lends c.args.share.now) c.args.turns c.args.best.now under.new.best c.args.left.now under.new.left under.result) c.self.view_is (record {
       done = λ whole. cube_done c.args.best.now.problem d c.args.piece c.in-Some.state.engine c.lits-cube.result.now under.new.best e under.ensures.ended.moves_on.same_instance made.state.engine.vars made.rows piece under.ensures.ended.held_sound (without_root _ _ c.fixed-is_closed.result.0.now _ c.fixed-is_closed.result.1 c.args.best.now.held under.new.best.held engine there under.ensures.ended.moves_on.not_after (under.ensures.searched whole));
-      used_up = λ cut. used_up under.new.best.held (under.ensures.ended.cut refl cut);
+      used_up = λ none cut. used_up under.new.best.held (under.ensures.ended.cut none cut);
       budget = under.ensures.ended.budget;
       not_after = subst (λ (p : Problem). IsNotAfter p c.args.best.now.held under.new.best.held) e under.ensures.ended.moves_on.not_after;
       own = λ none. cube_own d c.args.piece c.in-Some.state.engine c.lits-cube.result.now c.args.best.now under.new.best piece (found_below _ c.fixed-is_closed.result.0.now _ c.args.best.now under.new.best (under.ensures.own none));
@@ -50,9 +50,9 @@ returns-in-Rest-clause-searched g c =
     let e : c.args.best.now.problem ≡ d.problem = c.requires.same_instance ∙ sym (ap (λ (x : Division). x.problem) c.self.view_is) in
     let there : IsFixedFor c.args.best.now.problem c.fixed-is_closed.result.0.now c.fixed-is_closed.result.1 c.args.best.now.held = c.fixed-is_closed.ensures c.args.best.now.problem c.args.best.now.held c.serve.ensures.fixed in
     let engine : IsEngineOf c.args.best.now.problem c.self.inside.rest.engine = subst (λ (x : Problem). IsEngineOf x c.self.inside.rest.engine) (sym e) c.self.invariant.0.rest_state.engine in
-    subst (λ (x : Division). IsPieceSearched x c.args.piece (g.S.Share.lends c.args.share.now) c.args.best.now under.new.best c.args.left.now under.new.left under.result) c.self.view_is (record {
+    subst (λ (x : Division). IsPieceSearched x c.args.piece (g.S.Share.lends c.args.share.now) c.args.turns c.args.best.now under.new.best c.args.left.now under.new.left under.result) c.self.view_is (record {
       done = λ whole. rest_done c.args.best.now.problem d c.args.piece c.self.inside.rest.engine under.new.best e under.ensures.ended.moves_on.same_instance c.self.invariant.0.rest_state.engine.vars c.self.invariant.0.rest_rows c.in-Rest.ensures.piece.0 under.ensures.ended.held_sound (without_root _ _ c.fixed-is_closed.result.0.now _ c.fixed-is_closed.result.1 c.args.best.now.held under.new.best.held engine there under.ensures.ended.moves_on.not_after (under.ensures.searched whole));
-      used_up = λ cut. used_up under.new.best.held (under.ensures.ended.cut refl cut);
+      used_up = λ none cut. used_up under.new.best.held (under.ensures.ended.cut none cut);
       budget = under.ensures.ended.budget;
       not_after = subst (λ (p : Problem). IsNotAfter p c.args.best.now.held under.new.best.held) e under.ensures.ended.moves_on.not_after;
       own = λ none. rest_own d c.args.piece c.self.inside.rest.engine c.args.best.now under.new.best c.self.invariant.0.rest_rows c.in-Rest.ensures.piece.0 (found_below _ c.fixed-is_closed.result.0.now _ c.args.best.now under.new.best (under.ensures.own none));
@@ -65,9 +65,9 @@ returns-then-is_closed-clause-searched g c =
     let e : c.args.best.now.problem ≡ d.problem = c.requires.same_instance ∙ sym (ap (λ (x : Division). x.problem) c.self.view_is) in
     let there : IsFixedFor d.problem c.fixed-is_closed.result.0.now c.fixed-is_closed.result.1 c.args.best.now.held =
     subst (λ (p : Problem). IsFixedFor p c.fixed-is_closed.result.0.now c.fixed-is_closed.result.1 c.args.best.now.held) e (c.fixed-is_closed.ensures c.args.best.now.problem c.args.best.now.held c.serve.ensures.fixed) in
-    subst (λ (x : Division). IsPieceSearched x c.args.piece (g.S.Share.lends c.args.share.now) c.args.best.now c.args.best.now c.args.left.now c.args.left.now Whole) c.self.view_is (record {
+    subst (λ (x : Division). IsPieceSearched x c.args.piece (g.S.Share.lends c.args.share.now) c.args.turns c.args.best.now c.args.best.now c.args.left.now c.args.left.now Whole) c.self.view_is (record {
       done = λ _. closed_done d c.args.piece c.fixed-is_closed.result.0.now c.fixed-is_closed.result.1 c.args.best.now e c.cost.ensures.sound there c.if-is_closed.true;
-      used_up = λ is. absurd (let none : ⊥ = cc in none);
+      used_up = λ none is. absurd (let wrong : ⊥ = cc in wrong);
       budget = left_itself c.args.left.now;
       not_after = not_after_itself d.problem c.args.best.now.held;
       own = λ _. inl refl;
