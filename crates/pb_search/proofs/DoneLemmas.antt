@@ -1,20 +1,15 @@
 -- What a search of a piece shows.
-use Rattle.std.proofs.Common.{◌≡◌, ◌≢◌, ℕ, ◌+◌, ◌-◌, ◌<◌, List, [], ◌∷◌, ◌++◌, length, take, refl, sym, ◌∙◌, ap, subst, arith, suc, zero, Bool, true, false, All, inl, inr, ◌⊎◌, Option, None, Some, ◌↔◌}
-use Rattle.std.specs.Prelude.{map, slice_index_or, slice_get, IsSomeAnd}
+use Rattle.std.proofs.Common.{◌≡◌, ℕ, List, [], ◌∷◌, ◌++◌, length, sym, ◌∙◌, subst, Bool, true, All, inl, inr, ◌⊎◌, Option, None, Some, ◌↔◌}
+use Rattle.std.specs.Prelude.{slice_get, IsSomeAnd}
 use Rattle.std.specs.Option.{IfSome}
-use Rattle.std.proofs.lemmas.List.Elements.{All-nil, All-cons, All-append}
-use Rattle.std.proofs.lemmas.List.{take_more}
-use mathlib.Core.Bool.{beq}
+use Rattle.std.proofs.lemmas.List.Elements.{All-nil, All-append}
 use Rattle.pb_inst.specs.Literal.{Literal}
 use Rattle.pb_inst.specs.Problem.{Problem}
 use Rattle.pb_inst.specs.Meaning.{literal_value, IsFeasible}
 use Rattle.pb_inst.specs.Cubes.{MakesTrue, MakesFalse}
 use Rattle.pb_inst.specs.Incumbent.{Incumbent, Solution, IsSolution, IsSound}
 use Rattle.pb_normal.specs.NormalForm.{MeetsRows}
-use Rattle.pb_engine.specs.Trail.{value_on}
-use Rattle.pb_engine.specs.Completion.{HasNoCompletion}
 use Rattle.pb_engine.specs.EngineState.{EngineState}
-use Rattle.pb_engine.specs.Soundness.{assumptions, literal_at, IsSoundTrail}
 use Rattle.pb_cubes.specs.Pieces.{LiesIn}
 use Rattle.pb_cubes.specs.Done.{Division, IsCandidate, IsDone}
 use Rattle.pb_control.specs.declared.goal.Goal.{Goal}
@@ -24,12 +19,7 @@ use Rattle.pb_prune.specs.Subtree.{IsEngineOf}
 use Rattle.pb_search.specs.Root.{IsBetter, IsFixedFor}
 use Rattle.pb_subtree.proofs.HeldLemmas.{improvement_on_earlier}
 use Rattle.pb_subtree.proofs.RootLemmas.{All_back}
-use Rattle.pb_subtree.specs.Solutions.{SameConstraints, Satisfies, SatisfiesUnder}
-use Rattle.pb_subtree.specs.SearchState.{IsOwn}
-use Rattle.pb_prune.proofs.ValueLemmas.{value_on-true}
-use Rattle.pb_subtree.proofs.Moves.{All_front, All_last}
-use Rattle.pb_prune.proofs.ClosedLemmas.{sign_is}
-use Rattle.pb_subtree.proofs.SearchLemmas.{same_solution, back_solution}
+use Rattle.pb_subtree.specs.Solutions.{SatisfiesUnder}
 
 -- there is no cube past the last
 pub none_past : (cubes : List (List Literal)) (P : List Literal → Type 0) → ¬ IsSomeAnd (slice_get cubes (length cubes)) P
@@ -105,6 +95,14 @@ cube_own d i s cube old new is (inr found) = inr (inside new.held found)
     inside : (o : Option Solution) → IsSomeAnd o (λ r. SatisfiesUnder s cube r.assignment) → IsSomeAnd o (λ r. LiesIn d.cubes i r.assignment)
     inside None h = h
     inside (Some r) h = inl (subst (λ (o : Option (List Literal)). IsSomeAnd o (λ c. MakesTrue r.assignment c)) (sym is) h.makes_true)
+
+-- what is held is as before, or lies in the piece
+abbrev pub IsOwnOf : Division → ℕ → Incumbent → Incumbent → Type 0
+IsOwnOf d piece old new = new ≡ old ⊎ IsSomeAnd new.held (λ s. LiesIn d.cubes piece s.assignment)
+
+-- so it does under other names of the division and of what is held
+pub own_renamed : (d e : Division) (piece : ℕ) (old new after : Incumbent) → e ≡ d → after ≡ new → IsOwnOf e piece old new → IsOwnOf d piece old after
+own_renamed d e piece old new after same is h = subst (λ (i : Incumbent). IsOwnOf d piece old i) (sym is) (subst (λ (v : Division). IsOwnOf v piece old new) same h)
 
 -- a search for the least assignment is cut by its budget alone
 pub used_up : {left : Option ℕ} (held : Option Solution) → (left ≡ Some 0) ⊎ IsMet Goal.Least held → left ≡ Some 0

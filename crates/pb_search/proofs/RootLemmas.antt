@@ -4,12 +4,12 @@ use Rattle.std.specs.Prelude.{ℤ}
 use Rattle.std.specs.Option.{IfSome, option_map}
 use Rattle.pb_inst.specs.Problem.{Problem}
 use Rattle.pb_inst.specs.Meaning.{IsFeasible, cost}
-use Rattle.pb_inst.specs.Order.{Precedes, IsBefore}
+use Rattle.pb_inst.specs.Order.{Precedes}
 use Rattle.pb_inst.specs.Incumbent.{Incumbent, Solution, IsSolution}
 use Rattle.pb_inst.proofs.OrderProofs.{before_is_total}
 use Rattle.pb_subtree.specs.Held.{IsImprovement, IsNotAfter}
 use Rattle.pb_subtree.proofs.HeldLemmas.{IsTaken, improvement_on_earlier}
-use Rattle.pb_search.specs.Root.{IsBetter, IsFixedFor}
+use Rattle.pb_search.specs.Root.{IsBetter}
 
 -- what is before a later one is before the earlier one
 pub better_than_earlier : (p : Problem) (old new : Option Solution) (a : List Bool) → IsNotAfter p old new → IsBetter p new a → IsBetter p old a

@@ -1,14 +1,13 @@
 -- How a search is laid out: one state for the cubes, where there are any, and one for the remainder, which makes each cube
 -- false.
-use Rattle.std.specs.Prelude.{◌≡◌, ◌≤◌, ◌++◌, Bool, List, [], All, ◌↔◌, length, Option, IfNone, IfSome, vec_capacity}
+use Rattle.std.specs.Prelude.{◌≡◌, ◌≤◌, Bool, List, [], All, ◌↔◌, Option, IfNone, IfSome}
 use Rattle.pb_inst.specs.Literal.{Literal}
 use Rattle.pb_inst.specs.Problem.{Problem}
 use Rattle.pb_inst.specs.Meaning.{IsFeasible}
 use Rattle.pb_inst.specs.Cubes.{MakesFalse}
 use Rattle.pb_inst.specs.declared.limits.TheConstants.{MAX_VARS}
-use Rattle.pb_normal.specs.NormalForm.{NormalForm, PositiveRow, MeetsRows, KeepsFeasible, KeepsCost}
+use Rattle.pb_normal.specs.NormalForm.{MeetsRows, KeepsFeasible, KeepsCost}
 use Rattle.pb_engine.specs.Clauses.{AreClausesOf}
-use Rattle.pb_engine.specs.EngineState.{EngineState}
 use Rattle.pb_engine.specs.Table.{FormRows, ClauseRows}
 use Rattle.pb_engine.specs.Tables.{AreBeside}
 use Rattle.pb_cubes.specs.Pieces.{CubeList}

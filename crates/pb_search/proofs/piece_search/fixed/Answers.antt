@@ -1,4 +1,4 @@
-use Rattle.std.proofs.Common.{rules, ◌≡◌, ◌≤◌, List, Bool, Option, false, sym, subst}
+use Rattle.std.proofs.Common.{◌≡◌, ◌≤◌, List, Bool, Option, sym, subst}
 use Rattle.std.specs.Option.{IfSome}
 use Rattle.std.proofs.lemmas.List.Elements.{All-nil}
 use Rattle.pb_inst.specs.Literal.{Literal}

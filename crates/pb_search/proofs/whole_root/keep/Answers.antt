@@ -1,5 +1,5 @@
-use Rattle.std.proofs.Common.{List, Bool, Option, Some, sym, subst}
-use Rattle.pb_inst.specs.Incumbent.{Solution, IsSolution}
+use Rattle.std.proofs.Common.{List, Bool, Option, sym, subst}
+use Rattle.pb_inst.specs.Incumbent.{Solution}
 use Rattle.pb_subtree.specs.Held.{IsNotAfter}
 use Rattle.pb_subtree.proofs.HeldLemmas.{IsTaken, taken}
 use Rattle.pb_search.proofs.RootLemmas.{kept_not_after, solution_is}

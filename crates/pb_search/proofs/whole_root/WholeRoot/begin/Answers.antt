@@ -1,12 +1,10 @@
-use Rattle.std.proofs.Common.{rules, ◌≡◌, ◌∙◌, ◌≤◌, [], ℕ, List, Bool, All, true, ap, sym, subst}
+use Rattle.std.proofs.Common.{rules, ◌≡◌, ◌∙◌, ◌≤◌, [], ℕ, List, Bool, All, ap, sym, subst}
 use Rattle.std.proofs.lemmas.List.Elements.{All-nil}
-use Rattle.pb_inst.specs.Incumbent.{Incumbent}
 use Rattle.pb_inst.specs.Literal.{Literal}
 use Rattle.pb_inst.specs.Meaning.{literal_value}
 use Rattle.pb_inst.specs.Problem.{Problem}
 use Rattle.pb_subtree.specs.Held.{IsNotAfter}
 use Rattle.pb_subtree.specs.Solutions.{SatisfiesUnder}
-use Rattle.pb_subtree.specs.declared.outcome.Outcome.TheVariants.{Whole}
 use Rattle.pb_search.specs.Root.{Root, IsBetter, IsFixedFor}
 use Rattle.pb_search.proofs.DoneLemmas.{fixed_under}
 use Rattle.pb_search.proofs.RootLemmas.{better_than_earlier}

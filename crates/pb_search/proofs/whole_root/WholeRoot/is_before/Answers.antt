@@ -1,4 +1,4 @@
-use Rattle.std.proofs.Common.{rules, ◌≡◌, ◌∙◌, false, Option, Some, ap, sym, subst}
+use Rattle.std.proofs.Common.{rules, ◌≡◌, ◌∙◌, Option, Some, ap, sym, subst}
 use Rattle.std.specs.Option.{IfSome}
 use Rattle.pb_inst.specs.Incumbent.{Incumbent, Solution, IsSolution}
 use Rattle.pb_inst.specs.Order.{Precedes}

@@ -1,4 +1,4 @@
-use Rattle.std.proofs.Common.{◌≡◌, ◌≤◌, ◌∙◌, ◌∷◌, [], ℕ, List, All, ap, refl, sym, subst}
+use Rattle.std.proofs.Common.{◌≤◌, ◌∙◌, ◌∷◌, [], ℕ, All, ap, refl, sym, subst}
 use Rattle.pb_inst.specs.Literal.{Literal}
 use Rattle.pb_subtree.specs.declared.search_state.SearchState.{SearchState}
 use Rattle.pb_normal.specs.NormalForm.{NormalForm}
