@@ -50,8 +50,9 @@ pub fn search_piece_beside<S: OuterShare + Drop>(
     ensures unchanged { search.new ≡ search.old }
 {
     search.begin(best, share, FIRST_TURNS, None);
-    // What settled the whole here does the piece at once.
-    if share.is_over() && !search.is_settled(best) {
+    // Where the whole was settled here, the piece is done at once.
+    let is_settled = search.is_settled(best);
+    if share.is_over() && !is_settled {
         return Outcome::Cut;
     }
     search.run_beside(piece, best, share)
