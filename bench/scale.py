@@ -5,15 +5,16 @@
 
 FOLDER is the folder crates/ whose programs are built, that of this repository unless it is given. One run of `bench` searches all
 pieces of a split with one search, and tells the decisions of each. From these the table has, for 1 to 1,024 workers, the span: the
-decisions of the worker that ends last. Whoever is free first claims the next piece in the order of their numbers, and each worker
-makes the decisions of the first phase, which searches the root of the whole, before its first piece. No span is less than the first
-phase and the longest piece together. The quotients in brackets are over the decisions of the whole in one piece, of another run.
-Source: [G69]
+decisions of each worker until the run ends. The first worker searches the whole, and the others the pieces: of these, whoever is free
+first claims the next piece in the order of their numbers, and each makes the decisions of the first phase, which searches the root of
+the whole, before its first piece. The run ends as soon as the whole or all pieces are searched. The quotients in brackets are over
+the decisions of the whole in one piece, of another run.
+Source: [G69], [GS01]
 
 The simulation leaves out that each of several workers knows other things. An incumbent that one of them finds helps the others
 sooner or later than it does in the one run, and what a worker learns of conflicts and multipliers helps its own pieces alone. Where
 the best cost falls, the first phase fixes more: what the one run did for that counts as first phase too. Decisions of the first phase
-are counted by the 256. Seconds per decision differ from piece to piece, so the lesser of two spans need not end sooner. Reading the
+are counted by the 256. After 1,048,576 flips the first worker takes pieces, too. Seconds per decision differ from piece to piece, so the lesser of two spans need not end sooner. Reading the
 instance and splitting it takes no decision.
 """
 import argparse
@@ -44,12 +45,14 @@ class Counts:
         """All decisions of the one run."""
         return self.first + sum(self.pieces)
 
-    def span(self, workers):
-        """The decisions of the worker that ends last. Workers without a piece do nothing."""
-        ends = [self.first] * min(workers, len(self.pieces))
+    def span(self, workers, whole):
+        """The decisions of each worker until the run ends, where the whole takes this number. Workers without a piece do nothing."""
+        if workers == 1:
+            return whole
+        ends = [self.first] * min(workers - 1, len(self.pieces))
         for decisions in self.pieces:
             heapq.heapreplace(ends, ends[0] + decisions)
-        return max(ends)
+        return min(whole, max(ends))
 
 
 def counted(bench, name, split):
@@ -65,8 +68,8 @@ def counted(bench, name, split):
 
 def row(split, counts, whole):
     """The cells of a split's row: each number of decisions with its quotient over those of the whole."""
-    tolds = [counts.first, max(counts.pieces), *(counts.span(workers) for workers in WORKERS)]
-    return [split, f"{len(counts.pieces):,}", *(f"{told:,} ({told / whole:.3f})" if whole else f"{told:,}" for told in tolds)]
+    tolds = [counts.first, max(counts.pieces), *(counts.span(workers, whole) for workers in WORKERS)]
+    return [split, f"{len(counts.pieces):,}", *(f"{told:,} ({told / whole:.2f})" if whole else f"{told:,}" for told in tolds)]
 
 
 def main():
