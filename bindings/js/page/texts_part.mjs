@@ -3,6 +3,7 @@ import { beginning } from "../src/texts.mjs";
 import { element, faultText } from "./elements.mjs";
 
 const AROUND = 2; // lines that are shown before and after a fault
+const CUT = ["Unknown", "Found"]; // the statuses of a search that its budget ended
 
 /** The part of the page with this solver and these examples, by name. */
 export class Texts {
@@ -84,7 +85,7 @@ export class Texts {
       ["Cost", cost],
       ["True variables", values && `${true_} of ${values.length}`],
       ["Time", `${took.toFixed(1)} ms`],
-      ["Budget", budget === undefined ? null : `${budget} decisions`],
+      ["Decisions", budget === undefined ? null : decisions(status, budget)],
     ].filter(([, told]) => told !== null && told !== undefined);
     const row = ([head, told]) => element("tr", {}, element("th", { scope: "row" }, head), element("td", {}, `${told}`));
     const table = element("table", {}, ...rows.map(row));
@@ -114,6 +115,11 @@ export class Texts {
     const begins = lines.slice(0, line - 1).join("\n").length + (line > 1 ? 1 : 0);
     this.#at("#text").setSelectionRange(begins, begins + (lines[line - 1]?.length ?? 0));
   }
+}
+
+/** How many decisions a search with a budget made: all that it was allowed where it was cut, and else no more than these. */
+function decisions(status, budget) {
+  return CUT.includes(status) ? `${budget}, the whole budget` : `at most ${budget}`;
 }
 
 /** The lines around a fault, by their numbers. */

@@ -50,6 +50,18 @@ async function texts(page) {
   assert.equal(shown[1], "1 x1 x2 >= 1 ;");
 }
 
+/** What is told of the decisions: the whole budget where it ended the search, and else no more than that. */
+async function budgets(page) {
+  const give = (nodes) => (document.querySelector("#nodes").value = nodes);
+  for (const [nodes, owed] of [["3", /3, the whole budget/], ["1000000", /at most 1000000/]]) {
+    await page.value(give, nodes);
+    await page.value(solve, pigeons(4), "opb");
+    await page.until(isDone);
+    assert.match(await page.value(answer), owed);
+  }
+  await page.value(give, "");
+}
+
 async function stops(page) {
   await page.value(solve, pigeons(PIGEONS), "opb");
   await new Promise((resolve) => setTimeout(resolve, 500));
@@ -212,7 +224,7 @@ const page = await Page.open(browser);
 try {
   await page.call("Page.navigate", { url: String(pathToFileURL(file)) });
   await page.until(() => document.documentElement?.dataset.ready === "yes");
-  for (const part of [texts, stops, configurator, pictures, ways]) await part(page);
+  for (const part of [texts, budgets, stops, configurator, pictures, ways]) await part(page);
   if (picture) await write(page, picture, "light");
   await modules(page);
   assert.deepEqual(page.errors, []);
