@@ -132,7 +132,8 @@ impl<'a, 'i, N: Notes, G: Gate> SearchWorkers<'a, 'i, N, G> {
         Ok((part, share.into_seat()))
     }
 
-    /// Begins the search of the whole. In a race the first worker stays with it, and tells the others where it comes to its end.
+    /// In a race, begins the search of the whole: the first worker stays with it, and who comes to its end tells the others. Without a
+    /// race this is left to the search of the first piece, so that a worker without pieces searches nothing.
     fn begin<S: OuterShare + Drop>(
         &self,
         search: &mut Search<'_>,
@@ -144,13 +145,15 @@ impl<'a, 'i, N: Notes, G: Gate> SearchWorkers<'a, 'i, N, G> {
         ensures unchanged { search.new ≡ search.old }
         ensures kept { KeepsClaims share.old share.new }
     {
-        let turns = if self.is_race && share.worker() == 0 {
-            LONG_TURNS
-        } else {
-            FIRST_TURNS
+        if !self.is_race {
+            return;
+        }
+        let turns = match share.worker() {
+            0 => LONG_TURNS,
+            _ => FIRST_TURNS,
         };
         search.begin(best, share, turns, self.nodes);
-        if self.is_race && search.is_settled(best) {
+        if search.is_settled(best) {
             share.tell_whole();
         }
     }
