@@ -6,7 +6,8 @@ those of one run.
 
 It takes the programs that the merge gate built. The instances are the examples and fifty random ones, cut by splits, by cubes
 and by both, and dealt among two of one, two, three and five tasks. Then a report is left out, unknown, given twice, cut short or
-changed, or is one of another instance or another division: a join must say so and claim no more than is so.
+changed, or is one of another instance or another division: a join must say so and claim no more than is so. Where every task refuses
+what is to divide the instance, it must write this refusal.
 """
 import random
 import shutil

@@ -1,5 +1,5 @@
 //! Reads an instance and its pieces from files (`dividing`), writes pieces to files, with an index (`pieces`), and reads the
-//! reports of pieces (`reports`) and of parts (`parts`) from files.
+//! reports of pieces (`reports`) and of tasks (`parts`) from files.
 #![tactic(auto)]
 
 mod counting;
@@ -28,7 +28,7 @@ pub use dividing_fault::DivisionFault;
 pub use files::Files;
 pub use folders::Folders;
 pub use listing::{Named, named_files};
-pub use parts::{PartReports, TaskReport, TaskReports, all_refuse, read_tasks};
+pub use parts::{PartReports, TaskReports, read_tasks};
 pub use pieces::write_pieces;
 pub use pieces_fault::PiecesFault;
 pub use prepared::Prepared;

@@ -97,7 +97,7 @@ fn others_refuse<'a, F: Files>(
 }
 
 /// Whether the files of these names are reports that refuse this.
-pub fn all_refuse<F: Files>(
+fn all_refuse<F: Files>(
     alloc: Global,
     refusal: InputRefusal,
     names: &[String],
