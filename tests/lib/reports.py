@@ -41,6 +41,10 @@ def run_again(of, numbers):
     return f"pbcube_join: run again: {of} {array_of(numbers)}\n"
 
 
+# the line in which it says that no task has searched anything
+ALL_REFUSED = "pbcube_join: every task refused its input, and searched nothing\n"
+
+
 def values_line(values, is_clausal):
     """The `v` line of these values."""
     letter, end = ("", " 0") if is_clausal else ("x", "")

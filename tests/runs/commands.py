@@ -22,7 +22,7 @@ sys.path.insert(0, str(Path(__file__).resolve().parents[1]))
 from lib import PROGRAMS, built, name_of, ran, reason, side_by_side, version
 from lib.formats import Refused, read
 from lib.hinted_texts import BEGUN, CUBE_LINE, IS_MARKED, IS_WCNF, MINIMISE, NO_PRODUCT, NO_SOFT, PART, PLACED, TO_MOST
-from lib.reports import TIE, digest, index_of, part, run_again
+from lib.reports import ALL_REFUSED, TIE, digest, index_of, part, run_again
 
 FULL = "/dev/full"  # takes no byte
 CLOSED = "|"  # a pipe that nobody reads
@@ -54,6 +54,15 @@ PARTS = {
     "unnamed.part": part("0 of 2", TIE, IN_THREE, " 0") + ATTAINED,
     "few.part": part("0 of 5", TIE, "1 split 0 cubes none", " 0") + ATTAINED,
     "edited.part": part("1 of 2", TIE + "* edited\n", IN_THREE, " 1") + ATTAINED,
+    "wider.part": part("1 of 2", "1 x9 >= 1 ;\n", "1 split 0 cubes none", "") + "s SATISFIABLE\nv x9\n",
+    "refused.part": f"c refused split: BadSplit\n{UNSUPPORTED}",
+    "refused_cubes.part": f"c refused cubes: BadVariable at line 2\n{UNSUPPORTED}",
+    "refused_number.part": f"c refused cubes: TooMany\n{UNSUPPORTED}",
+    "refused_line.part": f"c refused cubes: TooMany at line 1048576\n{UNSUPPORTED}",
+    "refused_input.part": f"c refused: NonLinear at line 1\n{UNSUPPORTED}",
+    "refused_torn.part": "c refused split: BadSplit\n",
+    "refused_other.part": f"c refused split: bad\n{UNSUPPORTED}",
+    "no_memory.part": f"c refused: Memory\n{UNKNOWN}",
     "no_pieces.part": part("1 of 2", TIE, "0 split 1 cubes none", "") + "s UNKNOWN\n",
     "divided.part": part("1 of 2", TIE, "3 split 2 cubes none", " 1") + ATTAINED,
     "claims.part": part("1 of 2", TIE, IN_THREE, " 1") + SECOND,
@@ -103,6 +112,10 @@ FILES = {
     "2": "s UNSATISFIABLE\n",
     "cut-1.out": "s UNKNOWN\n",
     "torn-1.out": "o 3\ns OPTIMUM FOUND\nv -x1 x2\n",
+    "failed-1.out": "Killed\a\n",
+    "silent-1.out": "c a solver\nc reads\n",
+    "empty-1.out": "",
+    "long-1.out": f"c {99 * 'x'}\n",
     "wrong-1.out": "o 2\ns OPTIMUM FOUND\nv -x1 x2 -x3\n",
     "report.out": "s UNSATISFIABLE\n",
     "reports/0.report": FIRST,
@@ -119,6 +132,7 @@ FILES = {
     "cut_in_two/index": index_of(TIE, "opb", 3, 2),
     "edited/index": index_of(TIE + "* edited\n", "opb", 3, 1),
     "edited/0.report": FIRST,
+    "another/index": index_of("* another instance\n", "opb", 9, 1),
     "broken/index": "no index\n",
     "torn/index": index_of(TIE, "opb", 3, 1)[:30],
     "longer/index": index_of(TIE, "opb", 3, 1) + "1.opb\n",
@@ -500,14 +514,14 @@ TASK = [
         Row(
             f"--split 1 --task 1 --tasks 3 --exchange {folder} tie.opb",
             part("1 of 3", FILES["tie.opb"], IN_THREE, " 1") + ATTAINED,
-            f"cannot exchange notes in {folder}: invalid input parameter\n",
+            f"pbcube_task: cannot exchange {folder}/{note}: invalid input parameter\n",
             10,
             files=files,
         )
-        for folder, files in (
-            ("endless", {"endless/1.note": NOTE}),
-            ("another_note", {"another_note/1.note": NOTE}),
-            ("own_note", {}),
+        for folder, note, files in (
+            ("endless", "0.note", {"endless/1.note": NOTE}),
+            ("another_note", "2.note", {"another_note/1.note": NOTE}),
+            ("own_note", "1.note", {}),
         )
     ),
     Row(
@@ -658,6 +672,9 @@ JOIN = [
     rejected("--pieces 1 tie.opb broken", "broken/index: line 1 tells no number of pieces"),
     rejected("tie.opb with_index", "with_index/index: line 1 tells no number of pieces"),
     rejected("tie.opb too_many", "too_many/index: line 1 tells no number of pieces"),
+    # the digest is looked at first
+    rejected("--pieces 2 tie.opb edited", "edited/index: the instance is not the text that was cut: the digest at line 4 is another"),
+    rejected("tie.opb another", "another/index: the instance is not the text that was cut: the digest at line 4 is another"),
     rejected("tie.opb torn", "torn/index: line 3 is not that of an index of the instance"),
     rejected("tie.opb longer", "longer/index: line 6 is not that of an index of the instance"),
     rejected("tie.opb unread", f"unread/index: cannot be read: {FOLDER}"),
@@ -666,6 +683,10 @@ JOIN = [
     # reports that are rejected
     rejected("--pieces 3 tie.opb out/0.out again-0.out", "again-0.out: there are two reports of this piece"),
     rejected("--pieces 3 tie.opb torn-1.out", "torn-1.out: Unfinished at line 3"),
+    rejected("--pieces 3 tie.opb failed-1.out", "failed-1.out: Syntax at line 1: its first line is 'Killed\\x07'"),
+    rejected("--pieces 3 tie.opb silent-1.out", "silent-1.out: NoStatus at line 2: its first line is 'c a solver'"),
+    rejected("--pieces 3 tie.opb empty-1.out", "empty-1.out: NoStatus at line 1"),
+    rejected("--pieces 3 tie.opb long-1.out", f"long-1.out: NoStatus at line 1: its first line is 'c {58 * 'x'}'"),
     rejected("--pieces 3 tie.opb wrong-1.out", "wrong-1.out: the o line is not the cost of the assignment"),
     rejected("--pieces 3 tie.opb report.out", "report.out: the name has no number of a piece before its last dot"),
     rejected(f"--pieces 3 tie.opb {SOCKET}", f"{SOCKET}: cannot be read: {reason(errno.ENXIO)}"),
@@ -682,6 +703,28 @@ JOIN = [
     Row("--tasks 1 tie.opb empty", "s UNKNOWN\n", again(0)),
     rejected("--tasks 2 tie.opb cut.part cut.part", "cut.part: there are two reports of this task"),
     rejected("--tasks 2 tie.opb parts/first.report edited.part", "edited.part: the part is of another instance"),
+    rejected("--tasks 2 tie.opb wider.part", "wider.part: the part is of another instance"),
+    # every task refused the same, or not every one
+    *(
+        Row(f"--tasks {len(names.split())} tie.opb {names}", PARTS[names.split()[0]], ALL_REFUSED)
+        for names in ("refused.part refused.part", "refused_cubes.part", "refused_number.part", "refused_line.part")
+    ),
+    Row("--tasks 1 tie.opb refused.part", err=f"pbcube_join: cannot write: {NO_ROOM}\n", status=1, out_to=FULL),
+    *(
+        rejected(f"--tasks {tasks} tie.opb {names}", f"{refused}.part: the task searched nothing: 'c refused{why}'")
+        for tasks, names, refused, why in (
+            (3, "refused.part refused.part", "refused", " split: BadSplit"),
+            (1, "refused.part refused.part", "refused", " split: BadSplit"),
+            (2, "refused.part refused_cubes.part", "refused", " split: BadSplit"),
+            (2, "refused.part parts/first.report", "refused", " split: BadSplit"),
+            (2, "parts/first.report refused.part", "refused", " split: BadSplit"),
+            (2, f"refused.part {SOCKET}", "refused", " split: BadSplit"),
+            (1, "refused_torn.part", "refused_torn", " split: BadSplit"),
+            (1, "refused_other.part", "refused_other", " split: bad"),
+            (1, "no_memory.part", "no_memory", ": Memory"),
+            (1, "refused_input.part", "refused_input", ": NonLinear at line 1"),  # the instance has no such fault
+        )
+    ),
     rejected("--tasks 2 tie.opb no_pieces.part", "no_pieces.part: the part is of no pieces"),
     rejected("--tasks 3 tie.opb cut.part", "cut.part: the part is of another number of tasks"),
     rejected("--tasks 2 tie.opb unnamed.part divided.part", "divided.part: the first part is of other pieces"),

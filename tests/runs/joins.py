@@ -6,7 +6,8 @@ those of one run.
 
 It takes the programs that the merge gate built. The instances are the examples and fifty random ones, cut by splits, by cubes
 and by both, and dealt among two of one, two, three and five tasks. Then a report is left out, unknown, given twice, cut short or
-changed, or is one of another instance or another division: a join must say so and claim no more than is so.
+changed, or is one of another instance or another division: a join must say so and claim no more than is so. Where every task refuses
+what is to divide the instance, it must write this refusal.
 """
 import random
 import shutil
@@ -19,7 +20,7 @@ sys.path.insert(0, str(Path(__file__).resolve().parents[1]))
 from lib import FORMATS, Ended, run, side_by_side
 from lib.draws import instances
 from lib.examples import divisions, examples, variables_of
-from lib.reports import HEADING, run_again
+from lib.reports import ALL_REFUSED, HEADING, run_again
 
 RANDOM = 50
 TASKS = (1, 2, 3, 5)
@@ -80,6 +81,7 @@ def complaints(file, kind, variables, room):
         yield from spoiled(name, joined, reports)
         for tasks in random.Random(name).sample(TASKS, 2):
             yield from of_tasks(file, kind, words, tasks, whole, room / f"{number}.{tasks}")
+    yield from refused_by_all(file, kind, variables, room)
 
 
 def indexed(name, file, kind, folder, reports, whole):
@@ -148,6 +150,22 @@ def of_tasks(file, kind, words, tasks, whole, folder):
             yield f"{name}: join: {said}"
     yield from lost_task(name, joined, reports, whole)
     yield from spoiled_task(name, joined, reports, whole)
+
+
+def refused_by_all(file, kind, variables, room):
+    """What is wrong with joins where every task refuses what is to divide the instance."""
+    beyond = room / "beyond"
+    beyond.write_text(f"a {variables + 1} 0\n")
+    too_many = [["--split", 12]] if variables < 12 else []
+    for words in ["--cubes", beyond], *too_many:
+        whole = run("pbcube", file, "--format", kind, *words)
+        folder = room / f"refused{words[0]}"
+        reports = tasks_ran(file, kind, words, 2, folder)
+        joined = ("pbcube_join", file, "--format", kind, "--tasks")
+        if (said := run(*joined, 2, folder)) != Ended(whole.out, ALL_REFUSED, whole.status):
+            yield f"{file.name} {words}: join: {said}"
+        for tasks, operands in ((2, reports[:1]), (3, reports)):
+            refuses(said := run(*joined, tasks, *operands)) or (yield f"{file.name} {words}: {tasks} tasks: {said}")
 
 
 def lost_task(name, joined, reports, whole):

@@ -3,15 +3,10 @@ use Rattle.std.proofs.Common.{◌≡◌, ◌≤◌, ◌∙◌, ℕ, List, [], �
 use Rattle.std.specs.Prelude.{◌≢◌, IfSome, IsNone}
 use Rattle.hex.specs.Hex.{encode_lower}
 use Rattle.pb_files.specs.Reading.{CountsPieces, ReadsSame}
+use Rattle.pb_files.proofs.Each.{ReadsSame-push}
 use Rattle.pb_files.specs.Texts.{Text}
 use Rattle.pb_files.specs.Writing.{index_lines}
 use Rattle.pb_read.specs.declared.format.Format.{Format}
-
--- one more file with the same text
-ReadsSame-push : {F : Type 0} (reads : F → Text → List ℕ → F → Type 0) (text : Text) (names : List Text) (old mid new : F) (name : Text)
-    → ReadsSame reads text names old mid → reads mid name text new → ReadsSame reads text (names ++ name ∷ []) old new
-ReadsSame-push reads text [] old mid new name done read = (new, subst (λ s. reads s name text new) done read, refl)
-ReadsSame-push reads text (n ∷ names) old mid new name done read = (done.0, done.1, ReadsSame-push reads text names done.0 mid new name done.2 read)
 
 one_is_some : (n : ℕ) → IsNone (Some n) → ⊥
 one_is_some n none =

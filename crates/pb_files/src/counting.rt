@@ -7,6 +7,7 @@ ghost use Rattle.pb_files.specs.Writing.{index_lines};
 
 use crate::files::Files;
 use crate::index::index_of;
+use crate::lines::{line_at, tells_other_digest};
 use crate::reports::{Unread, fault_at, read_file};
 use crate::reports_fault::{IndexFault, Refusal, ReportsFault};
 use crate::whole::Whole;
@@ -55,6 +56,9 @@ fn read_index<F: Files>(
     ensures read { IfOk result (λ told. F.reads files.old name.now (index_lines format told whole.now.instance.vars (encode_lower whole.now.digest)) files.new) }
 {
     let text = read_file(name, files)?;
+    if tells_other_digest(line_at(&text, 3), b"sha256 ", &whole.digest) {
+        return Err(Unread::Refused(Refusal::Index(IndexFault::OtherDigest)));
+    }
     let told = number_told(&text, known)?;
     check_index(alloc, format, whole, told, &text)?;
     Ok(told)

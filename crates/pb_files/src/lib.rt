@@ -1,5 +1,5 @@
 //! Reads an instance and its pieces from files (`dividing`), writes pieces to files, with an index (`pieces`), and reads the
-//! reports of pieces (`reports`) and of parts (`parts`) from files.
+//! reports of pieces (`reports`) and of tasks (`parts`) from files.
 #![tactic(auto)]
 
 mod counting;
@@ -8,12 +8,15 @@ mod dividing_fault;
 mod files;
 mod folders;
 mod index;
+mod lines;
 mod listing;
 mod parts;
 mod piece_names;
 mod pieces;
 mod pieces_fault;
 mod prepared;
+mod quote;
+mod refusals;
 mod reports;
 mod reports_fault;
 mod system;
@@ -25,10 +28,11 @@ pub use dividing_fault::DivisionFault;
 pub use files::Files;
 pub use folders::Folders;
 pub use listing::{Named, named_files};
-pub use parts::{PartReports, read_parts};
+pub use parts::{PartReports, TaskReports, read_tasks};
 pub use pieces::write_pieces;
 pub use pieces_fault::PiecesFault;
 pub use prepared::Prepared;
+pub use quote::Quote;
 pub use reports::{Reports, read_instance, read_reports};
 pub use reports_fault::{IndexFault, Refusal, ReportsFault};
 pub use system::SystemFiles;

@@ -1,14 +1,20 @@
-//! Reading the reports of parts from their files.
-ghost use Rattle.std.specs.Prelude.{◌≡◌, ℕ, List, length, All, IfOk};
-ghost use Rattle.pb_files.specs.Reading.{ReadsParts};
+//! Reading the reports of tasks from their files.
+ghost use Rattle.std.specs.Prelude.{◌≡◌, ◌<◌, ℕ, List, drop, length, map, string_bytes, IfOk, IsTrue};
+ghost use Rattle.pb_files.specs.Reading.{ReadsSame};
+ghost use Rattle.pb_files.specs.Tasks.{AreFitTasks, IsReportOfTask, ReadsTasks};
 ghost use Rattle.pb_files.specs.Texts.{texts};
-ghost use Rattle.pb_parts.specs.Parts.{IsFit, IsPartReport};
+ghost use Rattle.pb_report.specs.Written.{refusal_report};
 
 use crate::files::Files;
+use crate::lines::{line_at, tells_other_digest};
+use crate::quote::Quote;
+use crate::refusals::{read_refusal, refusal_text};
 use crate::reports::{Unread, fault_at, read_file};
 use crate::reports_fault::{Refusal, ReportsFault};
-use pb_parts::{PartKind, PartReport, read_part};
+use pb_join::PartRejection;
+use pb_parts::{PartFault, PartKind, PartReport, read_part};
 use pb_read::Format;
+use pb_report::Refusal as InputRefusal;
 use std::alloc::Global;
 
 /// Reports of parts, and the names of their files, in the same order.
@@ -18,43 +24,134 @@ pub struct PartReports {
     pub parts: Vec<PartReport>,
 }
 
-/// The reports of parts from the files of these names, of an instance of `vars` variables.
-pub fn read_parts<'a, F: Files>(
+/// What the reports of all tasks are.
+#[derive(Drop)]
+pub enum TaskReports {
+    /// Reports of parts, of some tasks or all.
+    Parts(PartReports),
+    /// A report of each task, and all of them refuse this.
+    Refused(InputRefusal),
+}
+
+/// What the report of one task is.
+#[derive(Drop)]
+pub enum TaskReport {
+    /// The report of a part.
+    Part(PartReport),
+    /// A refusal of this, and its first line.
+    Refused(InputRefusal, Quote),
+}
+
+/// The reports of `tasks` tasks from the files of these names, of an instance of `vars` variables with this digest.
+pub fn read_tasks<'a, F: Files>(
     alloc: Global,
     format: Format,
     vars: u32,
+    digest: &[u8; 32],
+    tasks: u32,
     names: Vec<String>,
     files: &mut F,
-) -> Result<PartReports, ReportsFault<'a>>
-    ensures counted { IfOk result (λ read. length read.names.items ≡ length read.parts.items) }
-    ensures fit { IfOk result (λ read. All (λ part. IsFit part.heading) read.parts.items) }
-    ensures read { IfOk result (λ read. ReadsParts F.reads format vars (texts names) read.parts.items files.old files.new) }
+) -> Result<TaskReports, ReportsFault<'a>>
+    ensures fit { IfOk result AreFitTasks }
+    ensures read { IfOk result (λ read. ReadsTasks F.reads format vars tasks (texts names) read files.old files.new) }
 {
     let mut parts = Vec::new(alloc);
     for place in 0..names.len() {
-        match read_one(alloc, format, vars, &names[place], files) {
-            Ok(part) => parts.push(part)?,
+        match read_one(alloc, format, vars, digest, &names[place], files) {
+            Ok(TaskReport::Part(part)) => parts.push(part)?,
+            Ok(TaskReport::Refused(refusal, quote)) => {
+                if place == 0 && others_refuse(alloc, refusal, tasks, &names, files)? {
+                    return Ok(TaskReports::Refused(refusal));
+                }
+                let why = Refusal::RefusedTask(quote);
+                return Err(fault_at(names, place, Unread::Refused(why)));
+            }
             Err(why) => return Err(fault_at(names, place, why)),
         }
     }
-    Ok(PartReports { names, parts })
+    Ok(TaskReports::Parts(PartReports { names, parts }))
 }
 
-/// The report of a part from the file of this name.
+/// Whether there are as many names as tasks, and the files of all but the first refuse this. The instance itself is not refused, as
+/// it was read. Fails only where memory runs out.
+fn others_refuse<'a, F: Files>(
+    alloc: Global,
+    refusal: InputRefusal,
+    tasks: u32,
+    names: &[String],
+    files: &mut F,
+) -> Result<bool, ReportsFault<'a>>
+    requires { 0 < length names.now }
+    ensures counted { IfOk result (λ all. IsTrue all → length names.now ≡ tasks) }
+    ensures read { IfOk result (λ all. IsTrue all → ReadsSame F.reads (refusal_report refusal) (map string_bytes (drop 1 names.now)) files.old files.new) }
+{
+    let is_of_instance = matches!(refusal, InputRefusal::Input(_));
+    if is_of_instance || names.len() != tasks as usize {
+        return Ok(false);
+    }
+    match all_refuse(alloc, refusal, &names[1..], files) {
+        Ok(all) => Ok(all),
+        Err(Unread::Memory) => Err(ReportsFault::Memory),
+        Err(Unread::Refused(_)) => Ok(false),
+    }
+}
+
+/// Whether the files of these names are reports that refuse this.
+fn all_refuse<F: Files>(
+    alloc: Global,
+    refusal: InputRefusal,
+    names: &[String],
+    files: &mut F,
+) -> Result<bool, Unread>
+    ensures { IfOk result (λ all. IsTrue all → ReadsSame F.reads (refusal_report refusal) (map string_bytes names.now) files.old files.new) }
+{
+    let report = refusal_text(alloc, refusal)?;
+    for name in names {
+        let is_same = has_text(name, report.as_slice(), files)?;
+        if !is_same {
+            return Ok(false);
+        }
+    }
+    Ok(true)
+}
+
+/// Whether the file of this name has this text.
+fn has_text<F: Files>(name: &str, text: &[u8], files: &mut F) -> Result<bool, Unread>
+    ensures { IfOk result (λ same. IsTrue same → F.reads files.old name.now text.now files.new) }
+{
+    let found = read_file(name, files)?;
+    Ok(*found.as_slice() == *text)
+}
+
+/// The report of a task from the file of this name.
 fn read_one<F: Files>(
     alloc: Global,
     format: Format,
     vars: u32,
+    digest: &[u8; 32],
     name: &str,
     files: &mut F,
-) -> Result<PartReport, Unread>
-    ensures fit { IfOk result (λ part. IsFit part.heading) }
-    ensures read { IfOk result (λ part. (text : List ℕ) × F.reads files.old name.now text files.new × IsPartReport format vars text part) }
+) -> Result<TaskReport, Unread>
+    ensures { IfOk result (λ report. (text : List ℕ) × F.reads files.old name.now text files.new × IsReportOfTask format vars text report) }
 {
     let text = read_file(name, files)?;
+    if let Some(refusal) = read_refusal(alloc, &text)? {
+        return Ok(TaskReport::Refused(refusal, Quote::of_first_line(&text)));
+    }
     match read_part(alloc, format, vars, &text) {
-        Ok(part) => Ok(part),
+        Ok(part) => Ok(TaskReport::Part(part)),
         Err(fault) if fault.kind == PartKind::Memory => Err(Unread::Memory),
-        Err(fault) => Err(Unread::Refused(Refusal::FaultyPart(fault))),
+        Err(fault) => Err(Unread::Refused(refusal_of(fault, &text, digest))),
+    }
+}
+
+/// Why a text with this fault is not taken: first of all, since it is of an instance with another digest.
+fn refusal_of(fault: PartFault, text: &[u8], digest: &[u8; 32]) -> Refusal {
+    if tells_other_digest(line_at(text, 0), b"c part ", digest) {
+        Refusal::RejectedPart(PartRejection::OtherInstance)
+    } else if text.starts_with(b"c refused") {
+        Refusal::RefusedTask(Quote::of_first_line(text))
+    } else {
+        Refusal::FaultyPart(fault)
     }
 }

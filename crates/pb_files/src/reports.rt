@@ -5,11 +5,12 @@ ghost use Rattle.pb_files.specs.Texts.{texts};
 
 use crate::files::Files;
 use crate::listing::piece_number;
+use crate::quote::Quote;
 use crate::reports_fault::{Refusal, ReportsFault};
 use crate::whole::Whole;
 use pb_join::PieceReport;
 use pb_read::{Format, ReadFault, ReadKind, read};
-use pb_report::{ReportKind, read_report};
+use pb_report::{ReportFault, ReportKind, read_report};
 use sha2::{Digest, Sha256};
 use std::alloc::Global;
 use std::io::{self, ErrorKind};
@@ -118,8 +119,24 @@ fn read_one<F: Files>(
     match read_report(alloc, format, vars, &text) {
         Ok(claim) => Ok(PieceReport { number, claim }),
         Err(fault) if fault.kind == ReportKind::Memory => Err(Unread::Memory),
-        Err(fault) => Err(Unread::Refused(Refusal::Faulty(fault))),
+        Err(fault) => Err(Unread::Refused(refusal_of(fault, &text))),
     }
+}
+
+/// Why a text with this fault is not taken. Where it says nothing of the answer, its first line may tell why.
+fn refusal_of(fault: ReportFault, text: &[u8]) -> Refusal {
+    let text = text.trim_ascii_start();
+    if text.is_empty() || tells_status(text) {
+        Refusal::Faulty(fault)
+    } else {
+        Refusal::Foreign(fault, Quote::of_first_line(text))
+    }
+}
+
+/// Whether a line of the text begins as one of a status does.
+fn tells_status(text: &[u8]) -> bool {
+    text.split(|byte| *byte == b'\n')
+        .any(|line| line.starts_with(b"s "))
 }
 
 /// All bytes of the file of this name.

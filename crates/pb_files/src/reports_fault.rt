@@ -1,4 +1,5 @@
 //! What keeps reports from being joined.
+use crate::quote::Quote;
 use pb_join::{PartRejection, Rejection};
 use pb_parts::PartFault;
 use pb_read::ReadFault;
@@ -36,12 +37,18 @@ pub enum Refusal {
     /// Its lines are no report.
     #[error("{0}")]
     Faulty(ReportFault),
+    /// Its lines are no report, as the first of them may tell.
+    #[error("{0}: its first line is {1}")]
+    Foreign(ReportFault, Quote),
     /// No piece can have its report.
     #[error("{0}")]
     Rejected(Rejection),
     /// Its lines are no report of a part.
     #[error("{0}")]
     FaultyPart(PartFault),
+    /// Its task searched nothing, and tells this instead.
+    #[error("the task searched nothing: {0}")]
+    RefusedTask(Quote),
     /// No part can have its report.
     #[error("{0}")]
     RejectedPart(PartRejection),

@@ -13,10 +13,17 @@ use Rattle.pb_join.specs.Pieces.{AreOfPieces}
 use Rattle.clap.specs.Words.{Text, matches_of}
 use Rattle.pb_parts.specs.declared.parts.PartReport.{PartReport}
 use Rattle.pb_report.specs.Statuses.{exit_status}
+use Rattle.pb_report.specs.Written.{refusal_report}
 use Rattle.pb_report.specs.declared.statuses.Status.{Status}
+use Rattle.pb_report.specs.declared.statuses.Status.TheVariants.{Unsupported}
+use Rattle.pb_files.specs.declared.parts.TaskReports.{TaskReports}
+use Rattle.pb_files.specs.declared.parts.TaskReports.TheVariants as read
+use Rattle.std.specs.Io.KnownBytes.{Appends}
 use Rattle.pb_line.specs.declared.joining.args.Line.{Line}
 use Rattle.pb_line.specs.Joining.{IsLineOf, pbcube_join}
-use Rattle.pbcube_join.specs.Reading.{ReadsFor, ReadsPartsFor}
+use Rattle.pbcube_join.specs.Reading.{ReadsFor, ReadsTasksFor}
+use Rattle.pbcube_join.specs.declared.parts.TasksEnd.{TasksEnd}
+use Rattle.pbcube_join.specs.declared.parts.TasksEnd.TheVariants as end
 
 -- What was written tells the first assignment of these reports, which are fit reports of the instance's pieces, and of each
 -- piece it is told what became of it. It is the answer on the instance where every piece is done and each report is right.
@@ -48,19 +55,31 @@ pub record TellsOfParts (format : Format) (p : Problem) (digest : List ℕ) (tas
   pub whole : IsTrue joined.whole ↔ AreAllNamed (first_division parts) parts
   pub answer : (cubes : List (List Literal)) → ArePartsOf p cubes parts → joined.whole ≡ true → Answers format p old new joined.status
 
--- the instance and the reports of parts are read from the files that the line names, and what was written tells of these
-pub record JoinsParts {F : Type 0} (reads : F → Text → List ℕ → F → Type 0) (lists : F → Text → Option (List Text) → F → Type 0) (line : Line) (tasks : ℕ) (before after : F) (old new : Option (List ℕ)) (joined : JoinedParts) : Type 0 where
+-- the status of the report that is written at this end
+abbrev pub status_of : TasksEnd → Status
+status_of (end.Joined joined) = joined.joined.status
+status_of (end.Refused refusal) = Unsupported
+
+-- what was written tells of the parts that were read; or every task refused the same, and all that was written is this refusal, as
+-- a run on the whole writes it
+abbrev pub TellsOfTasks : Format → Problem → List ℕ → ℕ → TaskReports → Option (List ℕ) → Option (List ℕ) → TasksEnd → Type 0
+TellsOfTasks format p digest tasks (read.Parts parts) old new (end.Joined joined) = TellsOfParts format p digest tasks parts.parts.items old new joined.joined
+TellsOfTasks format p digest tasks (read.Refused refusal) old new (end.Refused written) = Appends old new (refusal_report refusal)
+TellsOfTasks format p digest tasks _ old new _ = ⊥
+
+-- the instance and the reports of tasks are read from the files that the line names, and what was written tells of these
+pub record JoinsTasks {F : Type 0} (reads : F → Text → List ℕ → F → Type 0) (lists : F → Text → Option (List Text) → F → Type 0) (line : Line) (tasks : ℕ) (before after : F) (old new : Option (List ℕ)) (end : TasksEnd) : Type 0 where
   pub problem : Problem
   pub digest : List ℕ
-  pub parts : List PartReport
-  pub from_files : ReadsPartsFor reads lists line problem digest parts before after
-  pub tells : TellsOfParts line.format problem digest tasks parts old new joined
+  pub read : TaskReports
+  pub from_files : ReadsTasksFor reads lists line problem digest tasks read before after
+  pub tells : TellsOfTasks line.format problem digest tasks read old new end
 
 -- the reports of `tasks` tasks are joined where that number is told, and else the reports of pieces, and the report has this
 -- status
 abbrev pub JoinsLine : {F : Type 0} → (F → Text → List ℕ → F → Type 0) → (F → Text → Option (List Text) → F → Type 0) → Line → Option ℕ → F → F → Option (List ℕ) → Option (List ℕ) → Status → Type 0
 JoinsLine reads lists line None before after old new status = (joined : Joined) × JoinsFiles reads lists line before after old new joined × (status ≡ joined.status)
-JoinsLine reads lists line (Some tasks) before after old new status = (joined : JoinedParts) × JoinsParts reads lists line tasks before after old new joined × (status ≡ joined.status)
+JoinsLine reads lists line (Some tasks) before after old new status = (end : TasksEnd) × JoinsTasks reads lists line tasks before after old new end × (status ≡ status_of end)
 
 -- the files of a line that has the values of the words' matches are joined, and the status is that of the report
 pub record JoinsAsAsked {F : Type 0} (reads : F → Text → List ℕ → F → Type 0) (lists : F → Text → Option (List Text) → F → Type 0) (words : List Text) (before after : F) (old new : Option (List ℕ)) (status : ℕ) : Type 0 where

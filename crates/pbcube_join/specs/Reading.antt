@@ -1,10 +1,11 @@
 -- What is read for a line.
 use Rattle.std.specs.Prelude.{ℕ, List, Option, map}
 use Rattle.clap.specs.Words.{Text}
-use Rattle.pb_files.specs.Reading.{CountsPieces, ListsFiles, ReadsInstance, ReadsParts, ReadsReports}
+use Rattle.pb_files.specs.Reading.{CountsPieces, ListsFiles, ReadsInstance, ReadsReports}
+use Rattle.pb_files.specs.Tasks.{ReadsTasks}
+use Rattle.pb_files.specs.declared.parts.TaskReports.{TaskReports}
 use Rattle.pb_inst.specs.Problem.{Problem}
 use Rattle.pb_join.specs.declared.reports.PieceReport.{PieceReport}
-use Rattle.pb_parts.specs.declared.parts.PartReport.{PartReport}
 use Rattle.pb_line.specs.declared.joining.args.Line.{Line}
 
 -- The instance is read, then the indexes of the folders that the line names, which tell into how many pieces the instance is
@@ -21,13 +22,13 @@ pub record ReadsFor {F : Type 0} (reads : F → Text → List ℕ → F → Type
   pub counted : CountsPieces reads line.format p.vars digest line.pieces indexes pieces after_names after_indexes
   pub reports_read : ReadsReports reads line.format p.vars names reports after_indexes new
 
--- The instance is read, which has this digest, and then the reports of parts. Each is read from the files that the line names,
+-- The instance is read, which has this digest, and then the reports of tasks. Each is read from the files that the line names,
 -- and no other file is: an index is named, and is not read.
-pub record ReadsPartsFor {F : Type 0} (reads : F → Text → List ℕ → F → Type 0) (lists : F → Text → Option (List Text) → F → Type 0) (line : Line) (p : Problem) (digest : List ℕ) (parts : List PartReport) (old new : F) : Type 0 where
+pub record ReadsTasksFor {F : Type 0} (reads : F → Text → List ℕ → F → Type 0) (lists : F → Text → Option (List Text) → F → Type 0) (line : Line) (p : Problem) (digest : List ℕ) (tasks : ℕ) (read : TaskReports) (old new : F) : Type 0 where
   pub after_instance : F
   pub instance : ReadsInstance reads line.format line.file.now p digest old after_instance
   pub names : List Text
   pub indexes : List Text
   pub after_names : F
   pub listed : ListsFiles lists (map (λ name. name.now) line.reports.items) names indexes after_instance after_names
-  pub parts_read : ReadsParts reads line.format p.vars names parts after_names new
+  pub tasks_read : ReadsTasks reads line.format p.vars tasks names read after_names new

@@ -1,18 +1,20 @@
-//! Joining the reports of the parts that tasks have searched.
-ghost use Rattle.std.specs.Prelude.{◌≡◌, ◌≢◌, ◌<◌, ◌⊎◌, ℕ, List, length, false, true, All, IfOk, IfErr};
-ghost use Rattle.pb_files.specs.Reading.{ReadsParts};
-ghost use Rattle.pb_files.specs.Texts.{texts};
+//! Joining the reports of tasks.
+ghost use Rattle.std.specs.Prelude.{◌≡◌, ◌≢◌, ◌<◌, ◌⊎◌, ℕ, length, false, true, All, IfOk, IfErr};
+ghost use Rattle.pb_files.specs.Tasks.{AreFitTasks};
 ghost use Rattle.pb_join.specs.declared.parts.faults.PartRejection.{PartRejection as Why};
-ghost use Rattle.pb_parts.specs.declared.parts.PartReport.{PartReport as Part};
-ghost use Rattle.pbcube_join.specs.Joining.{JoinsParts, TellsOfParts};
+ghost use Rattle.pb_parts.specs.Parts.{IsFit};
+ghost use Rattle.pbcube_join.specs.Joining.{JoinsTasks, TellsOfParts, TellsOfTasks, status_of};
 
 use crate::again::name_open;
-use pb_files::{Files, Refusal, ReportsFault, Whole, named_files, read_instance, read_parts};
+use pb_files::{
+    Files, PartReports, Refusal, ReportsFault, TaskReports, Whole, named_files, read_instance,
+    read_tasks,
+};
 use pb_join::{JoinedParts, PartsFault, join_parts};
 use pb_line::joining::Line;
 use pb_parts::PartReport;
 use pb_read::Format;
-use pb_report::Device;
+use pb_report::{Device, Refusal as InputRefusal, Status, report_refusal};
 use std::alloc::Global;
 use std::io::Write;
 
@@ -25,42 +27,93 @@ pub(crate) struct PartsEnd {
     pub(crate) pieces: Option<u32>,
 }
 
-/// Reads the instance and the reports of parts that the line names, joins the reports and writes what they make. Where anything
-/// is refused nothing is written.
+/// What came of the reports of tasks.
+#[derive(Drop)]
+pub(crate) enum TasksEnd {
+    /// They are of parts, and were joined.
+    Joined(PartsEnd),
+    /// Every task refused the same, and this was written.
+    Refused(InputRefusal),
+}
+
+impl TasksEnd {
+    /// The status of the report that was written.
+    pub(crate) fn status(&self) -> Status
+        ensures { result ≡ status_of self.now }
+    {
+        match self {
+            TasksEnd::Joined(end) => end.joined.status,
+            TasksEnd::Refused(_) => Status::Unsupported,
+        }
+    }
+}
+
+/// Reads the instance and the reports of tasks that the line names, joins the reports and writes what they make. Where anything
+/// is refused nothing is written, unless every task refused the same: then this refusal is written.
 pub(crate) fn join_tasks<'a, F: Files, W: Write>(
     alloc: Global,
     line: &Line<'a>,
     tasks: u32,
     files: &mut F,
     out: &mut Device<W>,
-) -> Result<PartsEnd, ReportsFault<'a>>
+) -> Result<TasksEnd, ReportsFault<'a>>
     requires out { out.old.failed ≡ false }
-    ensures joins { IfOk result (λ end. JoinsParts F.reads F.lists line.now tasks files.old files.new (W.contents out.old.held) (W.contents out.new.held) end.joined) }
+    ensures joins { IfOk result (λ end. JoinsTasks F.reads F.lists line.now tasks files.old files.new (W.contents out.old.held) (W.contents out.new.held) end) }
     ensures unwritten { IfErr result (λ fault. fault ≢ ReportsFault.CannotWrite → out.new ≡ out.old) }
     ensures kept { IfErr result (λ fault. (out.new ≡ out.old) ⊎ (out.new.failed ≡ true)) }
 {
     let whole = read_instance(alloc, line.format, line.file, files)?;
     let named = named_files(alloc, &line.reports, files)?;
-    join_part_files(alloc, line.format, &whole, tasks, named.reports, files, out)
+    let reports = named.reports;
+    let (format, vars) = (line.format, whole.instance.vars());
+    let read = read_tasks(alloc, format, vars, &whole.digest, tasks, reports, files)?;
+    write_tasks(alloc, format, &whole, tasks, read, out)
 }
 
-/// Reads the reports of parts from the files of these names, joins them and writes what they make.
-fn join_part_files<'a, F: Files, W: Write>(
+/// Joins what was read of tasks and writes what it makes.
+fn write_tasks<'a, W: Write>(
     alloc: Global,
     format: Format,
     whole: &Whole,
     tasks: u32,
-    names: Vec<String>,
-    files: &mut F,
+    read: TaskReports,
+    out: &mut Device<W>,
+) -> Result<TasksEnd, ReportsFault<'a>>
+    requires out { out.old.failed ≡ false }
+    requires fit { AreFitTasks read }
+    ensures tells { IfOk result (TellsOfTasks format whole.now.instance whole.now.digest tasks read (W.contents out.old.held) (W.contents out.new.held)) }
+    ensures unwritten { IfErr result (λ fault. fault ≢ ReportsFault.CannotWrite → out.new ≡ out.old) }
+    ensures kept { IfErr result (λ fault. (out.new ≡ out.old) ⊎ (out.new.failed ≡ true)) }
+{
+    match read {
+        TaskReports::Parts(read) => {
+            let end = join_part_reports(alloc, format, whole, tasks, read, out)?;
+            Ok(TasksEnd::Joined(end))
+        }
+        TaskReports::Refused(refusal) => match report_refusal(out, refusal) {
+            Ok(_) => Ok(TasksEnd::Refused(refusal)),
+            Err(_) => Err(ReportsFault::CannotWrite),
+        },
+    }
+}
+
+/// Joins these reports of parts and writes what they make.
+fn join_part_reports<'a, W: Write>(
+    alloc: Global,
+    format: Format,
+    whole: &Whole,
+    tasks: u32,
+    read: PartReports,
     out: &mut Device<W>,
 ) -> Result<PartsEnd, ReportsFault<'a>>
     requires out { out.old.failed ≡ false }
-    ensures joins { IfOk result (λ end. (parts : List Part) × ReadsParts F.reads format whole.now.instance.vars (texts names) parts files.old files.new × TellsOfParts format whole.now.instance whole.now.digest tasks parts (W.contents out.old.held) (W.contents out.new.held) end.joined) }
+    requires counted { length read.names.items ≡ length read.parts.items }
+    requires fit { All (λ part. IsFit part.heading) read.parts.items }
+    ensures tells { IfOk result (λ end. TellsOfParts format whole.now.instance whole.now.digest tasks read.parts.items (W.contents out.old.held) (W.contents out.new.held) end.joined) }
     ensures unwritten { IfErr result (λ fault. fault ≢ ReportsFault.CannotWrite → out.new ≡ out.old) }
     ensures kept { IfErr result (λ fault. (out.new ≡ out.old) ⊎ (out.new.failed ≡ true)) }
 {
     let Whole { instance, digest } = whole;
-    let read = read_parts(alloc, format, instance.vars(), names, files)?;
     match join_parts(alloc, format, instance, digest, tasks, &read.parts, out) {
         Ok(joined) => Ok(PartsEnd {
             joined,
@@ -89,12 +142,21 @@ fn fault_of<'a>(fault: PartsFault, mut names: Vec<String>) -> ReportsFault<'a>
     }
 }
 
-/// Writes one line to the standard error with the tasks that have to be run again, those that are not finished and have a
-/// piece, unless every piece is done.
-pub(crate) fn name_tasks<E: Write>(end: &PartsEnd, err: &mut E) {
-    if !end.joined.whole {
-        let with_pieces = end.pieces.unwrap_or(u32::MAX) as usize;
-        let states = &end.joined.states;
-        name_open("tasks", &states[..states.len().min(with_pieces)], err);
+/// Writes one line to the standard error: that every task refused its input, or which tasks have to be run again, those that are
+/// not finished and have a piece, unless every piece is done.
+pub(crate) fn tell_tasks<E: Write>(end: &TasksEnd, err: &mut E) {
+    match end {
+        TasksEnd::Joined(end) if !end.joined.whole => {
+            let with_pieces = end.pieces.unwrap_or(u32::MAX) as usize;
+            let states = &end.joined.states;
+            name_open("tasks", &states[..states.len().min(with_pieces)], err);
+        }
+        TasksEnd::Joined(_) => {}
+        TasksEnd::Refused(_) => {
+            let _ = writeln!(
+                err,
+                "pbcube_join: every task refused its input, and searched nothing"
+            );
+        }
     }
 }

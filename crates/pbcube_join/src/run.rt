@@ -13,7 +13,7 @@ ghost use Rattle.pb_files.specs.Texts.{texts};
 ghost use Rattle.pb_report.specs.Statuses.{IsExitStatus};
 
 use crate::again::name_open;
-use crate::parts::{join_tasks, name_tasks};
+use crate::parts::{join_tasks, tell_tasks};
 use clap::Error;
 use pb_files::{
     Files, Refusal, ReportsFault, count_pieces, named_files, read_instance, read_reports,
@@ -80,8 +80,8 @@ fn join_asked<'a, F: Files, W: Write, E: Write>(
     match line.tasks {
         Some(tasks) => {
             let end = join_tasks(alloc, line, tasks, files, out)?;
-            name_tasks(&end, err);
-            Ok(end.joined.status)
+            tell_tasks(&end, err);
+            Ok(end.status())
         }
         None => {
             let joined = join_line(alloc, line, files, out)?;

@@ -2,11 +2,13 @@
 #![tactic(auto)]
 
 mod faults;
+mod notes;
 mod places;
 mod reporting;
 mod run;
 mod searching;
 
+use crate::notes::TaskNotes;
 use crate::places::Places;
 use crate::run::{out_of_memory, program};
 use pb_files::SystemFiles;
@@ -23,7 +25,7 @@ struct SystemPlaces<'a> {
     rt: &'a HostRuntime,
 }
 
-impl<'a> Places<Folder<'a, HostRuntime>> for SystemPlaces<'a> {
+impl<'a> Places<TaskNotes<'a>> for SystemPlaces<'a> {
     fn open(
         &self,
         alloc: Global,
@@ -31,11 +33,14 @@ impl<'a> Places<Folder<'a, HostRuntime>> for SystemPlaces<'a> {
         task: u32,
         tasks: u32,
         workers: u32,
-    ) -> io::Result<Folder<'a, HostRuntime>> {
+    ) -> io::Result<TaskNotes<'a>> {
+        let Ok(name) = String::from_str(alloc, folder) else {
+            return Err(Error::from(ErrorKind::OutOfMemory));
+        };
         match Folder::new(alloc, self.rt, folder, task, tasks, workers) {
             Ok(place) => {
                 place.make()?;
-                Ok(place)
+                Ok(TaskNotes::new(self.rt, place, name, task))
             }
             Err(_) => Err(Error::from(ErrorKind::OutOfMemory)),
         }

@@ -1,6 +1,7 @@
 use Rattle.std.proofs.Common.{◌≡◌, ℕ, List, Bor, map, subst}
 use Rattle.std.proofs.lemmas.Result.{IfOk-weaker}
 use Rattle.pb_files.specs.Reading.{ListsFiles}
+use Rattle.pb_files.specs.Tasks.{ReadsTasks}
 use Rattle.pb_files.specs.Texts.{texts}
 use Rattle.pbcube_join.proofs.parts.join_tasks.Goals as goal
 
@@ -9,10 +10,12 @@ returns-clause-joins g c =
     let operands : c.deref.result.now ≡ c.args.line.now.reports.items = cc in
     let named = c.in_ok-named.named in
     let listed = subst (λ (names : List (Bor (List ℕ))). ListsFiles g.F.Files.lists (map (λ name. name.now) names) (texts named.reports) (texts named.indexes) c.read_instance.new.files c.named_files.new.files) operands c.in_ok-named.ensures in
-    IfOk-weaker c.join_part_files.result _ _ (λ end told. record {
+    let vars : c.vars-vars.result ≡ c.in_ok-whole.whole.instance.vars = cc in
+    let read = subst (λ (n : ℕ). ReadsTasks g.F.Files.reads c.args.line.now.format n c.args.tasks (texts named.reports) c.in_ok-read.read c.named_files.new.files c.read_tasks.new.files) vars c.in_ok-read.ensures.read in
+    IfOk-weaker c.write_tasks.result _ _ (λ end told. record {
       problem = c.in_ok-whole.whole.instance;
       digest = c.in_ok-whole.whole.digest;
-      parts = told.0;
+      read = c.in_ok-read.read;
       from_files = record {
         after_instance = c.read_instance.new.files;
         instance = c.in_ok-whole.ensures;
@@ -20,7 +23,7 @@ returns-clause-joins g c =
         indexes = texts named.indexes;
         after_names = c.named_files.new.files;
         listed = listed;
-        parts_read = told.1;
+        tasks_read = read;
       };
-      tells = told.2;
-    }) c.join_part_files.ensures.joins
+      tells = told;
+    }) c.write_tasks.ensures.tells

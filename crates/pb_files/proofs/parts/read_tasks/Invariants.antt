@@ -2,7 +2,7 @@ use Rattle.std.proofs.Common.{◌≡◌, length, map, string_bytes, take}
 use Rattle.std.specs.Prelude.{All}
 use Rattle.pb_parts.specs.Parts.{IsFit}
 use Rattle.pb_files.specs.Reading.{ReadsParts}
-use Rattle.pb_files.proofs.parts.read_parts.Given as goal
+use Rattle.pb_files.proofs.parts.read_tasks.Given as goal
 
 -- the reports of parts are those of the names so far
 abbrev pub invariant-loop-place : goal.invariant-loop-place
