@@ -37,8 +37,6 @@ pub struct BoardShare<'b, S: OuterShare + Drop> {
     last_read: u32,
     // the least signal that ends the search
     ends_at: u64,
-    // whether it borrows nothing
-    is_apart: bool,
     beside: S,
 }
 
@@ -64,7 +62,6 @@ impl<'b, S: OuterShare + Drop> BoardShare<'b, S> {
             worker,
             last_read: worker,
             ends_at: PIECES_ARE_DONE,
-            is_apart: false,
             beside,
         }
     }
@@ -86,7 +83,6 @@ impl<'b, S: OuterShare + Drop> BoardShare<'b, S> {
             worker: _,
             last_read: _,
             ends_at: _,
-            is_apart: _,
             beside: _,
         } = self;
         seat
@@ -99,16 +95,7 @@ impl<'b, S: OuterShare + Drop> BoardShare<'b, S> {
     {
         self.beside.begin();
         self.ends_at = WHOLE_IS_DONE;
-        self.is_apart = false;
         self.board.claim(&mut self.seat)
-    }
-
-    /// Keeps to itself until it claims a piece: it borrows nothing, and so searches the whole as a worker alone does. With what others
-    /// find it would work less at its root, and may take three times as long.
-    pub(crate) fn keep_apart(&mut self)
-        ensures { self.new ≡ self.old }
-    {
-        self.is_apart = true;
     }
 
     /// Tells all workers that the whole was searched.
@@ -152,11 +139,8 @@ impl<'b, S: OuterShare + Drop> Share for BoardShare<'b, S> {
     }
 
     /// Where some worker offered a lesser key than that of `below`, reads the row of the next other worker in turn. Else asks
-    /// whoever is beside the board. Lends nothing to a worker that keeps to itself.
+    /// whoever is beside the board.
     fn borrow(&mut self, below: Number, into: &mut Assignment) -> bool {
-        if self.is_apart {
-            return false;
-        }
         self.borrow_from_row(below, into) || self.beside.borrow(below, into)
     }
 

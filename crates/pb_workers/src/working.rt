@@ -148,11 +148,9 @@ impl<'a, 'i, N: Notes, G: Gate> SearchWorkers<'a, 'i, N, G> {
         if !self.is_race {
             return;
         }
-        let turns = if share.worker() == 0 {
-            share.keep_apart();
-            LONG_TURNS
-        } else {
-            FIRST_TURNS
+        let turns = match share.worker() {
+            0 => LONG_TURNS,
+            _ => FIRST_TURNS,
         };
         search.begin(best, share, turns, self.nodes);
         if search.is_settled(best) {
