@@ -289,6 +289,20 @@ impl<C: Coefficient> EngineAt<C> {
         relaxation.fixed_literal(&trail, limit)
     }
 
+    /// A literal as `fixed_literal` gives it, by the multipliers as they are, where they were used at the node that was judged last:
+    /// for a dive, whose trail is no node's. It leaves the trail and the conflict as they are, and takes no memory.
+    pub fn fixed_at_hand(&mut self, limit: Number) -> Option<Lit>
+        ensures fixed { IfSome result (IsForcedWithin self.old limit) }
+        ensures unchanged { self.new ≡ self.old }
+    {
+        let trail = self.propagator.trail();
+        trail.tables().facts();
+        let Some(relaxation) = &mut self.relaxation else {
+            return None;
+        };
+        relaxation.fixed_at_hand(&trail, limit)
+    }
+
     /// Whether the last call of `fixed_literal` gave a literal and nothing was undone since: there may be more, and the
     /// multipliers need not be improved before. No more than a hint.
     pub fn is_fixing(&self) -> bool {
@@ -374,6 +388,21 @@ impl<C: Coefficient> EngineAt<C> {
         trail.tables().facts();
         match &self.relaxation {
             Some(relaxation) => relaxation.cheaper(lit, trail.tables().cost(lit.negate())),
+            None => lit,
+        }
+    }
+
+    /// As `cheaper`, by the multipliers where they were used at the node that was judged last.
+    pub fn cheaper_at_hand(&self, lit: Lit) -> Lit
+        requires { lit.var ≤ self.now.vars }
+        ensures { result.var ≡ lit.var }
+    {
+        let trail = self.propagator.trail();
+        trail.tables().facts();
+        match &self.relaxation {
+            Some(relaxation) => {
+                relaxation.cheaper_at_hand(lit, trail.tables().cost(lit.negate()))
+            }
             None => lit,
         }
     }

@@ -368,10 +368,37 @@ impl<C: Coefficient> Relaxation<C> {
         if !self.was_used {
             return None;
         }
+        self.follow_to_end(trail);
+        Some(self.multipliers.bound())
+    }
+
+    /// Follows the trail to its end, and touches no row by that.
+    fn follow_to_end(&mut self, trail: &TrailView<'_, C>)
+        requires { IsBeside trail.now.form trail.now.trail self.old }
+        ensures form { self.new.form ≡ self.old.form }
+        ensures trail { self.new.trail ≡ trail.now.trail }
+    {
         while self.multipliers.len() < trail.len() {
             self.follow_quietly(trail);
         }
-        Some(self.multipliers.bound())
+    }
+
+    /// A literal as `fixed_literal` gives it, where the multipliers were used at the node that was judged last: for what is assumed
+    /// below it and taken back at once. All variables are looked at.
+    pub fn fixed_at_hand(&mut self, trail: &TrailView<'_, C>, limit: Number) -> Option<Lit>
+        requires { IsBeside trail.now.form trail.now.trail self.old }
+        ensures fixed { IfSome result (IsFixed trail.now.form trail.now.trail limit) }
+        ensures beside { IsBeside trail.now.form trail.now.trail self.new }
+    {
+        if !self.was_used {
+            return None;
+        }
+        self.follow_to_end(trail);
+        if self.multipliers.bound() > limit {
+            return None;
+        }
+        self.reduced_cost_fixing
+            .find_in_all(&self.multipliers, limit)
     }
 
     /// A literal that every completion of the trail that costs no more than the limit makes true, and that has no value yet,
@@ -444,7 +471,18 @@ impl<C: Coefficient> Relaxation<C> {
         requires { lit.var ≤ self.now.form.vars }
         ensures { result.var ≡ lit.var }
     {
-        if !self.is_used || !self.multipliers.difference(lit).is_positive() {
+        if !self.is_used {
+            return lit;
+        }
+        self.cheaper_at_hand(lit, cost)
+    }
+
+    /// As `cheaper`, where the multipliers were used at the node that was judged last.
+    pub fn cheaper_at_hand(&self, lit: Lit, cost: Counter<C>) -> Lit
+        requires { lit.var ≤ self.now.form.vars }
+        ensures { result.var ≡ lit.var }
+    {
+        if !self.was_used || !self.multipliers.difference(lit).is_positive() {
             return lit;
         }
         if !cost.is_zero() && self.is_called_for(lit.negate(), cost) {

@@ -1,6 +1,6 @@
 use Rattle.std.proofs.Common.{◌≡◌, ◌-◌, length}
 use Rattle.pb_lagrange.specs.Relaxation.{IsBeside}
-use Rattle.pb_lagrange.proofs.relaxation.Relaxation.bound_at_hand.Given as goal
+use Rattle.pb_lagrange.proofs.relaxation.Relaxation.follow_to_end.Given as goal
 
 abbrev pub invariant-loop-self : goal.invariant-loop-self
 invariant-loop-self g l = record {
