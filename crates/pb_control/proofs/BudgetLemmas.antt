@@ -37,3 +37,19 @@ paid_of_more count None None some e = refl
 paid_of_more count None (Some n) some e = let bad : ⊥ = cc in absurd bad
 paid_of_more count (Some b) None some e = let bad : ⊥ = cc in absurd bad
 paid_of_more count (Some b) (Some n) some e = let same : b ≡ n + count = cc in omega arith
+
+-- what was paid stays paid
+pub paid_before : (budget left less : Option ℕ) → IsPaidFrom budget left → IsLeftOf left less → IsPaidFrom budget less
+paid_before None None less h e = e
+paid_before None (Some n) less h e = let bad : ⊥ = cc in absurd bad
+paid_before (Some b) None less h e = absurd h
+paid_before (Some b) (Some m) None h e = absurd e
+paid_before (Some b) (Some m) (Some n) h e = omega arith
+
+-- what is paid later is paid
+pub paid_after : (budget left less : Option ℕ) → IsLeftOf budget left → IsPaidFrom left less → IsPaidFrom budget less
+paid_after None None less h e = e
+paid_after None (Some n) less h e = let bad : ⊥ = cc in absurd bad
+paid_after (Some b) None less h e = absurd h
+paid_after (Some b) (Some m) None h e = absurd e
+paid_after (Some b) (Some m) (Some n) h e = omega arith

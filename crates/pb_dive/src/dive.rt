@@ -1,4 +1,4 @@
-//! The way down: literals of the relaxation's point are rounded one after another, those nearest to a whole value first.
+//! The way down: one decision after another, and back where one leads to a conflict.
 //! Source: [B06]
 
 ghost use Rattle.std.specs.Prelude.{◌≡◌, ◌≢◌, ◌≤◌, ◌+◌, false, length, Some, IfSome};
@@ -9,10 +9,13 @@ ghost use Rattle.pb_engine.specs.Soundness.{IsSoundTrail};
 ghost use Rattle.pb_control.specs.Budget.{one_more, with_more};
 ghost use Rattle.pb_dive.specs.Dives.{LeadsBack, IsGoingOn, IsTakenBackTo};
 
+use crate::choice::next_decision;
+use crate::course::{Course, Way};
 use crate::path::{DiveBranch, DivePath};
-use crate::steps::{free_variables, next_planned, next_within, plan_again, plunge, turn};
+use crate::steps::{free_variables, is_over_limit, next_below, plan_again, plunge, turn};
 use pb_engine::{Coefficient, EngineAt, Step};
 use pb_inst::Number;
+use pb_order::Order;
 
 /// How many decisions a dive makes at most, so that it ends on great instances too: below some 60,000 variables conflicts and
 /// work end it sooner.
@@ -40,33 +43,39 @@ pub struct Descent {
     pub decisions: u64,
 }
 
-/// A dive begins: the first-order method plans it. Gives the first decision, or none where every variable has a value.
+/// A dive on this course begins: where it goes by a plan, the first-order method makes one. Gives the first decision, or none where
+/// every variable has a value.
 pub fn begin_descent<C: Coefficient>(
     engine: &mut EngineAt<C>,
     path: &mut DivePath,
+    order: &mut Order,
+    course: Course,
 ) -> Option<DiveBranch>
     requires few { engine.old.vars ≤ MAX_VARS }
     requires no_conflict { engine.old.conflict ≡ false }
     ensures unchanged { engine.new ≡ engine.old }
     ensures free { IfSome result (λ b. IsFree engine.old b.lit) }
 {
-    path.begin(engine.vars(), free_variables(engine));
-    engine.plan(FIRST_STEPS);
-    next_planned(engine, path, 0)
+    path.begin(engine.vars(), free_variables(engine), course);
+    if course.way == Way::Plan {
+        engine.plan(FIRST_STEPS);
+    }
+    order.return_to(engine.vars());
+    next_decision(engine, path, order, 0)
 }
 
-/// Goes down towards a full trail by at most `most` decisions, of which `first` is the next one. It assumes the planned literals
-/// in their order, and a variable that is not planned as 0. After a conflict it flips the last decision that it can, none of
-/// level `floor` or below. Where there is a limit, it compares the bound with it before each decision, since nothing that costs
-/// as much is looked for. What it assumed is left on the trail. Each decision is taken off what is left of a budget; where none
+/// Goes down towards a full trail by at most `most` decisions, of which `first` is the next one, on the course that was begun.
+/// After a conflict it flips the last decision that led to it and that it can flip, none of level `floor` or below. Where `cost` is
+/// given, it compares the bound with it before each decision, since nothing that costs as much is looked for. What it assumed is left on the trail. Each decision is taken off what is left of a budget; where none
 /// is left the dive is over. A dive that was not over goes on with the decision that it answers.
 pub fn descend<C: Coefficient>(
     engine: &mut EngineAt<C>,
     path: &mut DivePath,
+    order: &mut Order,
     first: DiveBranch,
     floor: u32,
     most: u64,
-    limit: Option<Number>,
+    cost: Option<Number>,
     left: &mut Option<u64>,
 ) -> Descent
     requires few { engine.old.vars ≤ MAX_VARS }
@@ -84,10 +93,10 @@ pub fn descend<C: Coefficient>(
         if *left == Some(0) {
             return ended(Progress::Stuck, made);
         }
-        let Some(within) = next_within(engine, path, branch, floor, limit) else {
+        let Some(below) = next_below(engine, path, order, branch, floor, cost) else {
             return ended(Progress::Stuck, made);
         };
-        match advance(engine, path, within, floor, left) {
+        match advance(engine, path, order, below, floor, left) {
             Progress::Next(next) => branch = next,
             Progress::Full => return ended(Progress::Full, made + 1),
             Progress::Stuck => return ended(Progress::Stuck, made + 1),
@@ -107,11 +116,12 @@ fn ended(progress: Progress, decisions: u64) -> Descent
     }
 }
 
-/// Makes the decision, and takes it off what is left. Answers how the dive goes on: by the next decision, or after a conflict by
-/// flipping the last one that it can.
+/// Makes the decision, and takes it off what is left. Answers how the dive goes on: by the next decision, or after a conflict, or a
+/// bound over the limit, by flipping an earlier one.
 fn advance<C: Coefficient>(
     engine: &mut EngineAt<C>,
     path: &mut DivePath,
+    order: &mut Order,
     branch: DiveBranch,
     floor: u32,
     left: &mut Option<u64>,
@@ -133,27 +143,30 @@ fn advance<C: Coefficient>(
     let step = plunge(engine, lit, left);
     // Before the conflict is looked at, or else a dive from conflict to conflict would pay for nothing.
     path.charge(engine.trail_len().saturating_sub(before));
-    if step == Step::Conflict {
-        return turned_back(engine, path, floor);
+    if step == Step::Conflict || is_over_limit(engine, path) {
+        return turned_back(engine, path, order, floor);
     }
     plan_again(engine, path);
-    match next_planned(engine, path, path.place_after(plan, next)) {
+    let from = path.place_after(plan, next);
+    match next_decision(engine, path, order, from) {
         Some(next) => Progress::Next(next),
         None => Progress::Full,
     }
 }
 
-/// After a conflict: how the dive goes on.
+/// After a conflict, or a bound over the limit: how the dive goes on.
 fn turned_back<C: Coefficient>(
     engine: &mut EngineAt<C>,
     path: &mut DivePath,
+    order: &mut Order,
     floor: u32,
 ) -> Progress
     requires sound { IsSoundTrail engine.old }
     ensures taken_back { IsTakenBackTo floor engine.old engine.new }
     ensures next { IsGoingOn engine.new result }
 {
-    match turn(engine, path, floor) {
+    path.blame(order, engine);
+    match turn(engine, path, order, floor) {
         Some(next) => Progress::Next(next),
         None => Progress::Stuck,
     }

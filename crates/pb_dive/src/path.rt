@@ -2,12 +2,15 @@
 
 ghost use Rattle.std.specs.Prelude.{◌≡◌, ◌<◌, IfSome, vec_len};
 
+use crate::course::Course;
+use pb_engine::{Coefficient, EngineAt};
 use pb_inst::{Lit, Memory};
+use pb_order::Order;
 use std::alloc::Global;
 
-/// After how many conflicts a dive gives up. A dive closes nothing, so what it took is lost where it leads to nothing. Chosen by
-/// hand.
-const MAX_CONFLICTS: u32 = 4_000;
+/// The literals that a limit fixes are looked for again once the gap to it has fallen by one in this many parts, because all
+/// variables are looked at. With 8 in place of 2 the decisions are nearly the same.
+const GAP_PARTS: u64 = 2;
 
 /// How many literals a dive may add for each variable before a conflict ends it: as many as 64 full trails have, so that a dive
 /// costs little beside the search. Chosen by hand.
@@ -22,8 +25,10 @@ pub struct DiveBranch {
     pub plan: u32,
     /// The place after it in that plan.
     pub next: usize,
-    /// Whether its negation was tried before.
+    /// Whether its negation is not to be tried: it was before, or a limit fixes the literal.
     pub flipped: bool,
+    /// How many variables the search's order had left.
+    pub left: u32,
 }
 
 /// The decisions that stand on the trail, the earliest first, and how far the dive may still go. No step takes memory.
@@ -38,11 +43,19 @@ pub struct DivePath {
     plans: u32,
     /// How many variables had no value when the last plan was made.
     free: usize,
+    course: Course,
+    /// The gap to the limit where it fixed no further literal, if that is known of the trail.
+    gap: Option<u64>,
+    /// The variables of the decisions that led to the last conflict, those made last first; none where that is not known.
+    blamed: Vec<u32>,
+    /// How many of them were taken back.
+    passed: usize,
 }
 
 impl DivePath {
     /// Room for a decision of each variable.
     pub fn new(alloc: Global, vars: u32) -> Result<DivePath, Memory> {
+        let blamed = Vec::with_capacity(alloc, vars as usize)?;
         let decisions = Vec::with_capacity(alloc, vars as usize)?;
         Ok(DivePath {
             decisions,
@@ -51,11 +64,17 @@ impl DivePath {
             most_work: 0,
             plans: 0,
             free: 0,
+            course: Course::by_plan(),
+            gap: None,
+            blamed,
+            passed: 0,
         })
     }
 
-    /// A dive begins, over `vars` variables of which `free` have no value. The first plan is made.
-    pub fn begin(&mut self, vars: u32, free: usize) {
+    /// A dive on this course begins, over `vars` variables of which `free` have no value. The first plan is made.
+    pub fn begin(&mut self, vars: u32, free: usize, course: Course) {
+        self.course = course;
+        self.forget_blame();
         self.decisions.clear();
         self.conflicts = 0;
         self.work = 0;
@@ -112,6 +131,53 @@ impl DivePath {
     {
         self.conflicts = self.conflicts.saturating_add(1);
         // Work is compared at conflicts alone, so that a dive that meets none goes down to a full trail whatever that adds.
-        self.conflicts <= MAX_CONFLICTS && self.work <= self.most_work
+        self.conflicts <= self.course.conflicts && self.work <= self.most_work
+    }
+
+    /// What the dive goes by.
+    pub fn course(&self) -> Course {
+        self.course
+    }
+
+    /// Whether literals that the limit fixes are to be looked for, where this is the gap to it.
+    pub fn is_gap_new(&self, gap: Option<u64>) -> bool {
+        match (self.gap, gap) {
+            (Some(last), Some(now)) => now > last || now <= last - last / GAP_PARTS,
+            _ => true,
+        }
+    }
+
+    /// At this gap the limit fixes no further literal.
+    pub fn note_gap(&mut self, gap: Option<u64>) {
+        self.gap = gap;
+    }
+
+    /// Decisions are taken back next. Which of them led to that is known where a conflict stands.
+    pub fn blame<C: Coefficient>(&mut self, order: &mut Order, engine: &EngineAt<C>) {
+        self.forget_blame();
+        order.blame(engine.propagator(), &mut self.blamed);
+    }
+
+    /// Decisions are taken back next, and it is not known which of them led to that.
+    pub fn forget_blame(&mut self)
+        ensures { vec_len self.new.decisions ≡ vec_len self.old.decisions }
+    {
+        self.gap = None;
+        self.passed = 0;
+        self.blamed.clear();
+    }
+
+    /// The decision of the variable was taken back. Answers whether it led to that, or that is not known.
+    pub fn take_blame(&mut self, var: u32) -> bool
+        ensures { vec_len self.new.decisions ≡ vec_len self.old.decisions }
+    {
+        if self.blamed.is_empty() {
+            return true;
+        }
+        let is_blamed = self.blamed.get(self.passed) == Some(&var);
+        if is_blamed {
+            self.passed += 1;
+        }
+        is_blamed
     }
 }

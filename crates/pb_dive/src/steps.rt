@@ -8,10 +8,12 @@ ghost use Rattle.pb_engine.specs.Soundness.{IsFull, IsSolved, IsSoundTrail};
 ghost use Rattle.pb_control.specs.Budget.{one_more};
 ghost use Rattle.pb_dive.specs.Dives.{IsTakenBackTo, LeadsBack};
 
+use crate::course::Way;
 use crate::path::{DiveBranch, DivePath};
 use pb_control::count_down;
-use pb_engine::{Coefficient, EngineAt, Step, is_free, lowest_free};
+use pb_engine::{Coefficient, EngineAt, Step, is_free};
 use pb_inst::{Lit, Number};
+use pb_order::Order;
 
 /// How many steps the method makes for each plan after the first one. They go on from the last point, so few serve. Chosen by
 /// hand.
@@ -35,11 +37,12 @@ pub fn plunge<C: Coefficient>(engine: &mut EngineAt<C>, lit: Lit, left: &mut Opt
     engine.propagate()
 }
 
-/// Takes decisions back to the last one that was not flipped yet, and gives its other value as the next decision; none where
-/// there is no such decision, or the dive took too long.
+/// Takes decisions back to the last one that led to that, as far as the path knows, and was not flipped yet, and gives its other
+/// value as the next decision; none where there is no such decision, or the dive took too long.
 pub fn turn<C: Coefficient>(
     engine: &mut EngineAt<C>,
     path: &mut DivePath,
+    order: &mut Order,
     floor: u32,
 ) -> Option<DiveBranch>
     requires sound { IsSoundTrail engine.old }
@@ -55,22 +58,27 @@ pub fn turn<C: Coefficient>(
         if !take_back_last(engine, floor) {
             return None;
         }
-        // The path promises nothing, so the engine is asked whether the literal has no value.
-        if !last.flipped && is_free(engine, vars, last.lit) {
+        // So that the order gives again what it gave above this decision.
+        order.return_to(last.left.min(vars));
+        // A decision that had no part in it is taken back too: a dive closes nothing, so nothing is lost with it. The path promises
+        // nothing, so the engine is asked whether the literal has no value.
+        let is_to_blame = path.take_blame(last.lit.var());
+        if is_to_blame && !last.flipped && is_free(engine, vars, last.lit) {
             return Some(turned(last));
         }
     }
     None
 }
 
-/// The decision to make next below the limit, if there is one: `branch` where the bound is below it, and else the other value of
-/// an earlier decision, as after a conflict. None where nothing is left to try.
-pub fn next_within<C: Coefficient>(
+/// The decision to make next where all is to cost less than `cost`, if that is given: `branch` where the bound is below it, and else
+/// the other value of an earlier decision, as after a conflict. None where nothing is left to try.
+pub fn next_below<C: Coefficient>(
     engine: &mut EngineAt<C>,
     path: &mut DivePath,
+    order: &mut Order,
     branch: DiveBranch,
     floor: u32,
-    limit: Option<Number>,
+    cost: Option<Number>,
 ) -> Option<DiveBranch>
     requires sound { IsSoundTrail engine.old }
     requires free { IsFree engine.old branch.lit }
@@ -78,17 +86,18 @@ pub fn next_within<C: Coefficient>(
     ensures free { IfSome result (λ b. IsFree engine.new b.lit) }
 {
     let mut branch = branch;
-    while is_beyond(engine, limit) {
-        branch = turn(engine, path, floor)?;
+    while is_beyond(engine, cost) {
+        path.forget_blame();
+        branch = turn(engine, path, order, floor)?;
     }
     Some(branch)
 }
 
-/// Whether every completion of the trail costs as much as the limit, if there is one, by the bound of disjoint rows.
-fn is_beyond<C: Coefficient>(engine: &mut EngineAt<C>, limit: Option<Number>) -> bool
+/// Whether every completion of the trail costs as much as `cost`, if that is given, by the bound of disjoint rows.
+fn is_beyond<C: Coefficient>(engine: &mut EngineAt<C>, cost: Option<Number>) -> bool
     ensures { engine.new ≡ engine.old }
 {
-    match limit {
+    match cost {
         Some(cost) => engine.bound() >= cost,
         None => false,
     }
@@ -120,11 +129,21 @@ fn take_back_last<C: Coefficient>(engine: &mut EngineAt<C>, floor: u32) -> bool
     true
 }
 
-/// Plans anew where that is due.
+/// Whether the bound of the multipliers is over the limit of the dive, if it has one.
+pub fn is_over_limit<C: Coefficient>(engine: &mut EngineAt<C>, path: &DivePath) -> bool
+    ensures { engine.new ≡ engine.old }
+{
+    let Some(limit) = path.course().limit else {
+        return false;
+    };
+    engine.bound_at_hand() > Some(limit)
+}
+
+/// Plans anew where the dive goes by a plan and that is due.
 pub fn plan_again<C: Coefficient>(engine: &mut EngineAt<C>, path: &mut DivePath)
     ensures { engine.new ≡ engine.old }
 {
-    if path.take_plan(free_variables(engine)) {
+    if path.course().way == Way::Plan && path.take_plan(free_variables(engine)) {
         engine.plan(STEPS);
     }
 }
@@ -132,53 +151,4 @@ pub fn plan_again<C: Coefficient>(engine: &mut EngineAt<C>, path: &mut DivePath)
 /// How many variables have no value.
 pub fn free_variables<C: Coefficient>(engine: &EngineAt<C>) -> usize {
     (engine.vars() as usize).saturating_sub(engine.trail_len())
-}
-
-/// The next decision: the first literal of the plan, from the place on, whose variable has no value; else the lowest variable
-/// without one, as 0; or none where each variable has one.
-pub fn next_planned<C: Coefficient>(
-    engine: &EngineAt<C>,
-    path: &DivePath,
-    from: usize,
-) -> Option<DiveBranch>
-    requires few { engine.now.vars ≤ MAX_VARS }
-    requires no_conflict { engine.now.conflict ≡ false }
-    ensures free { IfSome result (λ b. IsFree engine.now b.lit) }
-    ensures full { IfNone result (IsFull engine.now) }
-{
-    if let Some(branch) = first_planned(engine, path, from) {
-        return Some(branch);
-    }
-    // The plan names no free literal from here on, so no decision below reads it again.
-    let lit = lowest_free(engine, engine.vars())?;
-    Some(DiveBranch {
-        lit,
-        plan: path.plan(),
-        next: usize::MAX,
-        flipped: false,
-    })
-}
-
-/// The first literal of the plan, from the place on, whose variable has no value; none where the plan has no such literal.
-fn first_planned<C: Coefficient>(
-    engine: &EngineAt<C>,
-    path: &DivePath,
-    from: usize,
-) -> Option<DiveBranch>
-    requires no_conflict { engine.now.conflict ≡ false }
-    ensures free { IfSome result (λ b. IsFree engine.now b.lit) }
-{
-    let vars = engine.vars();
-    for place in from..vars as usize {
-        let lit = engine.planned(place)?;
-        if is_free(engine, vars, lit) {
-            return Some(DiveBranch {
-                lit,
-                plan: path.plan(),
-                next: place + 1,
-                flipped: false,
-            });
-        }
-    }
-    None
 }

@@ -174,6 +174,42 @@ impl Order {
         }
     }
 
+    /// Where a conflict stands: writes into the list the variables of the decisions that led to it, those made last first, as far
+    /// as there is room.
+    /// Source: [MS99]
+    pub fn blame<C: Coefficient>(&mut self, propagator: &Propagator<C>, into: &mut Vec<u32>) {
+        into.clear();
+        let Some(row) = propagator.conflict_row() else {
+            return;
+        };
+        self.analysis.begin();
+        self.analysis.add_row(propagator, propagator.row_terms(row));
+        for place in (0..propagator.trail_len()).rev() {
+            if !self.analysis.are_waiting() {
+                return;
+            }
+            let var = propagator.literal(place).var();
+            if self.analysis.meet(var) {
+                self.blame_variable(propagator, var, into);
+            }
+        }
+    }
+
+    /// The variable led to the conflict: a decision is written into the list, and of a literal that was forced those of the row
+    /// that forced it led to it too.
+    fn blame_variable<C: Coefficient>(
+        &mut self,
+        propagator: &Propagator<C>,
+        var: u32,
+        into: &mut Vec<u32>,
+    ) {
+        if let Some(row) = propagator.reason(var) {
+            self.analysis.add_row(propagator, propagator.row_terms(row));
+        } else if into.len() < into.capacity() {
+            into.push_reserved(var);
+        }
+    }
+
     /// Bumps the activities of the variables of a row.
     fn bump_row<C: Coefficient>(&mut self, row: RowTerms<'_, C>) {
         match row {

@@ -10,3 +10,4 @@ pub mod DivingLemmas
 pub mod ProbingLemmas
 pub mod ExpandLemmas
 pub mod GoesOnLemmas
+pub mod RoundLemmas

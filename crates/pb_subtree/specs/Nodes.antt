@@ -1,5 +1,5 @@
 -- What the work at a node leaves, and what comes next.
-use Rattle.std.specs.Prelude.{◌≡◌, ◌⊎◌, ℕ, Bool, false, IsSomeAnd, IfSome, IfNone, List, Option}
+use Rattle.std.specs.Prelude.{◌≡◌, ◌⊎◌, ℕ, Bool, false, true, IsSomeAnd, IfSome, IfNone, List, Option}
 use Rattle.pb_inst.specs.Incumbent.{Incumbent, Solution}
 use Rattle.pb_inst.specs.Literal.{Literal}
 use Rattle.pb_inst.specs.Problem.{Problem}
@@ -8,7 +8,7 @@ use Rattle.pb_prune.specs.declared.agreed_prefix.AgreedPrefix.{AgreedPrefix}
 use Rattle.pb_engine.specs.EngineState.{EngineState}
 use Rattle.pb_engine.specs.Free.{IsFree}
 use Rattle.pb_engine.specs.Soundness.{IsFull, IsSolved, IsSoundTrail}
-use Rattle.pb_control.specs.Budget.{IsLeftOf}
+use Rattle.pb_control.specs.Budget.{IsLeftOf, IsPaidFrom}
 use Rattle.pb_control.specs.declared.branch.Branch.{Branch}
 use Rattle.pb_subtree.specs.declared.run.Run.{Run}
 use Rattle.pb_subtree.specs.declared.search_state.SearchState.{SearchState}
@@ -80,6 +80,12 @@ pub record IsBackFromDive {C : Type 0} (lends : Bool) (old new : SearchState C) 
   pub same_branches : SameBranches old new
   pub moves_on : MovesOn before after
   pub own : lends ≡ false → IsFoundAt old.engine before after
+
+-- the search dived once or more, is where it was, and goes on; dives to something better took decisions off the budget, unless the trail was full before
+pub record IsDived {C S : Type 0} (keeps : S → S → Type 0) (lends : S → Bool) (old new : S) (t u : SearchState C) (i j : Incumbent) (before after : Run) (better : Bool) : Type 0 where
+  pub back : IsBackFromDive (lends old) t u i j
+  pub goes_on : GoesOn keeps lends old new u.engine.trail j.held before after
+  pub paid : better ≡ true → IsFull t.engine ⊎ IsPaidFrom before.left after.left
 
 -- the search is under way to the decision to make next, or finished where there is none
 pub record IsFurther {C : Type 0} (lends : Bool) (old new : SearchState C) (before after : Incumbent) (next : Option Branch) : Type 0 where

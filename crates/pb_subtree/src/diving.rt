@@ -10,15 +10,15 @@ ghost use Rattle.pb_prune.specs.AgreedPrefix.{KnowsHeldPrefix};
 ghost use Rattle.pb_dive.specs.Dives.{LeadsBack};
 ghost use Rattle.pb_control.specs.Budget.{IsPaidFrom};
 ghost use Rattle.pb_subtree.specs.Descent.{IsDescentPaid};
-ghost use Rattle.pb_subtree.specs.Nodes.{GoesOn, IsAtLeaf, IsAtNode, IsFoundAt, IsBackFromDive, StaysWhileHeld};
+ghost use Rattle.pb_subtree.specs.Nodes.{GoesOn, IsAtLeaf, IsAtNode, IsDived, IsFoundAt, IsBackFromDive, StaysWhileHeld};
 ghost use Rattle.pb_subtree.specs.SearchState.{IsStateOf, SameBranchesAndRoom, SameBranches};
 
 use crate::Share;
-use crate::improvement::Origin;
+use crate::improvement::{Origin, work_anew};
 use crate::incumbent::{borrow_after, take_leaf};
 use crate::run::Run;
 use crate::search_state::SearchState;
-use pb_dive::{MAX_DECISIONS, Progress, begin_descent, descend};
+use pb_dive::{Course, MAX_DECISIONS, MOST_DIVES, Progress, Round, begin_descent, descend};
 use pb_engine::Coefficient;
 use pb_inst::{Best, Number};
 use pb_prune::AgreedPrefix;
@@ -42,8 +42,59 @@ pub fn dive_from_root<C: Coefficient, S: Share>(
     let Some(most) = work.take_dive(&state.branches, length, best.cost(), run.left) else {
         return false;
     };
+    let is_better = dive_in_round(state, best, share, run, most);
+    work_anew(state, is_better);
+    is_better
+}
+
+/// Makes the dives of a round one after another, by at most `most` decisions in all. Answers whether one led to a better
+/// assignment.
+fn dive_in_round<C: Coefficient, S: Share>(
+    state: &mut SearchState<C>,
+    best: &mut Best<'_>,
+    share: &mut S,
+    run: &mut Run,
+    most: u64,
+) -> bool
+    requires node { IsAtNode best.old.problem state.old best.old.held run.old.agreed }
+    requires no_conflict { state.old.engine.conflict ≡ false }
+    ensures { IsDived S.keeps S.lends share.old share.new state.old state.new best.old best.new run.old run.new result }
+{
+    let bound = state.engine.bound_at_hand();
+    let mut round = Round::new(bound.max(state.root_work.root_bound()));
+    let mut rest = most;
+    let mut is_better = false;
+    for _ in 0..MOST_DIVES {
+        if rest == 0 {
+            return is_better;
+        }
+        let Some(course) = round.next() else {
+            return is_better;
+        };
+        let has_led = dive_once(state, best, share, run, course, &mut rest);
+        round.note(has_led, best.cost());
+        if has_led {
+            is_better = true;
+        }
+    }
+    is_better
+}
+
+/// Dives on the course, by at most `rest` decisions, which are taken off that. Answers whether it led to a better assignment.
+fn dive_once<C: Coefficient, S: Share>(
+    state: &mut SearchState<C>,
+    best: &mut Best<'_>,
+    share: &mut S,
+    run: &mut Run,
+    course: Course,
+    rest: &mut u64,
+) -> bool
+    requires node { IsAtNode best.old.problem state.old best.old.held run.old.agreed }
+    requires no_conflict { state.old.engine.conflict ≡ false }
+    ensures { IsDived S.keeps S.lends share.old share.new state.old state.new best.old best.new run.old run.new result }
+{
     let level = state.engine.level();
-    let is_full = go_down(state, best, share, run, most);
+    let is_full = go_down(state, best, share, run, course, rest);
     let is_better = take_where_full(state, best, share, &mut run.agreed, is_full);
     // A dive closes nothing, so all of it is taken back.
     state.engine.undo_to(level);
@@ -65,14 +116,15 @@ pub fn renew_at_root<C: Coefficient>(state: &mut SearchState<C>, best: &Best<'_>
     }
 }
 
-/// Goes down from where the search stands, by at most `most` decisions, each of which is taken off what is left. Between two of
-/// them the share is asked where that is due. Answers whether the trail is full.
+/// Goes down from where the search stands, by at most `rest` decisions, each of which is taken off that and off what is left of the
+/// budget. Between two of them the share is asked where that is due. Answers whether the trail is full.
 fn go_down<C: Coefficient, S: Share>(
     state: &mut SearchState<C>,
     best: &mut Best<'_>,
     share: &mut S,
     run: &mut Run,
-    most: u64,
+    course: Course,
+    rest: &mut u64,
 ) -> bool
     requires state { IsStateOf best.old.problem state.old }
     requires sound { IsSoundTrail state.old.engine }
@@ -90,20 +142,29 @@ fn go_down<C: Coefficient, S: Share>(
     ensures paid { IsDescentPaid state.old.engine state.new.engine run.old.left run.new.left }
 {
     let floor = state.engine.level();
-    let first = begin_descent(&mut state.engine, &mut state.dive);
+    let (path, order) = (&mut state.dive, &mut state.order);
+    let first = begin_descent(&mut state.engine, path, order, course);
     let Some(mut branch) = first else {
         return false;
     };
-    let mut rest = most.min(MAX_DECISIONS);
     for _ in 0..MAX_DECISIONS {
         // In parts, so that the share is asked as often as between decisions of the search.
-        let part = rest.min(state.root_work.until_look());
+        let part = (*rest).min(state.root_work.until_look());
         // In each part anew, because what the share gave may have lowered the best cost.
-        let limit = limit_below(best, run.left);
-        let path = &mut state.dive;
+        let cost = cost_to_beat(best, run.left);
+        let (path, order) = (&mut state.dive, &mut state.order);
         let left = &mut run.left;
-        let descent = descend(&mut state.engine, path, branch, floor, part, limit, left);
-        rest = rest.saturating_sub(descent.decisions);
+        let descent = descend(
+            &mut state.engine,
+            path,
+            order,
+            branch,
+            floor,
+            part,
+            cost,
+            left,
+        );
+        *rest = (*rest).saturating_sub(descent.decisions);
         let (agreed, made) = (&mut run.agreed, descent.decisions);
         borrow_after(state, best, share, agreed, made, Origin::LentToDive);
         match descent.progress {
@@ -111,16 +172,16 @@ fn go_down<C: Coefficient, S: Share>(
             Progress::Full => return true,
             Progress::Stuck => return false,
         }
-        if rest == 0 {
+        if *rest == 0 {
             return false;
         }
     }
     false
 }
 
-/// The cost below which a dive looks for an assignment. With a budget each decision that is counted has a bound before it;
-/// without one there is no limit, since bounds would cost more than they save.
-fn limit_below(best: &Best<'_>, left: Option<u64>) -> Option<Number> {
+/// The cost that the bound is compared with before each decision of a dive. With a budget each decision that is counted has a bound
+/// before it; without one there is none, since bounds would cost more than they save.
+fn cost_to_beat(best: &Best<'_>, left: Option<u64>) -> Option<Number> {
     if left.is_some() { best.cost() } else { None }
 }
 

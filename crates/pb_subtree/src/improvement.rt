@@ -45,11 +45,8 @@ pub fn tell<C: Coefficient>(
             state.root_work.note_full(is_better);
             learn_values(&mut state.order, best, is_better);
         }
-        // The search is back at its root, where more may be fixed now, so work begins there again.
-        Origin::Dive => {
-            agreed.begin_again(best);
-            work_anew(state, is_better);
-        }
+        // Work begins at the root again, but only once the round of dives is over.
+        Origin::Dive => agreed.begin_again(best),
         // It was found elsewhere, so a bound of this trail may be over its cost.
         Origin::Lent => agreed.begin_with_borrowed(best),
         // So that the node at which the dive began is expanded again.
@@ -60,8 +57,9 @@ pub fn tell<C: Coefficient>(
     }
 }
 
-/// Has the root worked on again if the best assignment has improved, with multipliers that are improved anew.
-fn work_anew<C: Coefficient>(state: &mut SearchState<C>, is_better: bool)
+/// Has the root worked on again if dives from there led to a better assignment, because more may be fixed now, with multipliers that
+/// are improved anew.
+pub fn work_anew<C: Coefficient>(state: &mut SearchState<C>, is_better: bool)
     ensures engine { state.new.engine ≡ state.old.engine }
     ensures beside { SameBranchesAndRoom state.old state.new }
 {

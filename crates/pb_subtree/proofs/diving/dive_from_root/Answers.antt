@@ -1,70 +1,23 @@
-use Rattle.std.proofs.Common.{◌≡◌, ◌∙◌, ap, sym, subst}
-use Rattle.pb_inst.specs.Incumbent.{Incumbent}
-use Rattle.pb_inst.specs.Problem.{Problem}
-use Rattle.pb_dive.specs.Dives.{LeadsBack}
-use Rattle.pb_dive.proofs.DiveLemmas.{levels_within, back_at_start}
+use Rattle.std.proofs.Common.{refl, subst, sym}
 use Rattle.pb_engine.specs.EngineState.{EngineState}
 use Rattle.pb_prune.specs.AgreedPrefix.{KnowsHeldPrefix}
-use Rattle.pb_subtree.specs.Nodes.{IsFoundAt}
 use Rattle.pb_subtree.specs.declared.search_state.SearchState.{SearchState}
-use Rattle.pb_prune.specs.Subtree.{IsEngineOf}
-use Rattle.pb_control.proofs.BudgetLemmas.{left_of_more}
-use Rattle.pb_subtree.proofs.HeldLemmas.{moves_onward}
-use Rattle.pb_subtree.proofs.SearchLemmas.{same_engine}
-use Rattle.pb_subtree.proofs.DivingLemmas.{dive_constraints, own_at_start, dive_is_paid, same_branches_back}
+use Rattle.pb_subtree.proofs.RoundLemmas.{back_beside}
 use Rattle.pb_subtree.proofs.diving.dive_from_root.Goals as goal
-
-pub take_where_full-is_better-requires : goal.take_where_full-is_better-requires
-take_where_full-is_better-requires g c full =
-    let down = c.go_down-is_full.ensures in
-    record {
-      engine = subst (λ (p : Problem). IsEngineOf p c.go_down-is_full.new.state.engine) (sym down.moves_on.same_instance)
-          (same_engine c.args.best.now.problem c.args.state.now.engine c.go_down-is_full.new.state.engine (dive_constraints c.args.state.now.engine c.go_down-is_full.new.state.engine down.back) c.requires.node.state.engine);
-      room = down.beside.room ∙ (c.requires.node.state.candidate ∙ ap (λ (p : Problem). p.vars) (sym down.moves_on.same_instance));
-      full = down.full full;
-      solved = down.solved full;
-      sound = down.sound;
-    }
-
-back_to_end : {C : Type 0} (start : EngineState) (mid end : SearchState C) → end.engine ≡ mid.engine → LeadsBack start mid.engine → LeadsBack start end.engine
-back_to_end start mid end same back = subst (λ (e : EngineState). LeadsBack start e) (sym same) back
-
-pub undo_to-requires : goal.undo_to-requires
-undo_to-requires g c =
-    rw c.level-level.ensures.count
-    (levels_within c.args.state.now.engine c.take_where_full-is_better.new.state.engine (back_to_end c.args.state.now.engine c.go_down-is_full.new.state c.take_where_full-is_better.new.state c.take_where_full-is_better.ensures.stays.engine c.go_down-is_full.ensures.back))
 
 pub returns-clause-back : goal.returns-clause-back
 returns-clause-back g c =
-    let start = c.args.state.now.engine in
-    let mid : SearchState _ = c.go_down-is_full.new.state in
-    let end : SearchState _ = c.take_where_full-is_better.new.state in
-    let same : c.undo_to.new.self ≡ start = back_at_start start end.engine c.undo_to.new.self (back_to_end start mid end c.take_where_full-is_better.ensures.stays.engine c.go_down-is_full.ensures.back) (rw c.level-level.ensures.count at c.undo_to.ensures.undone) in
-    let back : SearchState _ = record end { engine = c.undo_to.new.self } in
-    let first = c.go_down-is_full.ensures.beside in
-    let second = c.take_where_full-is_better.ensures.stays.beside in
-    record {
-      taken_back = same;
-      same_branches = same_branches_back c.args.state.now back same (record { branches = second.branches ∙ first.branches; room = second.room ∙ first.room; returns = second.returns ∙ (first.returns ∙ c.take_dive.ensures) });
-      moves_on = moves_onward c.args.best.now c.go_down-is_full.new.best c.take_where_full-is_better.new.best c.go_down-is_full.ensures.moves_on c.take_where_full-is_better.ensures.stays.moves_on;
-      own = λ alone. subst (λ (i : Incumbent). IsFoundAt start i c.take_where_full-is_better.new.best) (c.go_down-is_full.ensures.own alone)
-          (own_at_start start mid.engine c.go_down-is_full.new.best c.take_where_full-is_better.new.best c.go_down-is_full.ensures.back c.take_where_full-is_better.ensures.own);
-    }
+    let begun : SearchState _ = record c.args.state.now { root_work = c.take_dive.new.self } in
+    let dived = c.dive_in_round-is_better in
+    back_beside (g.S.Share.lends c.args.share.now) c.args.state.now begun dived.new.state c.work_anew.new.state c.args.best.now dived.new.best refl (record { branches = refl; room = refl; returns = c.take_dive.ensures }) c.work_anew.ensures.engine c.work_anew.ensures.beside dived.ensures.back
 
 pub returns-clause-goes_on : goal.returns-clause-goes_on
 returns-clause-goes_on g c =
-    let start = c.args.state.now.engine in
-    let end : SearchState _ = c.take_where_full-is_better.new.state in
-    let down = c.go_down-is_full.ensures in
-    let full = c.take_where_full-is_better.ensures in
-    let same : c.undo_to.new.self ≡ start = back_at_start start end.engine c.undo_to.new.self (back_to_end start c.go_down-is_full.new.state end full.stays.engine down.back) (rw c.level-level.ensures.count at c.undo_to.ensures.undone) in
+    let dived = c.dive_in_round-is_better in
+    let on = dived.ensures.goes_on in
     record {
-      kept = g.met.S.Share.keeps_onward _ _ _ down.kept full.stays.kept;
-      same_lending = full.stays.same_lending ∙ down.same_lending;
-      known = subst (λ (e : EngineState). KnowsHeldPrefix e.trail c.take_where_full-is_better.new.best.held c.take_where_full-is_better.new.agreed) (sym same)
-          (full.known start.trail (down.known start.trail c.requires.node.known));
-      budget = left_of_more down.paid.decisions c.args.run.now.left c.go_down-is_full.new.run.left down.paid.counted;
+      kept = on.kept;
+      same_lending = on.same_lending;
+      known = subst (λ (e : EngineState). KnowsHeldPrefix e.trail dived.new.best.held dived.new.run.agreed) (sym c.work_anew.ensures.engine) on.known;
+      budget = on.budget;
     }
-
-pub returns-clause-paid : goal.returns-clause-paid
-returns-clause-paid g c better = dive_is_paid c.args.state.now.engine c.go_down-is_full.new.state.engine c.args.run.now.left c.go_down-is_full.new.run.left c.go_down-is_full.ensures.back c.go_down-is_full.ensures.paid (c.go_down-is_full.ensures.full (c.take_where_full-is_better.ensures.only_full better))

@@ -1,10 +1,9 @@
-use Rattle.std.proofs.Common.{rules, ◌≡◌, ◌≤◌, ◌++◌, ℕ, List, Bool, All, ◌↔◌, subst, sym}
+use Rattle.std.proofs.Common.{rules, ◌≡◌, ◌≤◌, ℕ, List, All, subst, sym}
 use Rattle.std.proofs.lemmas.List.Elements.{All-nil}
 use Rattle.pb_inst.specs.Literal.{Literal}
 use Rattle.pb_inst.specs.Meaning.{literal_value}
 use Rattle.pb_inst.specs.Cubes.{MakesTrue}
 use Rattle.pb_engine.specs.Soundness.{assumptions}
-use Rattle.pb_prune.specs.Solutions.{SameConstraints, Satisfies}
 use Rattle.pb_trail.specs.declared.propagation.Step.TheVariants.{Fixed, Conflict}
 use Rattle.pb_subtree.proofs.Engines.{same_constraints_onward}
 use Rattle.pb_subtree.proofs.Moves.{All_front}

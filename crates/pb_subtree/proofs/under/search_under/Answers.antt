@@ -1,5 +1,4 @@
-use Rattle.std.proofs.Common.{rules, ◌≡◌, ◌≤◌, ◌∙◌, ◌++◌, ℕ, All, Option, subst, sym}
-use Rattle.pb_inst.specs.Literal.{Literal}
+use Rattle.std.proofs.Common.{rules, ◌≡◌, ◌≤◌, ◌∙◌, ◌++◌, ℕ, All, Option, subst}
 use Rattle.pb_inst.specs.Problem.{Problem}
 use Rattle.pb_control.specs.Budget.{IsLeftOf}
 use Rattle.pb_control.specs.declared.branch.Branch.{Branch}

@@ -1,7 +1,7 @@
 use Rattle.std.proofs.Common.{vec_len}
 use Rattle.pb_engine.specs.Free.{IsFree}
 use Rattle.pb_dive.specs.Dives.{IsTakenBackTo}
-use Rattle.pb_dive.proofs.steps.next_within.Given as goal
+use Rattle.pb_dive.proofs.steps.next_below.Given as goal
 
 abbrev pub invariant-loop-branch : goal.invariant-loop-branch
 invariant-loop-branch g l = record {
