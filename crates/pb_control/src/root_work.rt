@@ -86,6 +86,8 @@ pub struct RootWork {
     early: usize,
     /// Whether a search was begun that was not to go through all of it: the whole, whose pieces follow.
     has_begun_whole: bool,
+    /// Whether it was begun before this search.
+    is_after_whole: bool,
     ties: Ties,
     /// The trail's length and the best cost where no literal failed in the last round.
     done: Option<(usize, Option<Number>)>,
@@ -131,6 +133,7 @@ impl RootWork {
             cubes,
             early: 0,
             has_begun_whole: false,
+            is_after_whole: false,
             ties: Ties::new(),
             done: None,
             probing: Probing::new(is_decision),
@@ -163,7 +166,8 @@ impl RootWork {
         // What the cubes of a split leave is empty, and no work at its root tells that. Its search does, which as a rule flips
         // a decision once for each cube.
         self.early = self.cubes;
-        if self.has_begun_whole {
+        self.is_after_whole = self.has_begun_whole;
+        if self.is_after_whole {
             self.early = self.early.max(EARLY_OF_A_PIECE);
         }
         self.has_begun_whole |= turns.is_some();
@@ -264,6 +268,11 @@ impl RootWork {
         };
         let gap = last.saturating_sub(self.ties.root_bound.unwrap_or(cost));
         last > cost && last.saturating_sub(cost) >= gap / PARTS_OF_THE_GAP
+    }
+
+    /// Whether a piece of a whole is searched that was begun before.
+    pub fn is_after_whole(&self) -> bool {
+        self.is_after_whole
     }
 
     /// The greatest bound that was taken at the root, if any was.

@@ -47,10 +47,15 @@ pub struct Round {
 }
 
 impl Round {
-    /// A round begins at a root with this bound, if one is known.
+    /// A round begins at a root with this bound. Where none is known there are no limits, and the plan is followed for long at once.
     pub fn new(bound: Option<Number>) -> Round {
+        let stage = if bound.is_some() {
+            Stage::Plan
+        } else {
+            Stage::LongPlan
+        };
         Round {
-            stage: Stage::Plan,
+            stage,
             bound,
             limit: 0,
             least: 0,

@@ -60,8 +60,7 @@ fn dive_in_round<C: Coefficient, S: Share>(
     requires no_conflict { state.old.engine.conflict ≡ false }
     ensures { IsDived S.keeps S.lends share.old share.new state.old state.new best.old best.new run.old run.new result }
 {
-    let bound = state.engine.bound_at_hand();
-    let mut round = Round::new(bound.max(state.root_work.root_bound()));
+    let mut round = Round::new(bound_to_dive_from(state));
     let mut rest = most;
     let mut is_better = false;
     for _ in 0..MOST_DIVES {
@@ -78,6 +77,18 @@ fn dive_in_round<C: Coefficient, S: Share>(
         }
     }
     is_better
+}
+
+/// The bound at the root, from which limits of dives begin; none where no multipliers were used. None in a piece either, since dives
+/// from the root of the whole sought the same: limits there took one worker with a split of 4 up to 1.5 times the decisions.
+fn bound_to_dive_from<C: Coefficient>(state: &mut SearchState<C>) -> Option<Number>
+    ensures { state.new ≡ state.old }
+{
+    if state.root_work.is_after_whole() {
+        return None;
+    }
+    let bound = state.engine.bound_at_hand()?;
+    state.root_work.root_bound().max(Some(bound))
 }
 
 /// Dives on the course, by at most `rest` decisions, which are taken off that. Answers whether it led to a better assignment.
