@@ -6,6 +6,10 @@ use pb_inst::Number;
 /// leads to nothing. Chosen by hand.
 const FEW_CONFLICTS: u32 = 200;
 
+/// It gives up after one conflict for this many variables, where that is sooner: else small searches, whose trees are small too, would
+/// take up to 1.4 times the decisions.
+const VARIABLES_OF_A_CONFLICT: u32 = 4;
+
 /// After how many conflicts the last dive of a round gives up. Chosen by hand.
 const MANY_CONFLICTS: u32 = 4_000;
 
@@ -30,29 +34,35 @@ pub struct Course {
 }
 
 impl Course {
-    /// By a point of the relaxation, for a few conflicts.
-    pub fn by_plan() -> Course {
+    /// By a point of the relaxation over `vars` variables, for a few conflicts.
+    pub fn by_plan(vars: u32) -> Course {
         Course {
             way: Way::Plan,
             limit: None,
-            conflicts: FEW_CONFLICTS,
+            conflicts: few_conflicts(vars),
         }
     }
 
     /// By a point of the relaxation, for many conflicts.
     pub fn by_plan_for_long() -> Course {
         Course {
+            way: Way::Plan,
+            limit: None,
             conflicts: MANY_CONFLICTS,
-            ..Course::by_plan()
         }
     }
 
-    /// By the order of the search, within a limit if there is one.
-    pub fn by_order(limit: Option<Number>) -> Course {
+    /// By the order of the search over `vars` variables, within a limit if there is one, for a few conflicts.
+    pub fn by_order(vars: u32, limit: Option<Number>) -> Course {
         Course {
             way: Way::Order,
             limit,
-            conflicts: FEW_CONFLICTS,
+            conflicts: few_conflicts(vars),
         }
     }
+}
+
+/// After how many conflicts a dive over `vars` variables gives up, where other dives follow it.
+fn few_conflicts(vars: u32) -> u32 {
+    FEW_CONFLICTS.min(vars / VARIABLES_OF_A_CONFLICT)
 }

@@ -31,6 +31,7 @@ enum Stage {
 #[derive(Clone, Copy)]
 pub struct Round {
     stage: Stage,
+    vars: u32,
     /// A bound of the root, if one is known.
     bound: Option<Number>,
     /// The next limit.
@@ -47,8 +48,8 @@ pub struct Round {
 }
 
 impl Round {
-    /// A round begins at a root with this bound. Where none is known there are no limits, and the plan is followed for long at once.
-    pub fn new(bound: Option<Number>) -> Round {
+    /// A round over `vars` variables begins at a root with this bound. Where none is known there are no limits, and the plan is followed for long at once.
+    pub fn new(vars: u32, bound: Option<Number>) -> Round {
         let stage = if bound.is_some() {
             Stage::Plan
         } else {
@@ -56,6 +57,7 @@ impl Round {
         };
         Round {
             stage,
+            vars,
             bound,
             limit: 0,
             least: 0,
@@ -68,9 +70,9 @@ impl Round {
     /// What the next dive goes by; none where the round is over.
     pub fn next(&self) -> Option<Course> {
         match self.stage {
-            Stage::Plan => Some(Course::by_plan()),
-            Stage::Order => Some(Course::by_order(None)),
-            Stage::Limits => Some(Course::by_order(Some(self.limit))),
+            Stage::Plan => Some(Course::by_plan(self.vars)),
+            Stage::Order => Some(Course::by_order(self.vars, None)),
+            Stage::Limits => Some(Course::by_order(self.vars, Some(self.limit))),
             Stage::LongPlan => Some(Course::by_plan_for_long()),
             Stage::Over => None,
         }

@@ -60,7 +60,7 @@ fn dive_in_round<C: Coefficient, S: Share>(
     requires no_conflict { state.old.engine.conflict ≡ false }
     ensures { IsDived S.keeps S.lends share.old share.new state.old state.new best.old best.new run.old run.new result }
 {
-    let mut round = Round::new(bound_to_dive_from(state));
+    let mut round = Round::new(state.candidate.len(), bound_to_dive_from(state));
     let mut rest = most;
     let mut is_better = false;
     for _ in 0..MOST_DIVES {
