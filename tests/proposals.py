@@ -5,7 +5,7 @@
     tests/proposals.py --check
 
 In a copy of the repository each proposer of tests/proposals/ draws: the multipliers, the order and the values of decisions, what
-is tried at the root, when the search steps back further, and the hints of a decision. Constants that put such work off are as small
+is tried at the root, what dives go by and how far they turn back, when the search steps back further, and the hints of a decision. Constants that put such work off are as small
 there as may be. `bench` of the copy is compiled without proof and solves drawn instances of 2 to 12 variables, with and
 without an objective, many with numbers of 128 bits. The report must be that of the listing, whatever is drawn.
 
@@ -46,6 +46,9 @@ CONSTANTS = {  # what they are in the copy
     ("pb_control/src/root_work.rt", "LEAST_VARIABLES"): 0,
     ("pb_control/src/root_work.rt", "LEAST_DECISIONS"): 0,
     ("pb_control/src/root_work.rt", "EARLY_OF_A_PIECE"): 1,
+    ("pb_control/src/root_work.rt", "MANY_VARIABLES"): 0,
+    ("pb_dive/src/path.rt", "LEAST_BLAMED"): 0,
+    ("pb_dive/src/course.rt", "VARIABLES_OF_A_CONFLICT"): 1,
     ("pb_control/src/probing.rt", "LEAST_CREDIT"): 0,
     ("pb_control/src/probing.rt", "LEAST_CREDIT_OF_A_DECISION"): 0,
 }

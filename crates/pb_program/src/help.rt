@@ -34,9 +34,9 @@ pub const FILE_HELP: &str = "File of the instance; /dev/stdin reads standard inp
 pub const EXAMPLES_AND_STATUSES: &str = "\
 Cubes and the split divide the work into pieces, and the workers, which are
 threads, share the pieces. Without cubes and without a split there is one piece,
-which one worker searches. Start with a split of 4 for two workers, and of 8 for
-four. If the cubes and the split are accepted and no piece is cut, then neither
-they nor the number of workers changes a byte of the answer.
+which one worker searches. Start with a split of 8; two workers gain little. If
+the cubes and the split are accepted and no piece is cut, then neither they nor
+the number of workers changes a byte of the answer.
 
 With --nodes B the search of a piece stops where it needs a decision more than B:
 the piece is cut. Then the answer is the best assignment that was found, as

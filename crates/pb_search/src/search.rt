@@ -97,10 +97,10 @@ impl<'a> Search<'a> {
     }
 
     /// Begins the search of the whole instance, where there is a cube, and keeps what it fixes for good: the pieces are then searched
-    /// below that. It goes on until it was about to flip a decision as often as `turns` says, or the share says that it is over. Where it has begun before, it does nothing, unless the best cost has fallen since: then it adds what this cost fixes
-    /// at the root. So a call before each piece does what is due. With a budget for each piece it does nothing at all, since then
-    /// nothing is searched outside pieces. The best assignment is not after what it was. The share is asked and told as by `run`. Takes
-    /// no memory.
+    /// below that. It goes on until it was about to flip a decision as often as `turns` says, or the share says that it is over. Where
+    /// it has begun before, it does nothing, unless the best cost has fallen since: then it adds what this cost fixes at the root. So a
+    /// call before each piece does what is due. With a budget for each piece it does nothing at all, since then nothing is searched
+    /// outside pieces. The best assignment is not after what it was. The share is asked and told as by `run`. Takes no memory.
     pub fn begin<S: Share>(
         &mut self,
         best: &mut Best<'_>,

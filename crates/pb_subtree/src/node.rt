@@ -114,8 +114,8 @@ fn expand_above<C: Coefficient, S: Share>(
 }
 
 /// Searches all solutions below the trail, or stops where it would need one decision more than are left, or a decision where
-/// the goal is met, or where there are no turns left or the share says that it is over, if turns are counted. It does not recurse, so that no stack grows with the
-/// instance, and it takes no memory.
+/// the goal is met. If turns are counted, it also stops where none are left, or where the share says that the search is over. It does
+/// not recurse, so that no stack grows with the instance, and it takes no memory.
 pub fn search_subtree<C: Coefficient, S: Share>(
     state: &mut SearchState<C>,
     best: &mut Best<'_>,
