@@ -78,6 +78,9 @@ FAMILIES = {
     # Where the search dives from its root the least cost of still longer rings is known at once; else two of them take over six
     # times as many decisions.
     "dives find the least cost early": [Effort(2_880, [ring_cover(size) for size in (390, 500)])],
+    # Dives that look for an assignment within a limit of cost find the least cost of these clauses. Where dives have no limits the two
+    # searches take three times as many decisions.
+    "dives within limits find the least cost": [Effort(970, [few_costs(39), few_costs(50)])],
     # Once the gates are known to be closed, the multipliers are improved beside what that leaves. Beside no literal at all they count
     # on open gates, and the covers take fifty times as many decisions. Where gates are not tried at the root, or the search does not
     # dive from there, it is over twice as many.
