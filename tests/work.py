@@ -67,7 +67,7 @@ TODAY = {
     "ties": Today(31_109, 108),
     "two_sides": Today(108_900, 124),
     "unconstrained": Today(56_665, 85),
-    "wide_knapsack": Today(0, 107),
+    "wide_knapsack": Today(7_776, 111),
 }
 
 
