@@ -120,3 +120,18 @@ uint128 __umodti3(uint128 number, uint128 divisor)
     divided(number, divisor, &rest);
     return rest.whole;
 }
+
+/* The number without its sign, as which its highest bit is read. */
+static uint128 magnitude(uint128 number)
+{
+    union parts it = {number};
+    return it.high >> 63 ? 0 - number : number;
+}
+
+/* Both numbers have signs, and what is not whole is cut off. */
+uint128 __divti3(uint128 number, uint128 divisor)
+{
+    union parts one = {number}, other = {divisor}, rest;
+    uint128 quotient = divided(magnitude(number), magnitude(divisor), &rest);
+    return (one.high ^ other.high) >> 63 ? 0 - quotient : quotient;
+}

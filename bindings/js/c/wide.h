@@ -9,6 +9,7 @@ uint128 __ashlti3(uint128 number, int places);
 uint128 __lshrti3(uint128 number, int places);
 uint128 __ashrti3(uint128 number, int places);
 uint128 __udivti3(uint128 number, uint128 divisor);
+uint128 __divti3(uint128 number, uint128 divisor);
 uint128 __umodti3(uint128 number, uint128 divisor);
 
 #endif

@@ -45,6 +45,8 @@ function arithmetic() {
     ];
     if (other !== 0n) {
       told.push(["__udivti3", one / other, ...halves(one), ...halves(other)]);
+      const signed = BigInt.asIntN(128, one) / BigInt.asIntN(128, other);
+      told.push(["__divti3", BigInt.asUintN(128, signed), ...halves(one), ...halves(other)]);
       told.push(["__umodti3", one % other, ...halves(one), ...halves(other)]);
     }
     for (const [name, owed, ...given] of told) expect(called(name, ...given) === owed, `${name} of ${given}`);
