@@ -275,6 +275,11 @@ impl RootWork {
         self.is_after_whole
     }
 
+    /// Whether ties alone are left, where the best cost is `cost`: the root's bound says that nothing costs less.
+    pub fn are_ties_left(&self, cost: Option<Number>) -> bool {
+        cost.is_some() && self.ties.root_bound >= cost
+    }
+
     /// The greatest bound that was taken at the root, if any was.
     pub fn root_bound(&self) -> Option<Number> {
         self.ties.root_bound
@@ -292,12 +297,12 @@ impl RootWork {
         path.len() >= LEAST_DECISIONS && self.probing.pays()
     }
 
-    /// Whether the search stands at its root, and works there for a better assignment than that of the best cost. Once the root's
-    /// bound is that cost, ties alone are left, and nothing is left to work for.
+    /// Whether the search stands at its root, and works there for a better assignment than that of the best cost. Once ties alone
+    /// are left, there is nothing to work for.
     fn is_worked_on(&mut self, path: &[Branch], cost: Option<Number>) -> bool
         ensures { self.new ≡ self.old }
     {
-        if !self.is_open || (cost.is_some() && self.ties.root_bound >= cost) {
+        if !self.is_open || self.are_ties_left(cost) {
             return false;
         }
         self.is_at_root(path)

@@ -7,7 +7,7 @@ use pb_inst::Number;
 const FEW_CONFLICTS: u32 = 200;
 
 /// It gives up after one conflict for this many variables, where that is sooner: else small searches, whose trees are small too, would
-/// take up to 1.4 times the decisions.
+/// take 1.4 to 1.8 times the decisions (`units 90`, `sets 150`, `random 80`).
 const VARIABLES_OF_A_CONFLICT: u32 = 4;
 
 /// After how many conflicts the last dive of a round gives up. Chosen by hand.

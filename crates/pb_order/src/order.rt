@@ -33,6 +33,8 @@ pub struct Order {
     is_decision: bool,
     /// Whether the phases are those of an assignment from outside.
     is_suggested: bool,
+    /// Whether ties alone are left, and the phases are those of the best assignment.
+    is_tied: bool,
     analysis: ConflictAnalysis,
 }
 
@@ -52,6 +54,7 @@ impl Drop for Order {
             phases: _,
             is_decision: _,
             is_suggested: _,
+            is_tied: _,
             analysis: _,
         } = self;
     }
@@ -78,17 +81,29 @@ impl Order {
             phases,
             is_decision: form.objective().is_empty(),
             is_suggested: false,
+            is_tied: false,
             analysis,
         })
     }
 
-    /// Where nothing is minimised, the values of the assignment are tried first from now on.
+    /// Where nothing is minimised, or ties alone are left, the values of the assignment are tried first from now on.
     pub fn prefer(&mut self, assignment: &Assignment) {
-        // It meets all constraints, and what is left to find is like it but for the variables that come first. With an
-        // objective the first values stay, since there this took 0.3 to 2 times the decisions, and 0.98 times in the mean.
-        if self.is_decision {
+        // It meets all constraints, and what is left to find is like it but for the variables that come first. While the cost may
+        // still fall the first values stay, since there this took 0.3 to 2 times the decisions, and 0.98 times in the mean.
+        if self.is_decision || self.is_tied {
             self.follow(assignment);
         }
+    }
+
+    /// Ties with this assignment alone are left, or more where there is none. With ties alone the search is like one that minimises
+    /// nothing: the values of the assignment are tried first, and conflicts move the order as they do there.
+    pub fn settle_ties(&mut self, tied: Option<&Assignment>) {
+        if let Some(assignment) = tied
+            && !self.is_tied
+        {
+            self.follow(assignment);
+        }
+        self.is_tied = tied.is_some();
     }
 
     /// The values of an assignment from outside are tried first from now on, whatever else speaks for others.
@@ -97,9 +112,9 @@ impl Order {
         self.follow(assignment);
     }
 
-    /// Whether the values that are tried first are those of an assignment from outside.
-    pub fn is_suggested(&self) -> bool {
-        self.is_suggested
+    /// Whether the values that are tried first are those of an assignment: one from outside, or the best one where ties alone are left.
+    pub fn follows_assignment(&self) -> bool {
+        self.is_suggested || self.is_tied
     }
 
     /// The values of the assignment are tried first from now on.
@@ -134,7 +149,7 @@ impl Order {
     }
 
     /// Where a conflict stands, bumps the activities of the variables of the row that could not be met. Where nothing is
-    /// minimised, it also bumps the variables whose values led to that, back to the decisions, and what was bumped before counts
+    /// minimised, or ties alone are left, it also bumps the variables whose values led to that, back to the decisions, and what was bumped before counts
     /// less from now on.
     pub fn bump_conflict<C: Coefficient>(&mut self, propagator: &Propagator<C>) {
         // Where a row could not be met the search is hard, so its variables come sooner from now on. With an objective bounds
@@ -144,7 +159,7 @@ impl Order {
             return;
         };
         self.bump_row(propagator.row_terms(row));
-        if self.is_decision {
+        if self.is_decision || self.is_tied {
             self.analyse_conflict(propagator, row);
             self.activities.decay();
         }

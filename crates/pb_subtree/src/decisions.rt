@@ -83,9 +83,9 @@ fn ordered_decision<C: Coefficient>(
         let lit = order.first()?;
         if is_free(engine, vars, lit) {
             let left = order.left();
-            // The value that the multipliers make the cheaper one is the better guess, where there are any, unless the caller
-            // suggested values.
-            let lit = if order.is_suggested() {
+            // The value that the multipliers make the cheaper one is the better guess, where there are any, unless the values of an
+            // assignment are followed.
+            let lit = if order.follows_assignment() {
                 lit
             } else {
                 engine.cheaper(lit)

@@ -10,7 +10,7 @@ ghost use Rattle.pb_subtree.specs.Nodes.{GoesOn, IsAtNode, IsExpanded};
 use crate::Share;
 use crate::at_root::work_at_root;
 use crate::decisions::next_decision;
-use crate::feedback::{last_decided, learn, learn_conflict, learn_gap};
+use crate::feedback::{last_decided, learn, learn_conflict, learn_gap, settle_ties};
 use crate::improvement::Origin;
 use crate::incumbent::take_leaf;
 use crate::run::Run;
@@ -64,7 +64,7 @@ pub fn expand_node<C: Coefficient, S: Share>(
     if let Some(lit) = work_at_root(state, best, pruning, bound, &mut run.left) {
         return Some(one_sided(lit, bound, hints));
     }
-    if let Some(branch) = choose(state, pruning, bound, hints) {
+    if let Some(branch) = choose(state, best, pruning, bound, hints) {
         return Some(branch);
     }
     take_leaf(state, best, share, &mut run.agreed, Origin::Leaf);
@@ -85,6 +85,7 @@ fn note_propagated<C: Coefficient>(state: &mut SearchState<C>, length: usize, st
 /// The decision to make next, both of whose values are to be tried; none where the trail is full.
 fn choose<C: Coefficient>(
     state: &mut SearchState<C>,
+    best: &Best<'_>,
     pruning: Pruning,
     bound: Option<Number>,
     hints: Hints,
@@ -100,6 +101,7 @@ fn choose<C: Coefficient>(
     let vars = state.candidate.len();
     // Pseudocosts lead only where multipliers pay, because elsewhere activities alone take fewer decisions.
     state.order.lead_by_gains(state.engine.multipliers_pay());
+    settle_ties(&mut state.order, &state.root_work, best);
     let is_calm = state.root_work.is_calm();
     let branch = next_decision(
         &state.engine,

@@ -2,7 +2,7 @@
 //! values of a new best assignment. No answer depends on it, so nothing is promised.
 
 use crate::search_state::SearchState;
-use pb_control::Pruning;
+use pb_control::{Pruning, RootWork};
 use pb_engine::{Coefficient, EngineAt, Step};
 use pb_inst::{Best, Lit};
 use pb_order::{Gain, Order};
@@ -23,6 +23,16 @@ pub fn learn_values(order: &mut Order, best: &Best<'_>, has_improved: bool) {
     if has_improved && let Some(held) = best.assignment() {
         order.prefer(held);
     }
+}
+
+/// Goes by the values of the best assignment where ties alone are left: what comes before it is mostly like it.
+pub fn settle_ties(order: &mut Order, work: &RootWork, best: &Best<'_>) {
+    let tied = if work.are_ties_left(best.cost()) {
+        best.assignment()
+    } else {
+        None
+    };
+    order.settle_ties(tied);
 }
 
 /// A decision, and by how much the bound may rise above it before it is over the best cost.
