@@ -18,7 +18,7 @@ from pathlib import Path
 
 sys.dont_write_bytecode = True
 sys.path.insert(0, str(Path(__file__).resolve().parents[1]))
-from lib import SECONDS, built, ran, side_by_side
+from lib import SECONDS, TOP, built, ran, side_by_side
 from lib.draws import Random
 from lib.efforts import chain, crowd_behind_ring, failing_behind_ring, filled_cover, gated_cover, packing, pigeons, ring_cover, schedule
 
@@ -38,6 +38,26 @@ class Effort:
     def command(self):
         """What asks `bench` for the search. `pieces` begins with the whole before the pieces, as a run does."""
         return f"{'pieces' if self.begins else 'search'} {self.split}"
+
+
+@dataclass(frozen=True)
+class Made:
+    """An instance that a script of bench/ makes by these words. Of its costs every `part`-th one is kept."""
+
+    words: str
+    part: int = 1
+
+    def text(self):
+        script, *words = self.words.split()
+        lines = ran([sys.executable, TOP / "bench" / script, *words]).out.splitlines()
+        return "".join(f"{self.with_few_costs(it)}\n" for it in lines)
+
+    def with_few_costs(self, line):
+        if self.part == 1 or not line.startswith("min:"):
+            return line
+        words = line.split()[1:-1]
+        kept = [f"{coefficient} {literal}" for coefficient, literal in zip(words[::2], words[1::2])][:: self.part]
+        return " ".join(["min:", *kept, ";"])
 
 
 @dataclass(frozen=True)
@@ -80,7 +100,13 @@ FAMILIES = {
     "dives find the least cost early": [Effort(2_880, [ring_cover(size) for size in (390, 500)])],
     # Dives that look for an assignment within a limit of cost find the least cost of these clauses. Where dives have no limits the two
     # searches take three times as many decisions.
-    "dives within limits find the least cost": [Effort(970, [few_costs(39), few_costs(50)])],
+    "dives within limits find the least cost": [Effort(1_270, [few_costs(39), few_costs(50)])],
+    # After a conflict a dive also takes back the decisions that had no part in it. Else this question to a package manager takes nearly
+    # four times as many decisions.
+    "dives go back to what led to a conflict": [Effort(6_830, [Made("make_packages.py 460 17 --distribution")])],
+    # After a much better assignment the search steps back to its root, where more may be fixed and dives begin again. Else this question
+    # takes five times as many decisions.
+    "a better assignment leads back to the root": [Effort(93_200, [Made("make_packages.py 460 10 --distribution")])],
     # Once the gates are known to be closed, the multipliers are improved beside what that leaves. Beside no literal at all they count
     # on open gates, and the covers take fifty times as many decisions. Where gates are not tried at the root, or the search does not
     # dive from there, it is over twice as many.
@@ -122,12 +148,15 @@ FAMILIES = {
     # The same where some variables cost something, and the least cost is found soon. Where the search does not step back to its root it
     # takes six times as many decisions, and where conflicts bring no variables forward seven times as many.
     "ties of a cost are settled once": [Effort(5_100, [clauses(1, 300, 750, [(1, place) for place in range(291, 301)])])],
+    # Of these schedules few shifts cost something, so that after the first assignment of the least cost ties alone are left. There the
+    # best assignment's values come first, and conflicts bring forward what led to them. Else it takes eight times as many decisions.
+    "ties follow the best assignment": [Effort(3_130, [Made("make_small.py staff 6", part=16)])],
     # Clauses without a solution. Where what led to a conflict does not come forward with the row that could not be met, that takes three
     # times as many decisions, and so it does where what was long ago counts for as much.
     "what led to conflicts comes forward": [Effort(3_970, [clauses(25, 130, 570)])],
     # Decided first, a few variables with a cost tell early what the rest will cost. Else one search takes nine times as many decisions,
     # and the other five times.
-    "few costs come first": [Effort(175, [few_costs(4)]), Effort(320, [few_costs(52)])],
+    "few costs come first": [Effort(175, [few_costs(4)]), Effort(470, [few_costs(52)])],
     # Of two values the one that costs less by the multipliers is decided first. Else one search takes six times as many decisions, and
     # the other nearly ten times.
     "the cheaper value comes first": [Effort(240, [few_costs(12)]), Effort(410, [few_costs(23)])],
