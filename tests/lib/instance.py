@@ -1,6 +1,6 @@
 """An instance, its text, and its whole answer by a listing of all assignments."""
 import operator
-from dataclasses import dataclass
+from dataclasses import dataclass, replace
 
 from .reports import values_line
 
@@ -32,13 +32,17 @@ class Instance:
 
     def times(self, scale):
         """The same with each coefficient and each bound multiplied."""
-
-        def scaled(terms):
-            return tuple((scale * coefficient, literal) for coefficient, literal in terms)
-
-        objective = None if self.objective is None else scaled(self.objective)
-        constraints = tuple((scaled(terms), relation, scale * bound) for terms, relation, bound in self.constraints)
+        objective = None if self.objective is None else scaled(scale, self.objective)
+        constraints = tuple((scaled(scale, terms), relation, scale * bound) for terms, relation, bound in self.constraints)
         return Instance(self.variables, objective, constraints, False)
+
+    def without_at_most(self):
+        """The same as pieces have it: in place of `<=` there is `>=`, and each number of that constraint is negated."""
+
+        def turned(terms, relation, bound):
+            return (scaled(-1, terms), ">=", -bound) if relation == "<=" else (terms, relation, bound)
+
+        return replace(self, constraints=tuple(turned(*row) for row in self.constraints))
 
     def cost(self, values):
         return value(self.objective or (), values)
@@ -68,6 +72,10 @@ class Instance:
 
 def written(terms):
     return "".join(f"{coefficient} {'~' if literal < 0 else ''}x{abs(literal)} " for coefficient, literal in terms)
+
+
+def scaled(scale, terms):
+    return tuple((scale * coefficient, literal) for coefficient, literal in terms)
 
 
 def value(terms, values):

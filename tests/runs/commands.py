@@ -387,9 +387,10 @@ PBCUBE = [
 ]
 
 
+IN_PIECES = "* #variable= 4 #constraint= 4\nmin: 2 x1 -3 ~x2 1 x3 ;\n1 x1 1 x2 >= 1 ;\n1 x2 -1 ~x3 >= 2 ;\n"  # SPELLED, in each piece
 PIECE_TEXTS = {
-    "spelled/0.opb": SPELLED.replace("#constraint= 2", "#constraint= 4").replace("+1", "1") + "1 x1 >= 1 ;\n1 ~x2 >= 1 ;\n",
-    "spelled/2.opb": SPELLED.replace("#constraint= 2", "#constraint= 4").replace("+1", "1") + "1 ~x1 1 x2 >= 1 ;\n1 x4 >= 1 ;\n",
+    "spelled/0.opb": IN_PIECES + "1 x1 >= 1 ;\n1 ~x2 >= 1 ;\n",
+    "spelled/2.opb": IN_PIECES + "1 ~x1 1 x2 >= 1 ;\n1 x4 >= 1 ;\n",
     "wide/1.opb": "* #variable= 2 #constraint= 3\n" + WIDE + ">= 1 ;\n",
     "clauses/0.cnf": "p cnf 12 4\n1 -2 0\n0\n3 0\n-12 0\n",
     "own/2.cnf": "p cnf 5 3\n1 -2 0\n-3 5 0\n-1 0\n",

@@ -40,7 +40,8 @@ class Spelled:
     def pieces(self):
         """The texts of the pieces: of each cube, and of what remains."""
         for added in [*([[literal] for literal in cube] for cube in self.cubes), [[-literal for literal in cube] for cube in self.cubes]]:
-            yield replace(self.instance, constraints=self.instance.constraints + clausal(0, added).constraints).text()
+            whole = replace(self.instance, constraints=self.instance.constraints + clausal(0, added).constraints)
+            yield whole.without_at_most().text()
 
 
 def of_sums(variables, objective, constraints):

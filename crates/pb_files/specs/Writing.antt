@@ -7,6 +7,7 @@ use Rattle.pb_inst.specs.Problem.{Problem}
 use Rattle.pb_read.specs.Format.{Spells}
 use Rattle.pb_read.specs.declared.format.Format.{Format}
 use Rattle.pb_write.specs.Pieces.{piece_problem}
+use Rattle.pb_write.specs.Turned.{written_problem}
 use Rattle.pb_write.specs.Written.{written_format}
 use Rattle.pb_files.specs.Names.{path, piece_name, written_name}
 
@@ -15,7 +16,7 @@ abbrev pub WritesPieces : {F : Type 0} → (F → Text → List ℕ → F → Ty
 WritesPieces writes format folder p cubes zero old new = new ≡ old
 WritesPieces {F} writes format folder p cubes (suc i) old new =
     (between : F) × (text : List ℕ) × WritesPieces writes format folder p cubes i old between
-    × Spells (written_format format) text (piece_problem p cubes i) []
+    × Spells (written_format format) text (written_problem (piece_problem p cubes i)) []
     × writes between (path folder (piece_name format i (length cubes))) text new
 
 -- the names of the pieces below this number, each on a line

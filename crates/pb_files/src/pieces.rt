@@ -2,6 +2,7 @@
 ghost use Rattle.std.specs.Prelude.{◌≡◌, ◌≤◌, ◌+◌, ℕ, List, [], length, string_bytes, OnOk};
 ghost use Rattle.pb_read.specs.Format.{Spells};
 ghost use Rattle.pb_write.specs.Pieces.{piece_problem};
+ghost use Rattle.pb_write.specs.Turned.{written_problem};
 ghost use Rattle.pb_write.specs.Written.{written_format};
 ghost use Rattle.pb_files.specs.Writing.{MakesRoom, WritesDivided, WritesPieces, index_text};
 
@@ -81,7 +82,7 @@ fn write_one<'a, F: Folders>(
 ) -> Result<(), PiecesFault<'a>>
     requires same_variables { prepared.now.pieces.vars ≡ prepared.now.instance.vars }
     requires number { number ≤ length prepared.now.pieces.cubes }
-    ensures { OnOk result ((text : List ℕ) × Spells (written_format format) text (piece_problem prepared.now.instance prepared.now.pieces.cubes number) [] × F.writes folders.old (string_bytes file) text folders.new) }
+    ensures { OnOk result ((text : List ℕ) × Spells (written_format format) text (written_problem (piece_problem prepared.now.instance prepared.now.pieces.cubes number)) [] × F.writes folders.old (string_bytes file) text folders.new) }
 {
     let mut text = Vec::new(alloc);
     let written = write_piece(

@@ -8,6 +8,7 @@ pub mod OpbSpelled
 pub mod CnfLines
 pub mod CnfSpelled
 pub mod Limits
+pub mod Turned
 pub mod Spelled
 pub mod Counting
 pub mod ClauseForms

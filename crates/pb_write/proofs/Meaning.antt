@@ -45,7 +45,7 @@ any_from_map P Q f each (x ∷ xs) h = elim (any_cases P (f x) (map f xs) h) [
   | inr there ↦ any_there Q x xs (any_from_map P Q f each xs there)
 ]
 
-all_from_map : {X Y : Type 0} (P : Y → Type 0) (f : X → Y) (xs : List X) → All P (map f xs) → All (λ x. P (f x)) xs
+pub all_from_map : {X Y : Type 0} (P : Y → Type 0) (f : X → Y) (xs : List X) → All P (map f xs) → All (λ x. P (f x)) xs
 all_from_map P f [] h = All-nil (λ x. P (f x))
 all_from_map P f (x ∷ xs) h = All-cons (λ x. P (f x)) x xs (All-head P (f x) (map f xs) h) (all_from_map P f xs (All-tail P (f x) (map f xs) h))
 

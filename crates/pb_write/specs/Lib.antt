@@ -1,4 +1,5 @@
 pub mod Text
 pub mod Pieces
+pub mod Turned
 pub mod Written
 pub mod Laws

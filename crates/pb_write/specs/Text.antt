@@ -13,6 +13,7 @@ use Rattle.pb_read.specs.declared.format.Format.{Format}
 use Rattle.pb_read.specs.Format.{is_clausal}
 use Rattle.pb_write.specs.Written.{literals_of}
 use Rattle.pb_write.specs.Pieces.{with_clauses}
+use Rattle.pb_write.specs.Turned.{written_constraint}
 
 -- ---- OPB
 
@@ -27,6 +28,7 @@ term_text t = signed_decimal t.coef ++ codes " " ++ opb_literal t.lit ++ codes "
 abbrev pub terms_text : List Term → List ℕ
 terms_text ts = flat_map term_text ts
 
+-- `<=` comes into no text, since a constraint with `<=` is turned
 abbrev pub relation_text : Relation → List ℕ
 relation_text AtLeast = codes ">="
 relation_text AtMost = codes "<="
@@ -59,7 +61,7 @@ abbrev pub clause_text : Format → List Literal → List ℕ
 clause_text format lits = flat_map (clause_literal format) lits ++ clause_end format
 
 abbrev pub constraint_text : Format → LinearConstraint → List ℕ
-constraint_text format c = if is_clausal format then clause_text format (literals_of c) else constraint_line c
+constraint_text format c = if is_clausal format then clause_text format (literals_of c) else constraint_line (written_constraint c)
 
 -- `* #variable= N #constraint= M`, or `p cnf N M`
 abbrev pub header_start : Format → List ℕ

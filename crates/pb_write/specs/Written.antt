@@ -7,16 +7,17 @@ use Rattle.pb_inst.specs.Problem.{LinearConstraint, Problem}
 use Rattle.pb_read.specs.declared.format.Format.{Format}
 use Rattle.pb_read.specs.declared.format.Format.TheVariants.{Opb, Cnf}
 use Rattle.pb_read.specs.Format.{Spells, is_clausal}
+use Rattle.pb_write.specs.Turned.{written_problem}
 
 -- The format in which an instance of a format is written. That of clauses is CNF, whose header keeps the number of variables.
 abbrev pub written_format : Format → Format
 written_format format = if is_clausal format then Cnf else Opb
 
--- known bytes have grown by a text that spells the instance and no cubes
+-- known bytes have grown by a text that spells the instance as it is written, and no cubes
 pub record IsWritten (format : Format) (old new : Option (List ℕ)) (p : Problem) : Type 0 where
   pub text : List ℕ
   pub appended : Appends old new text
-  pub spelled : Spells (written_format format) text p []
+  pub spelled : Spells (written_format format) text (written_problem p) []
 
 -- the literals of the terms, whatever their coefficients are
 abbrev pub literals_of : LinearConstraint → List Literal

@@ -13,5 +13,5 @@ mod writing;
 
 pub use fault::WriteFault;
 pub use formats::written_format;
-pub use laws::piece_laws;
+pub use laws::{piece_laws, written_laws};
 pub use writing::{write_instance, write_piece};

@@ -1,7 +1,8 @@
 //! Writing an instance, or one piece of it.
 ghost use Rattle.std.specs.Prelude.{◌≡◌, ◌↔◌, ◌≤◌, ◌⊎◌, [], flat_map, length, IsErrOf, IfErr, OnOk};
 ghost use Rattle.pb_inst.specs.Constraints.{linear};
-ghost use Rattle.pb_inst.specs.Limits.{IsProper};
+ghost use Rattle.pb_inst.specs.Limits.{IsProper, constraint_magnitude};
+ghost use Rattle.pb_inst.specs.declared.limits.TheConstants.{SUM_BOUND};
 ghost use Rattle.pb_cubes.specs.Pieces.{AreWithin};
 ghost use Rattle.pb_write.specs.Pieces.{clauses_of, with_clauses, piece_problem, KeepsCounts};
 ghost use Rattle.pb_write.specs.Text.{constraint_text, objective_text, text_with_clauses};
@@ -19,7 +20,8 @@ use pb_read::Format;
 use std::io::{self, Error, ErrorKind, Write};
 
 /// Writes the instance as a text of the format, statement by statement in its order, and an instance of iCNF as CNF. The
-/// header keeps the number of variables.
+/// header keeps the number of variables. A constraint with `<=` is written with `>=` and all its numbers negated, since not
+/// every solver reads `<=`.
 ///
 /// Fails with `NotClauses` where the format is not OPB and there is an objective or a constraint that is no clause; then nothing
 /// was written. Where the writer fails with `Memory` or `Write`, some bytes may have been written. Takes no memory itself. The
@@ -144,6 +146,7 @@ fn put_constraint<W: Write>(
     format: Format,
     constraint: &Constraint<'_>,
 ) -> io::Result<()>
+    requires { constraint_magnitude (linear constraint.now) ≤ SUM_BOUND }
     ensures { OnOk result (Adds W.contents out.old out.new (constraint_text format (linear constraint.now))) }
 {
     if format.is_clausal() {

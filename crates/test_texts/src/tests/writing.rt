@@ -11,7 +11,7 @@ const TIE: &[u8] =
     b"* #variable= 4 #constraint= 2\nmin: 2 x1 -3 ~x2 1 x3 ;\n1 x1 1 x2 >= 1 ;\n-1 x2 +1 ~x3 <= -2 ;\n";
 
 const TIE_WRITTEN: &[u8] =
-    b"* #variable= 4 #constraint= 2\nmin: 2 x1 -3 ~x2 1 x3 ;\n1 x1 1 x2 >= 1 ;\n-1 x2 1 ~x3 <= -2 ;\n";
+    b"* #variable= 4 #constraint= 2\nmin: 2 x1 -3 ~x2 1 x3 ;\n1 x1 1 x2 >= 1 ;\n1 x2 -1 ~x3 >= 2 ;\n";
 
 fn instance(rt: &impl Abort, alloc: Global) -> Instance {
     let (instance, _) = read(alloc, Format::Opb, TIE).ok().expect(rt, "an instance");
