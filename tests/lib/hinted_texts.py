@@ -2,7 +2,7 @@
 
 IS_WCNF = "begins as WCNF, which is not read: write it as OPB, with the weights in min:"
 IS_MARKED = "begins with a byte order mark: save it as ASCII, without one"
-NO_PRODUCT = "no product is read: write a variable of its own for it"
+NO_PRODUCT = "no product is read: put a new variable in its place, with constraints that make it equal to the product"
 NO_SOFT = "no soft constraint is read: give each a variable that satisfies it, with its weight in min:"
 TO_MOST = "variables are numbered from 1 to 1048576"
 NO_LP = "begins as LP, which is not read: the client pbcube-lp solves it"
@@ -87,8 +87,8 @@ PLACED = [
     ("opb", b"1 x99999999999999999999999999 >= 1 ;", f"line 1, column 3: 'x99999999999999999999999999': {TO_MOST}"),
     ("cnf", b"c 9\np cnf 2 2\n1 2 0\n-1\nc 9\n-3 0\n", "line 6, column 1: '-3': variables are numbered from 1 to 2"),
     ("icnf", b"p inccnf\n9 2 0\na 1 -1048577 0\n", f"line 3, column 5: '-1048577': {TO_MOST}"),
-    ("cnf", b"c 0 0\np cnf 2 3\n1 2 0 -1 00\n%\n0\n", "line 3: the header says 3 clauses, and there are 2"),
-    ("cnf", b"p cnf 2 1\n1 0\n2 0\n", "line 3: the header says 1 clauses, and there are 2"),
+    ("cnf", b"c 0 0\np cnf 2 3\n1 2 0 -1 00\n%\n0\n", "line 3: the header says that the number of clauses is 3, but it is 2"),
+    ("cnf", b"p cnf 2 1\n1 0\n2 0\n", "line 3: the header says that the number of clauses is 1, but it is 2"),
     ("cnf", b"p cnf 2 2\n1 2 0\n-1\n+2 0\n", "line 4, column 1: '+2'"),
     ("icnf", b"p inccnf\n1 2 0\na 1 x 0\n", "line 3, column 5: 'x'"),
     ("cnf", b"p cnf 1 1\n-0 0\n", "line 2, column 1: '-0'"),

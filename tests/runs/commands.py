@@ -303,7 +303,7 @@ PBCUBE = [
     Row(
         "--split 2 --cubes good.cubes none_feasible.opb",
         f"c refused split: BadSplit\n{UNSUPPORTED}",
-        "pbcube: none_feasible.opb has 1 variables, too few for --split 2\n",
+        "pbcube: none_feasible.opb has 1 variable, too few for --split 2\n",
     ),
     # several workers on one piece
     *(

@@ -81,9 +81,9 @@ def solved(words, out, status):
 
 TIE_REPORT = "o 3\ns OPTIMUM FOUND\nv -x1 x2 -x3\n"
 UNSUPPORTED = "s UNSUPPORTED\n"
-PRODUCT = "pbcube: line 1, column 6: 'x2': no product is read: write a variable of its own for it\n"
+PRODUCT = "pbcube: line 1, column 6: 'x2': no product is read: put a new variable in its place, with constraints that make it equal to the product\n"
 OVER = "pbcube: over.cubes: line 1, column 3: '4': variables are numbered from 1 to 3\n"
-FEW = "pbcube: contradiction.opb has 1 variables, too few for --split 2\n"
+FEW = "pbcube: contradiction.opb has 1 variable, too few for --split 2\n"
 OLDER = "pbcube: line 2, column 1: '+1*x1': write a space between a number and its literal, and no *, as 2 x1\n"
 CASES = [
     Case("tie.opb", Ended(TIE_REPORT, "", 30)),

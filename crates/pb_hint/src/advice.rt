@@ -14,7 +14,7 @@ pub enum Advice {
     #[error("no soft constraint is read: give each a variable that satisfies it, with its weight in min:")]
     Harden,
     /// A term has a second literal.
-    #[error("no product is read: write a variable of its own for it")]
+    #[error("no product is read: put a new variable in its place, with constraints that make it equal to the product")]
     Linearise,
     /// A variable has a number out of range.
     #[error("variables are numbered from 1 to {0}")]

@@ -26,7 +26,7 @@ pub enum Rule {
     #[error("write p inccnf before all clauses")]
     IcnfHeader,
     /// The header tells the first of these numbers of clauses, and the text has the second.
-    #[error("the header says {0} clauses, and there are {1}")]
+    #[error("the header says that the number of clauses is {0}, but it is {1}")]
     ClauseCount(u64, u64),
     /// Clauses come before cubes.
     #[error("put all clauses before the first cube")]

@@ -134,10 +134,11 @@ fn tell_hint_on_cubes<E: Write>(
 /// Tells why the cubes and the split of the line, each of which can be read, do not divide an instance of `vars` variables.
 fn tell_of_division<E: Write>(line: &Line<'_>, vars: u32, err: &mut E) -> io::Result<()> {
     let (file, split) = (line.file, line.options.split);
+    let noun = if vars == 1 { "variable" } else { "variables" };
     if split > vars {
         writeln!(
             err,
-            "pbcube: {file} has {vars} variables, too few for --split {split}"
+            "pbcube: {file} has {vars} {noun}, too few for --split {split}"
         )
     } else {
         writeln!(
