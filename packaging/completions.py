@@ -20,21 +20,21 @@ pbcube --workers W Number of threads that share the pieces, 1 to 64
 pbcube --split K Divide the work by the K most frequent variables, 0 to 12
 pbcube --cubes FILE File of cubes that divide the work, with lines `a LITERALS 0`; none by default
 pbcube --nodes B Stop each piece after B decisions, 0 to 1000000000; no limit by default
-pbcube_pieces --format FORMAT How FILE is written: opb, cnf or icnf
+pbcube_pieces --format FORMAT Format of FILE: opb, cnf or icnf
 pbcube_pieces --split K Divide by the K most frequent variables, 0 to 12
-pbcube_pieces --cubes FILE A file of cubes that divide the instance, lines `a LITERALS 0`; none by default
-pbcube_pieces --out DIR The folder for the pieces and their index; it is made where it is not there
-pbcube_task --format FORMAT How FILE is written: opb, cnf or icnf
-pbcube_task --workers W Workers, 1 to 64: the threads that share the task
+pbcube_pieces --cubes FILE File of cubes that divide the instance, with lines `a LITERALS 0`; none by default
+pbcube_pieces --out DIR Folder for the pieces and their index; created if it does not exist
+pbcube_task --format FORMAT Format of FILE: opb, cnf or icnf
+pbcube_task --workers W Number of threads that share the task, 1 to 64
 pbcube_task --split K Divide by the K most frequent variables, 0 to 12
-pbcube_task --cubes FILE A file of cubes that divide the instance, lines `a LITERALS 0`; none by default
-pbcube_task --nodes B Make at most B decisions in each piece, 0 to 1000000000; no limit by default
-pbcube_task --task I The number of this task, from 0 and below T
-pbcube_task --tasks T The number of tasks among which the pieces are dealt in turn
-pbcube_task --exchange DIR A folder in which the tasks tell each other their best assignments; none by default
-pbcube_join --format FORMAT How FILE and the reports are written: opb, cnf or icnf
-pbcube_join --pieces N The number of pieces, 1 to 1048576; by default that of the index
-pbcube_join --tasks T The reports are those of T tasks, from 1 on, as pbcube_task writes them; not with --pieces
+pbcube_task --cubes FILE File of cubes that divide the instance, with lines `a LITERALS 0`; none by default
+pbcube_task --nodes B Stop each piece after B decisions, 0 to 1000000000; no limit by default
+pbcube_task --task I Number of this task, from 0 to T - 1
+pbcube_task --tasks T Number of tasks among which the pieces are dealt in turn
+pbcube_task --exchange DIR Folder through which the tasks exchange their best assignments; none by default
+pbcube_join --format FORMAT Format of FILE and of the reports: opb, cnf or icnf
+pbcube_join --pieces N Number of pieces, 1 to 1048576; by default the index gives it
+pbcube_join --tasks T Join the reports that pbcube_task wrote for T tasks, 1 or more; not with --pieces
 """
 
 

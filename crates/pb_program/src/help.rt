@@ -38,8 +38,8 @@ which one worker searches. Start with a split of 8; two workers gain little. If
 the cubes and the split are accepted and no piece is cut, then neither they nor
 the number of workers changes a byte of the answer.
 
-With --nodes B the search of a piece stops where it needs a decision more than B:
-the piece is cut. Then the answer is the best assignment that was found, as
+With --nodes B the search of a piece stops if it needs more than B decisions: the
+piece is cut. Then the answer is the best assignment that was found, as
 s SATISFIABLE with its cost and values, or s UNKNOWN alone if none was found.
 K pieces take at most B times K decisions in all. If a piece is cut and there are
 several workers, the bytes may differ from run to run. Otherwise they never do.
@@ -51,10 +51,10 @@ If an input is refused, the report names the fault and its line, and the exit
 status is 0. A line on standard error may add a hint: which format the file seems
 to have, or which word is wrong and what to write in its place.
 
-The solver learns nothing from conflicts. So a proof of infeasibility takes as
-many decisions as a search tree has: ten pigeons in nine holes, as clauses, take
-seconds, and each further hole takes ten times as long. For the long chains of
-implications that circuits have, use a solver that learns clauses.
+The solver learns nothing from conflicts, so its proof that nothing is feasible is
+a whole search tree: ten pigeons in nine holes, as clauses, take seconds, and each
+further hole takes ten times as long. For the long chains of implications that
+circuits have, use a solver that learns clauses.
 
 Examples:
   pbcube instance.opb                          an OPB instance, by one worker

@@ -39,5 +39,5 @@ fn out_option<'a>(alloc: Global) -> Arg<'a>
         .long("out")
         .required(true)
         .value_name("DIR")
-        .help("The folder for the pieces and their index; it is made where it is not there")
+        .help("Folder for the pieces and their index; created if it does not exist")
 }

@@ -5,31 +5,31 @@ pub const ABOUT: &str = "Writes the pieces of a pseudo-Boolean instance as insta
 
 /// What the program does, for `--help`.
 pub const LONG_ABOUT: &str = "\
-Writes the pieces into which cubes and a split divide a pseudo-Boolean instance,
-each as an instance of its own, so that each can be solved wherever there is a
-core: one piece for each cube, and the remainder. The least assignment of the
-instance is the first of those of its pieces.";
+Divides a pseudo-Boolean instance by cubes and a split, and writes each piece as
+an instance of its own: one for each cube, and one for the assignments that lie in
+no cube. Each piece can be solved on any core. The first of the pieces' least
+assignments is the least assignment of the instance.";
 
 /// What help says of `--format`.
-pub const FORMAT_HELP: &str = "How FILE is written: opb, cnf or icnf";
+pub const FORMAT_HELP: &str = "Format of FILE: opb, cnf or icnf";
 
 /// What help says of `--split`.
 pub const SPLIT_HELP: &str = "Divide by the K most frequent variables, 0 to 12";
 
 /// What help says of `--cubes`.
 pub const CUBES_HELP: &str =
-    "A file of cubes that divide the instance, lines `a LITERALS 0`; none by default";
+    "File of cubes that divide the instance, with lines `a LITERALS 0`; none by default";
 
 /// What help says of FILE.
-pub const FILE_HELP: &str = "The file that holds the instance";
+pub const FILE_HELP: &str = "File of the instance";
 
 /// The end of `--help`: the files, examples and exit statuses.
 pub const EXAMPLES_AND_STATUSES: &str = "\
-The pieces are DIR/NUMBER.opb, or .cnf for an instance of clauses, with leading
-zeros, so that they sort by number. DIR/index is written last: it tells the
-number of pieces, the format and the variables that all of them have, the
-SHA-256 digest of FILE, and then the pieces' names. No file is overwritten. At
-the end the number of pieces is printed.
+Each piece is a file DIR/NUMBER.opb, or DIR/NUMBER.cnf if FILE is in CNF or iCNF.
+NUMBER has leading zeros, so that the files sort by number. DIR/index is written
+last. It has the number of pieces, their format, the number of variables, the
+SHA-256 digest of FILE, and then the names of the pieces. No file is overwritten.
+At the end the program prints the number of pieces.
 
 Examples:
   pbcube_pieces --split 3 --out pieces instance.opb      nine pieces
@@ -37,7 +37,8 @@ Examples:
   pbcube_pieces --format icnf --out pieces formula.icnf  its own cubes
 
 Exit status:
-   0  all is written; also after help and the version
+   0  everything was written; also after help and the version
    1  a file cannot be opened, read or written, an input is refused, or memory
-      ran out; or all is written, and its number of pieces cannot be printed
+      ran out; or everything was written, but the number of pieces cannot be
+      printed
    2  the command line is refused";

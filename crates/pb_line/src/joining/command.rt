@@ -25,10 +25,7 @@ pub fn command<'a>(alloc: Global) -> Result<Command<'a>, AllocError>
         EXAMPLES_AND_STATUSES,
     );
     let command = whole
-        .arg(format_option(
-            alloc,
-            "How FILE and the reports are written: opb, cnf or icnf",
-        ))?
+        .arg(format_option(alloc, "Format of FILE and of the reports: opb, cnf or icnf"))?
         .arg(pieces_option(alloc))?
         .arg(tasks_option(alloc))?
         .arg(file_operand(alloc, "The file that holds the whole instance"))?
