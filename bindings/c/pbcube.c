@@ -30,6 +30,7 @@ size_t pb_c_cost_text(pbcube *solver, char *room, size_t size);
 int32_t pb_c_value(pbcube *solver, uint32_t variable);
 int32_t pb_c_run(pbcube *solver, int32_t format, const char *text, size_t length, uint64_t nodes);
 size_t pb_c_report(pbcube *solver, char *room, size_t size);
+size_t pb_c_hint(int32_t format, const char *text, size_t length, char *room, size_t size);
 
 pbcube *pbcube_new(void)
 {
@@ -151,6 +152,14 @@ size_t pbcube_report(pbcube *solver, char *text, size_t size)
 {
     char none;
     return solver ? pb_c_report(solver, text ? text : &none, text ? size : 0) : 0;
+}
+
+size_t pbcube_hint(int format, const char *text, size_t length, char *hint, size_t size)
+{
+    char none;
+    if (!text && length > 0)
+        return 0;
+    return pb_c_hint(format, length > 0 ? text : "", length, hint ? hint : &none, hint ? size : 0);
 }
 
 const char *pbcube_name(int number)

@@ -38,6 +38,7 @@ static void null_pointers(void)
     EXPECT(pbcube_value(NULL, 1) == PBCUBE_NULL);
     EXPECT(pbcube_run(NULL, PBCUBE_OPB, "", 0, 0) == PBCUBE_NULL);
     EXPECT(pbcube_report(NULL, NULL, 0) == 0);
+    EXPECT(pbcube_hint(PBCUBE_OPB, NULL, 1, NULL, 0) == 0);
     pbcube_free(NULL);
 }
 
@@ -256,6 +257,24 @@ static void texts(pbcube *solver)
     pbcube_free(solver);
 }
 
+/* Whether this is the hint on a text, and its length is answered where there is less room and none. */
+static bool hints(int format, const char *text, const char *expected)
+{
+    char all[128] = "", few[4] = "";
+    size_t length = strlen(text);
+    return pbcube_hint(format, text, length, all, sizeof all) == strlen(expected) && strcmp(all, expected) == 0
+        && pbcube_hint(format, text, length, few, 3) == strlen(expected) && strncmp(few, expected, 3) == 0 && few[3] == 0
+        && pbcube_hint(format, text, length, NULL, 9) == strlen(expected);
+}
+
+static void hinted_texts(void)
+{
+    EXPECT(hints(PBCUBE_OPB, "1 x1 > 0 ;", "line 1, column 6: '>': write >= and the least number allowed, as >= 2 for > 1"));
+    EXPECT(hints(PBCUBE_ICNF, "p cnf 1 1\n1 0\n", "the text begins as DIMACS CNF: --format cnf reads it"));
+    EXPECT(hints(PBCUBE_OPB, "1 x1 >= 0 ;", "") && hints(PBCUBE_OPB, "", "") && hints(3, "1 x1 > 0 ;", ""));
+    EXPECT(pbcube_hint(PBCUBE_OPB, NULL, 0, NULL, 0) == 0);
+}
+
 static void limits(pbcube *solver)
 {
     enum { MOST_CONSTRAINTS = 4194304 };
@@ -285,6 +304,7 @@ int main(int count, char **words)
     misuse(pbcube_new());
     great_costs(pbcube_new());
     texts(pbcube_new());
+    hinted_texts();
     for (int number = -12; number < 42; number++)
         EXPECT(pbcube_name(number)[0] != '\0');
     EXPECT(strcmp(pbcube_version(), PBCUBE_VERSION) == 0);

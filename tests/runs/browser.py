@@ -4,8 +4,9 @@
     tests/runs/browser.py [--page [SCREENSHOT]]
 
 Node runs with the flag that it wants for 64-bit memories. The C files of the module are driven by random operations against
-JavaScript's own numbers (parts.mjs). Each worked text and each example must have its report to the byte. Random questions on random
-instances are asked of a `Model` and of a `Solver`, and judged by a listing of all assignments, as tests/runs/questions.py has them.
+JavaScript's own numbers (parts.mjs). Each worked text and each example must have its report to the byte, and each refused text of
+tests/lib/hinted_texts.py its hint. Random questions on random instances are asked of a `Model` and of a `Solver`, and judged by a
+listing of all assignments, as tests/runs/questions.py has them.
 Every call is made in the ways that pbcube.d.ts declares and in ways that it does not, with memory refused, with a module that is cut,
 and 10,000 times in a row (api.mjs). npm installs the package, from no registry, and the example of docs/WEB.md runs on it. Without the
 flag, a Node that wants it is refused by name.
@@ -30,6 +31,7 @@ from lib import STATUSES, TOP, differs, ran, say, version
 from lib.asked import QUESTIONS, steps_of, worked_steps, wrong_answers
 from lib.callers import by_driver
 from lib.examples import examples
+from lib.hinted_texts import BEGUN, PLACED
 from lib.worked_texts import WORKED
 
 JS = TOP / "bindings/js"
@@ -75,13 +77,27 @@ def parts(words, folder):
 def texts(words):
     """Worked texts and examples."""
     known = [*WORKED, *((it.suffix[1:], it.read_bytes(), it.with_suffix(".expected").read_text()) for it in examples())]
+    told = solved(words, known)
+    say(f"{len(WORKED)} worked texts and {len(known) - len(WORKED)} examples, to the byte")
+    return [f"{text[:200]}: {said}, and not {owed}" for (_, text, owed), said in zip(known, told) if not is_owed(said, owed)]
+
+
+def hints(words):
+    """Refused texts have the hints of the program, which names another format by an option."""
+    known = [*((form, text, f"the text {hint}") for form, text, hint in BEGUN), *PLACED]
+    say(f"the hints on {len(known)} refused texts")
+    owed = [re.sub(r"--format (\w+) reads it$", r"format: '\1' reads it", hint) for _, _, hint in known]
+    pairs = zip(known, solved(words, known), owed, strict=True)
+    return [f"{text[:200]}: {said}, and not {hint}" for (_, text, _), said, hint in pairs if said.get("hint") != hint]
+
+
+def solved(words, known):
+    """What the module says of each text."""
     given = json.dumps([(form, base64.b64encode(text).decode()) for form, text, _ in known])
     ended = ran([*words, CALLERS / "texts.mjs", DIST], input=given.encode(), timeout=SECONDS)
     if ended.status:
-        return [f"texts.mjs: {ended}"]
-    told = json.loads(ended.out)
-    say(f"{len(WORKED)} worked texts and {len(known) - len(WORKED)} examples, to the byte")
-    return [f"{text[:200]}: {said}, and not {owed}" for (_, text, owed), said in zip(known, told) if not is_owed(said, owed)]
+        sys.exit(f"browser: texts.mjs: {ended}")
+    return json.loads(ended.out)
 
 
 def is_owed(said, owed):
@@ -175,7 +191,7 @@ def main(options):
         if options:
             wrong = page(words, options[1:])
         else:
-            wrong = [*parts(words, folder), *texts(words), *calls(words), *questions(words), *without_flag(words)]
+            wrong = [*parts(words, folder), *texts(words), *hints(words), *calls(words), *questions(words), *without_flag(words)]
             wrong += installed(words, folder)
     print("\n".join(wrong[:20]), end="\n" if wrong else "")
     return 1 if wrong else 0

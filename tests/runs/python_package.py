@@ -34,6 +34,7 @@ from lib.callers import PYTHON
 from lib.draws import instances
 from lib.formats import Refused as FormatRefused
 from lib.formats import read
+from lib.hinted_texts import AT_LEAST, AT_MOST, BEGUN, LIMITS, NO_PRODUCT, PLACED, SMALL_SUMS, TO_MOST
 from lib.worked_texts import SPOILED, WORKED
 
 callers.package()
@@ -246,7 +247,8 @@ def mistake_facts():
         (lambda: model.solve("a.opb"), "Model.read(path)"), (lambda: Model.solve("a.opb"), "Model.read(path)"),
         (lambda: Model("a.opb"), "Model.read(path)"), (lambda: solve(Path("a.opb")), "Model.read('a.opb', 'opb')"),
         (lambda: model.solve(1.5), "whole number"), (lambda: model.solve(start="x"), "{x: True}"),
-        (lambda: model.solve(start=7), "{x: True}"),
+        (lambda: model.solve(start=7), "{x: True}"), (lambda: model.add("x >= 1"), "x + y >= 1"), (lambda: model.clause(x), "[x]"),
+        (lambda: model.solve(assuming=~x), "[~x]"), (lambda: model.minimise("x"), "model['x']"), (lambda: 2 * x + "y", "model['y']"),
     )  # fmt: skip
     for at, (call, said) in enumerate(cases):
         fault = raised(call)
@@ -257,6 +259,10 @@ def mistake_facts():
     text = str(TOP / "examples/tie.opb")
     fault = raised(lambda: solve(text))
     yield "the name of a file", isinstance(fault, Refused) and fault.hint.endswith(f"Model.read({text!r}, 'opb') reads that")
+    yield "which is not there", "'b/a.opb' is not there" in raised(lambda: solve("b/a.opb")).hint
+    named = ((lambda: solve(TEXT, "OPB"), "'opb'"), (lambda: model.fixed(among="all"), "'least'"))
+    for call, said in named:
+        yield f"{raised(call)!r}", type(raised(call)) is ValueError and said in str(raised(call))
     yield "one in a list before others", x in [x, y] and [y, x][1] is x
     yield "nothing was added", repr(model) == "<Model: 2 variables, 0 constraints, 0 terms, no objective>"
     yield "values in order", model.solve(start=[True, False]).status is model.solve(start=(1, 0)).status is Status.SATISFIABLE
@@ -438,10 +444,10 @@ def room_facts():
 
 
 REFUSED = (
-    ("opb", "1 x1 >= 1", "Unfinished", 1, "';'"), ("opb", "1 x1 >= 1 ;\nmin: 1 x1 ;", "LateObjective", 2, "in front"),
-    ("opb", "x1 >= 1 ;", "Syntax", 1, "min: 2 x1"), ("opb", "max: 1 x1 ;", "Syntax", 1, "'min:' of the sum"),
+    ("opb", "1 x1 >= 1", "Unfinished", 1, "with ;"), ("opb", "1 x1 >= 1 ;\nmin: 1 x1 ;", "LateObjective", 2, "in front"),
+    ("opb", "x1 >= 1 ;", "Syntax", 1, "as 1 x1"), ("opb", "max: 1 x1 ;", "Syntax", 1, "min: of the negated sum"),
     ("opb", "1 x1 >= 1 ;\n1 x1 x2 >= 1 ;", "NonLinear", 2, "new variable"), ("opb", "1 x0 >= 1 ;", "BadVariable", 1, "1048576"),
-    ("opb", f"{2**127} x1 >= 1 ;", "TooLarge", 1, "2**126 - 1"), ("opb", "* #variable= 1048577\n", "TooMany", 1, "1048576"),
+    ("opb", f"{2**127} x1 >= 1 ;", "TooLarge", 1, "2^126 - 1"), ("opb", "* #variable= 1048577\n", "TooMany", 1, "1048576"),
     ("opb", "p cnf 1 1\n1 0\n", "Unfinished", 1, "solve(text, 'cnf')"), ("cnf", "p inccnf\n1 0\n", "BadHeader", 1, "solve(text, 'icnf')"),
     ("cnf", "* #variable= 1\n1 x1 >= 1 ;", "BadHeader", 1, "solve(text, 'opb')"), ("cnf", "1 0\n", "BadHeader", 1, "p cnf"),
     ("cnf", "p cnf 1 1\n1 0 1 0\n", "TooManyClauses", 2, "header"), ("cnf", "p cnf 1 2\n1 0\n", "TooFewClauses", 2, "header"),
@@ -456,6 +462,35 @@ def text_facts():
         is_told = isinstance(fault, Refused) and (fault.line, hint in fault.hint) == (line, True) and fault.name == name
         text_again = str(pickle.loads(pickle.dumps(fault)))
         yield f"{text!r}: {fault!r}", is_told and str(fault) == text_again == f"{fault.name} at line {line}: {fault.hint}"
+
+
+def hint_facts():
+    """A refused text has the hint of the program to the letter: what that says of its file is said of the text, and a call stands in
+    place of its option."""
+    begun = [(format, text, f"the text {hint}") for format, text, hint in BEGUN]
+    for format, text, hint in [*begun, *PLACED]:
+        for call, reads in ((solve, "solve"), (Model.read, "Model.read")):
+            told = re.sub(r"--format (\w+) reads it$", rf"{reads}(text, '\1') reads it", hint)
+            fault = raised(lambda: call(text, format))
+            yield f"{reads} of {text!r}: {fault!r} and not {told}", isinstance(fault, Refused) and fault.hint == told
+
+
+def shared_hint_facts():
+    """What is refused in a text and in a model alike is mended by the same words."""
+    model = Model()
+    x, y = model.variables(2)
+    alike = (
+        (AT_LEAST.split(", as")[0], lambda: x + y > 1), (AT_MOST.split(", as")[0], lambda: x + y < 2),
+        (NO_PRODUCT.split(": ")[1], lambda: x * y), (TO_MOST, lambda: Literal(0)), (TO_MOST, lambda: model.variables(2**20)),
+        (SMALL_SUMS, lambda: model.add(2**126 * x >= 1)), (SMALL_SUMS, lambda: raise_as(Error("TooLarge"))),
+        (LIMITS, lambda: raise_as(Error("TooMany"))),
+    )  # fmt: skip
+    for at, (words, call) in enumerate(alike):
+        yield f"hint {at}: {raised(call)!r}", words.replace("^", "**") in str(raised(call))
+
+
+def raise_as(fault):
+    raise fault
 
 
 # ---- models as texts
@@ -940,7 +975,7 @@ def death_facts():
 def main():
     written = [name_facts, table_facts, many_name_facts, pickle_facts, number_facts, gathered_facts, written_facts, read_facts]
     calls = [value_facts, page_facts, wide_facts, copy_facts, question_facts, start_facts, random_facts, child_facts, kept_facts]
-    refusals = [mistake_facts, foreign_facts, refusal_facts, room_facts, text_facts, limit_of_text_facts]
+    refusals = [mistake_facts, foreign_facts, refusal_facts, room_facts, text_facts, hint_facts, shared_hint_facts, limit_of_text_facts]
     interrupts = [lambda: interrupt_facts(os.kill), lambda: interrupt_facts(os.killpg), question_end_facts]
     ends = [*interrupts, exception_facts, limit_facts, death_facts]
     facts = [fact for part in (*written, *calls, *refusals, *ends) for fact in part()]

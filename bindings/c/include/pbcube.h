@@ -107,6 +107,11 @@ int pbcube_value(pbcube *solver, uint32_t variable);
 int pbcube_run(pbcube *solver, int format, const char *text, size_t length, uint64_t decisions);
 size_t pbcube_report(pbcube *solver, char *text, size_t size);
 
+/* The hint that the program gives on its standard error where it refuses this text, with "the text" in place of a file's name: which
+ * word or which rule is likely the one to correct, and what to write. It is written as the report is, in printable ASCII; its length
+ * is 0 where there is none, as for a text that is not refused. */
+size_t pbcube_hint(int format, const char *text, size_t length, char *hint, size_t size);
+
 /* The name of an answer or a code, as "BadVariable"; never null, and never freed. */
 const char *pbcube_name(int number);
 

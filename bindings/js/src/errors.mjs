@@ -1,26 +1,18 @@
 /** What is refused, and what may help. */
 
 const HINTS = {
-  BadHeader: "the first line that is no comment has to be 'p cnf VARIABLES CLAUSES', or in iCNF 'p inccnf'",
   BadModule: "pbcube.wasm is not whole, or another file: install the package anew",
-  BadVariable: "variables have numbers from 1 to 1048576, and in a CNF at most as many as its header says",
+  BadVariable: "variables are numbered from 1 to 1048576",
   Busy: "a solver is in one call at a time: await the last one, or make another solver",
-  ClauseAfterCube: "put all clauses before the first cube",
   ForeignLiteral: "the variable is one of another model",
-  LateObjective: "put the one objective in front of all constraints",
   Memory: "memory was refused",
   NoAnswer: "nothing was found",
   NoMemory64:
     "this program has no WebAssembly with 64-bit memories: Chrome has them from 133 on, Firefox from 134 on, Node from 24 on, and " +
     "Node 20 and 22 with --experimental-wasm-memory64",
-  NonLinear: "put a new variable in place of each product, with constraints that make it the product",
   Stopped: "the module stopped within a call, and can no longer be used: make another model",
-  Syntax: "a statement is like 'min: 2 x1 3 x2 ;' or '1 x1 -2 ~x2 >= 1 ;', with a number before each literal; a clause like '1 -2 0'",
-  TooFewClauses: "the header says how many clauses there are",
-  TooLarge: "the numbers of a statement add up to at most 2**126 - 1: take smaller units",
-  TooMany: "there are at most 1048576 variables, 4194304 constraints and 16777216 terms",
-  TooManyClauses: "the header says how many clauses there are",
-  Unfinished: "end each statement of OPB with ';', each clause and cube with 0",
+  TooLarge: "the numbers of a statement, without their signs, add up to at most 2**126 - 1: take smaller units",
+  TooMany: "there are at most 1048576 variables, 4194304 constraints, 1048575 cubes and 16777216 terms",
 };
 
 /** By the codes of the C header, the names that its `pbcube_name` gives them. */
@@ -71,11 +63,6 @@ export class RefusedText extends PbcubeError {
     this.line = line;
     this.report = report;
   }
-}
-
-/** The hint of a name that a report tells. */
-export function hintOf(name) {
-  return HINTS[name] ?? "";
 }
 
 /** Refuses an argument. */

@@ -46,7 +46,7 @@ export class Model extends Rules {
   /** Solves a text by itself, apart from what the model was told. */
   solveText(text, options) {
     const question = textQuestion(text, options);
-    return textAnswer(question, this.#session.ask(question));
+    return textAnswer(this.#session.ask(question));
   }
 }
 

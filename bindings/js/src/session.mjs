@@ -5,6 +5,7 @@ import { PbcubeError, refuse } from "./errors.mjs";
 const NO_LIMIT = 2n ** 64n - 1n;
 const HANDLE = 16n; // bytes of the solver that the module's caller holds, of which all are 0 before it is made
 const KEPT_ROOM = 65536; // bytes of room that is kept from one call to the next
+const LONGEST_HINT = 1024; // bytes, which are more than any has, since it shows few of a long word
 /** The answers of the C header, by its numbers. */
 export const STATUSES = {
   1: "Unknown",
@@ -112,10 +113,20 @@ export class Session {
   }
 
   #run({ text, format, nodes }) {
-    const bytes = this.#bytes(text);
-    const status = STATUSES[this.#checked("pb_c_run", this.#solver, format, bytes, BigInt(text.length), budgetOf(nodes))];
+    const pointer = this.#taken(text.length + LONGEST_HINT); // the text, then room for a hint
+    const words = [format, pointer, BigInt(text.length)];
+    this.#view(Uint8Array, pointer, text.length).set(text);
+    const status = STATUSES[this.#checked("pb_c_run", this.#solver, ...words, budgetOf(nodes))];
+    const hint = status === "Unsupported" ? this.#hint(...words) : "";
     this.#giveBack();
-    return { status, report: this.#text("pb_c_report") };
+    return { status, report: this.#text("pb_c_report"), hint };
+  }
+
+  /** The hint that the program gives on a text that it refuses. The text is in the module's memory, with room behind it. */
+  #hint(format, pointer, count) {
+    const room = pointer + count;
+    const length = Number(this.#call("pb_c_hint", format, pointer, count, room, BigInt(LONGEST_HINT)));
+    return new TextDecoder().decode(this.#view(Uint8Array, room, length));
   }
 
   /** Has the variables up to this one: 0 times it is at least 0. */

@@ -126,7 +126,7 @@ export class Solver {
   async solveText(text, options) {
     this.#free();
     const question = textQuestion(text, options);
-    return textAnswer(question, await this.#ask(question, options?.signal));
+    return textAnswer(await this.#ask(question, options?.signal));
   }
 
   /** Ends the worker, and what it is asked. The next question starts another one. */

@@ -1,5 +1,5 @@
 /** Texts in OPB, CNF and iCNF, and what comes of them. */
-import { PbcubeError, RefusedText, hintOf, refuse, shown } from "./errors.mjs";
+import { PbcubeError, RefusedText, refuse, shown } from "./errors.mjs";
 import { budgetOf } from "./rules.mjs";
 import { tidy } from "./sums.mjs";
 
@@ -16,13 +16,13 @@ export function textQuestion(text, { format = "opb", nodes } = {}) {
   if (isLong || bytes.length > MOST_BYTES) {
     throw new PbcubeError("TooLarge", `a text has at most ${MOST_BYTES} bytes here: the program pbcube reads longer ones`);
   }
-  return { kind: "text", text: bytes, format: FORMATS[format], formatName: format, nodes: budgetOf(nodes) };
+  return { kind: "text", text: bytes, format: FORMATS[format], nodes: budgetOf(nodes) };
 }
 
-/** The answer to such a question, by the reply; refuses a text that was refused. */
-export function textAnswer({ text, formatName }, { status, report }) {
+/** The answer of the reply to such a question; refuses a text that was refused. */
+export function textAnswer({ status, report, hint }) {
   const lines = new Map(report.split("\n").map((line) => [line[0], line.split(" ")]));
-  if (lines.has("c")) refuseText(lines.get("c"), text, formatName, report);
+  if (lines.has("c")) refuseText(lines.get("c"), hint, report);
   const found = HAS_VALUES.includes(status);
   const values = found ? lines.get("v").slice(1).filter((word) => word !== "0") : null;
   return Object.freeze({
@@ -33,20 +33,10 @@ export function textAnswer({ text, formatName }, { status, report }) {
   });
 }
 
-/** By the line `c refused: NAME at line LINE`, or `c refused: Memory`. */
-function refuseText([, , name, , , line], text, format, report) {
+/** By the line `c refused: NAME at line LINE`, or `c refused: Memory`. The program's hint names another format by an option. */
+function refuseText([, , name, , , line], hint, report) {
   if (name === "Memory") throw new PbcubeError("Memory");
-  throw new RefusedText(name, textHint(name, text, format), Number(line), report);
-}
-
-function textHint(name, text, format) {
-  const begins = beginning(text);
-  if (text[0] === 0x1f && text[1] === 0x8b) return "the text is compressed by gzip: uncompress it first";
-  if (begins && begins !== format) return `the text begins as one in the format '${begins}'`;
-  if (name === "Syntax" && format === "opb" && new TextDecoder().decode(text).includes("max:")) {
-    return "there is no 'max:': write 'min:' of the sum with its signs turned";
-  }
-  return hintOf(name);
+  throw new RefusedText(name, hint.replace(/--format ([a-z]+)/, "format: '$1'"), Number(line), report);
 }
 
 /** The format of which a text has the header, or 'opb' where it has an objective; nothing where neither tells. */

@@ -3,23 +3,18 @@
 from __future__ import annotations
 
 import os
+import re
 from typing import Dict
 
+from .library import FORMATS, hint_on, loaded
+
 _HINTS: Dict[str, str] = {
-    "BadHeader": "the first line that is no comment has to be 'p cnf VARIABLES CLAUSES', or in iCNF 'p inccnf'",
-    "BadVariable": "variables have numbers from 1 to 1048576, and in a CNF at most as many as its header says",
-    "ClauseAfterCube": "put all clauses before the first cube",
+    "BadVariable": "variables are numbered from 1 to 1048576",
     "Ended": "the process of the search ended by itself, as where the system wants its memory back",
-    "LateObjective": "put the one objective in front of all constraints",
-    "NameTaken": "each name is that of one variable: model[name] is its literal",
-    "NonLinear": "put a new variable in place of each product, with constraints that make it the product",
-    "Syntax": "a statement is like 'min: 2 x1 3 x2 ;' or '1 x1 -2 ~x2 >= 1 ;', with a number before each literal; a clause like '1 -2 0'",
-    "TooFewClauses": "the header says how many clauses there are",
-    "TooLarge": "the numbers of a statement add up to at most 2**126 - 1: take smaller units",
-    "TooMany": "there are at most 1048576 variables, 4194304 constraints and 16777216 terms",
-    "TooManyClauses": "the header says how many clauses there are",
-    "Unfinished": "end each statement of OPB with ';', each clause and cube with 0",
+    "TooLarge": "the numbers of a statement, without their signs, add up to at most 2**126 - 1: take smaller units",
+    "TooMany": "there are at most 1048576 variables, 4194304 constraints, 1048575 cubes and 16777216 terms",
 }
+_LIKE_A_PATH = re.compile(rb"[^\s;]+\.(opb|i?cnf)")
 
 
 class Error(Exception):
@@ -54,35 +49,17 @@ class Refused(Error):
         return f"{self.name} at line {self.line}" + (f": {self.hint}" if self.hint else "")
 
 
-def _beginning(text: bytes) -> str:
-    """The format of which the text has the header, or 'opb' where it has an objective; nothing where neither tells."""
-    for line in text.splitlines():
-        words = line.split()
-        if words[:2] == [b"p", b"cnf"]:
-            return "cnf"
-        if words[:2] == [b"p", b"inccnf"]:
-            return "icnf"
-        if line.lstrip().startswith((b"min:", b"* #variable=")):
-            return "opb"
-        if words and not words[0].startswith((b"c", b"*")):
-            return ""
-    return ""
-
-
 def _is_path(text: bytes) -> bool:
     """Whether the text is the name of a file that is there."""
     return len(text) < 4096 and not set(text) & set(b"\n;") and os.path.isfile(text)
 
 
 def refused(name: str, line: int, text: bytes, format: str, reads: str = "solve") -> Refused:
-    """The refusal of a text in this format by the call of that name, with what may help."""
-    begins = _beginning(text)
+    """The refusal of a text in this format by the call of that name. It has the hint that the program gives, which names another format
+    by an option, and here by the call."""
     if _is_path(text):
         return Refused(name, line, f"the text is the name of a file: Model.read({os.fsdecode(text)!r}, {format!r}) reads that")
-    if text.startswith(b"\x1f\x8b"):
-        return Refused(name, line, "the text is compressed by gzip: gzip.decompress reads it")
-    if begins and begins != format:
-        return Refused(name, line, f"the text begins as one in the format {begins!r}: {reads}(text, {begins!r}) reads it")
-    if name == "Syntax" and format == "opb" and b"max:" in text:
-        return Refused(name, line, "there is no 'max:': write 'min:' of the sum with its signs turned")
-    return Refused(name, line)
+    if _LIKE_A_PATH.fullmatch(text):
+        return Refused(name, line, f"the text is like the name of a file, and {os.fsdecode(text)!r} is not there")
+    hint = hint_on(loaded, text, FORMATS[format])
+    return Refused(name, line, re.sub("--format ([a-z]+)", rf"{reads}(text, '\1')", hint))

@@ -39,6 +39,7 @@ _FIRST_BUDGET = 200
 _GROWTH = 2
 _SAFE_SHARE = 0.8  # of the decisions that fit before a deadline, since some take longer than others
 _NOT_KNOWN = 3
+_LONGEST_HINT = 1024  # bytes, which are more than any has, since it shows few of a long word
 _LITERALS = ctypes.POINTER(ctypes.c_int32)
 _END_WITH_PARENT, _KILL = 1, 9  # PR_SET_PDEATHSIG and SIGKILL
 
@@ -76,12 +77,20 @@ def load(path: str) -> ctypes.CDLL:
         "value": (integer, [pointer, ctypes.c_uint32]),
         "run": (integer, [pointer, integer, ctypes.c_char_p, size, ctypes.c_uint64]),
         "report": (size, [pointer, ctypes.c_char_p, size]),
+        "hint": (size, [integer, ctypes.c_char_p, size, ctypes.c_char_p, size]),
         "name": (ctypes.c_char_p, [integer]),
     }
     for name, (result, arguments) in signatures.items():
         call = getattr(library, f"pbcube_{name}")
         call.restype, call.argtypes = result, arguments
     return library
+
+
+def hint_on(library: ctypes.CDLL, text: bytes, format: int) -> str:
+    """The hint that the program gives where it refuses this text, or nothing where it gives none."""
+    room = ctypes.create_string_buffer(_LONGEST_HINT)
+    length = library.pbcube_hint(format, text, len(text), room, len(room))
+    return room.raw[:length].decode("ascii")
 
 
 class _Fault(Exception):

@@ -130,8 +130,7 @@ class Model:
             1 x1 1 x2 >= 1 ;
             1 x2 >= 1 ;
         """
-        if format not in FORMATS:
-            raise ValueError(f"no format: {format!r}")
+        _check_format(format)
         text = texts.bytes_of(path_or_text)
         model, line = cls(), 1
         reader, cubes = texts.Reader(text, format, _MOST_CONSTRAINTS), texts.Cubes(_MOST_TERMS)
@@ -237,7 +236,7 @@ class Model:
         rule = as_constraint(constraint)
         check_owners(rule.owners, self._known())
         if rule.relation not in RELATIONS:
-            raise ValueError(f"no relation: {rule.relation!r}")
+            raise ValueError(f"no relation: {rule.relation!r}: write '>=', '<=' or '=='")
         _, numbers, bound = whole(rule.terms, rule.bound)
         self._tell((rule.relation, bound, compact(numbers, bound)), len(rule.terms), name)
 
@@ -275,6 +274,8 @@ class Model:
         self.add(total(self._own(literals)) == index(count), name=name)
 
     def _own(self, literals: Iterable[Literal]) -> List[Literal]:
+        if isinstance(literals, Literal):
+            raise TypeError(f"literals stand in a list, as [{literals!r}]")
         given = [as_literal(literal) for literal in literals]
         known = self._known()
         for literal in given:
@@ -426,7 +427,7 @@ class Model:
             (True, False)
         """
         if among not in AMONG:
-            raise ValueError(f"nothing to be asked about: {among!r}")
+            raise ValueError(f"nothing to be asked about: {among!r}: write 'feasible' or 'least'")
         asked = self._asked("fixed", self._own(assuming), AMONG[among], self._variables)
         status, _, statuses, _ = self._ask(asked, searches.Limits.of(nodes, time_limit))
         if status == Status.UNSATISFIABLE.value:
@@ -542,8 +543,8 @@ def _values_in_order(start: Sequence[bool], count: int) -> bytes:
     if isinstance(start, (str, bytes)) or not hasattr(start, "__len__") or not hasattr(start, "__getitem__"):
         raise TypeError(f"no start: {start!r}: write an answer, or a dict of values by variables or names, as {{x: True}}")
     if len(start) != count:
-        others = f"and not {len(start)}: of some write a dict, as {{x: True}}"
-        raise ValueError(f"a start in order has a value for each of {count} variables, {others}")
+        others = f"{count} in all, and not {len(start)}: of some write a dict, as {{x: True}}"
+        raise ValueError(f"a start in order has a value for each variable, {others}")
     return bytes(map(_truth, start))
 
 
@@ -559,6 +560,11 @@ def _names_of(count: object) -> List[Optional[str]]:
     if not isinstance(count, Iterable):
         raise TypeError(f"neither a number of variables nor names: {count!r}: write variables(3), or variables('x y z')")
     return [*count]
+
+
+def _check_format(format: str) -> None:
+    if format not in FORMATS:
+        raise ValueError(f"no format: {format!r}: write 'opb', 'cnf' or 'icnf'")
 
 
 def _answer_of_text(reply: Reply) -> Answer:
@@ -586,12 +592,11 @@ def solve(
 
         >>> solve("min: 2 x1 3 x2 ;\\n1 x1 1 x2 >= 1 ;\\n").cost
         2
-        >>> solve("1 x1 >= 1 ;\\n1 x1 x2 >= 1 ;\\n")
+        >>> solve("1 x1 >= 1 ;\\n1 x2 > 1 ;\\n")
         Traceback (most recent call last):
-        pbcube.Refused: NonLinear at line 2: put a new variable in place of each product, with constraints that make it the product
+        pbcube.Refused: Syntax at line 2: line 2, column 6: '>': write >= and the least number allowed, as >= 2 for > 1
     """
-    if format not in FORMATS:
-        raise ValueError(f"no format: {format!r}")
+    _check_format(format)
     if isinstance(text, os.PathLike):
         raise TypeError(f"a path is no text: Model.read({os.fspath(text)!r}, {format!r}).solve() solves the file")
     program = Workers.of(workers, split)

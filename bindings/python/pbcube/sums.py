@@ -60,10 +60,12 @@ def exact(number: object) -> Exact:
 def _advice(value: object) -> str:
     """What to write in place of a value that is no number, behind a colon, where there is something to be told."""
     if isinstance(value, (Literal, Sum)):
-        return ": put a new variable in place of each product, with constraints that make it the product"
+        return ": a product is no sum: put a new variable in its place, with constraints that make it equal to the product"
     if isinstance(value, Constraint):
         return ": a constraint is no sum: `model.add` adds it, and `model.implies(z, constraint)` where a new variable z is true"
-    if isinstance(value, (str, bytes)) or value is None or isinstance(value, complex):
+    if isinstance(value, str):
+        return f": model[{value!r}] is the variable of that name"
+    if isinstance(value, bytes) or value is None or isinstance(value, complex):
         return ""
     if hasattr(value, "__len__"):
         return ": take one item after the other, as total(number * x for number, x in zip(numbers, variables))"
@@ -84,7 +86,7 @@ def whole(terms: Terms, bound: Exact = 0) -> Tuple[int, list[int], int]:
     if sum(map(abs, numbers[::2]), abs(greatest)) > GREATEST_SUM:
         rounded = ", once all are whole: round them, as by Fraction(number).limit_denominator(1000)"
         advice = rounded if factor > 1 else ": take smaller units"
-        raise Error("TooLarge", f"the numbers of a statement add up to at most 2**126 - 1{advice}")
+        raise Error("TooLarge", f"the numbers of a statement, without their signs, add up to at most 2**126 - 1{advice}")
     return factor, numbers, greatest
 
 
@@ -135,10 +137,10 @@ class _Operand:
     __array_ufunc__ = None  # so numpy leaves each operation with its numbers and arrays to these classes
 
     def __lt__(self, other: NoReturn) -> NoReturn:
-        raise TypeError("a sum is not compared by <: write <= and the greatest number that is allowed, as x + y <= 1 for x + y < 2")
+        raise TypeError("a sum is not compared by <: write <= and the greatest number allowed, as x + y <= 1 for x + y < 2")
 
     def __gt__(self, other: NoReturn) -> NoReturn:
-        raise TypeError("a sum is not compared by >: write >= and the least number that is allowed, as x + y >= 2 for x + y > 1")
+        raise TypeError("a sum is not compared by >: write >= and the least number allowed, as x + y >= 2 for x + y > 1")
 
     def __ne__(self, other: object) -> NoReturn:
         raise TypeError("a sum is not compared by !=: write x + y == 1 where two literals are to differ, and else <= or >=")
@@ -381,6 +383,8 @@ def as_constraint(value: object) -> Constraint:
         return value
     if isinstance(value, (Literal, Sum)):
         raise TypeError(f"no constraint: {value!r}: compare it, as {value!r} >= 1")
+    if isinstance(value, str):
+        raise TypeError(f"no constraint: {value!r}: write it with variables, as x + y >= 1; Model.read reads a text")
     is_truth = hasattr(value, "__bool__") and not (value is None or isinstance(value, (int, float, complex)))
     raise TypeError(f"no constraint: {value!r}{': write bool(value) where it is a truth value' if is_truth else ''}")
 

@@ -54,6 +54,26 @@ pub enum Format {
     Icnf = 2,
 }
 
+/// The hint that the program pbcube gives where it refuses a text: which word or which rule is likely the one to correct, and what to
+/// write. There may be none, and of a text that is not refused there is none.
+///
+/// ```
+/// # use pbcube::{hint, Format};
+/// let told = hint(Format::Opb, b"1 x1 == 1 ;\n");
+/// assert_eq!(told.as_deref(), Some("line 1, column 6: '==': write ="));
+/// assert_eq!(hint(Format::Opb, b"1 x1 = 1 ;\n"), None);
+/// ```
+pub fn hint(format: Format, text: &[u8]) -> Option<String> {
+    let write = |room: *mut std::ffi::c_char, size| {
+        // SAFETY: the slice lives through the call, which writes as much as there is room.
+        unsafe { sys::pbcube_hint(format as i32, text.as_ptr().cast(), text.len(), room, size) }
+    };
+    let mut bytes = vec![0_u8; write(null_mut(), 0)];
+    let length = write(bytes.as_mut_ptr().cast(), bytes.len());
+    bytes.truncate(length); // which is 0 where memory is refused
+    (!bytes.is_empty()).then(|| String::from_utf8_lossy(&bytes).into_owned())
+}
+
 /// What a search found.
 #[derive(Clone, Copy, Debug, PartialEq, Eq)]
 pub enum Status {

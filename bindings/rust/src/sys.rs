@@ -40,4 +40,5 @@ extern "C" {
     pub fn pbcube_value(solver: *mut Raw, variable: u32) -> c_int;
     pub fn pbcube_run(solver: *mut Raw, format: c_int, text: *const c_char, length: usize, decisions: u64) -> c_int;
     pub fn pbcube_report(solver: *mut Raw, text: *mut c_char, size: usize) -> usize;
+    pub fn pbcube_hint(format: c_int, text: *const c_char, length: usize, hint: *mut c_char, size: usize) -> usize;
 }

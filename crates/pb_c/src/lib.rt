@@ -8,6 +8,7 @@ mod building;
 mod codes;
 mod copying;
 mod handle;
+mod hints;
 mod lifetime;
 mod literals;
 mod questions;

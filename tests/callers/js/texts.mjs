@@ -1,5 +1,5 @@
 /** Solves each text of a list, which standard input has in JSON as pairs of a format and a text in base64, and prints the reports in
- * JSON, each with the status and with the code and the line of a text that is refused. */
+ * JSON, each with the status and with the code, the line and the hint of a text that is refused. */
 import { readFileSync } from "node:fs";
 import { pathToFileURL } from "node:url";
 
@@ -10,8 +10,8 @@ function solved([format, text]) {
   try {
     const { report, status } = model.solveText(Buffer.from(text, "base64"), { format });
     return { report, status };
-  } catch ({ report, code, line }) {
-    return { report, code, line };
+  } catch ({ report, code, line, hint }) {
+    return { report, code, line, hint };
   }
 }
 
