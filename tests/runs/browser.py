@@ -31,7 +31,7 @@ from lib import STATUSES, TOP, differs, ran, say, version
 from lib.asked import QUESTIONS, steps_of, worked_steps, wrong_answers
 from lib.callers import by_driver
 from lib.examples import examples
-from lib.hinted_texts import BEGUN, PLACED
+from lib.hinted_texts import BEGUN, LIMITS, PLACED, SMALL_SUMS, TO_MOST
 from lib.worked_texts import WORKED
 
 JS = TOP / "bindings/js"
@@ -83,12 +83,14 @@ def texts(words):
 
 
 def hints(words):
-    """Refused texts have the hints of the program, which names another format by an option."""
+    """Refused texts have the hints of the program, which names another format by an option; and refused calls have its words."""
     known = [*((form, text, f"the text {hint}") for form, text, hint in BEGUN), *PLACED]
     say(f"the hints on {len(known)} refused texts")
     owed = [re.sub(r"--format (\w+) reads it$", r"format: '\1' reads it", hint) for _, _, hint in known]
     pairs = zip(known, solved(words, known), owed, strict=True)
-    return [f"{text[:200]}: {said}, and not {hint}" for (_, text, _), said, hint in pairs if said.get("hint") != hint]
+    wrong = [f"{text[:200]}: {said}, and not {hint}" for (_, text, _), said, hint in pairs if said.get("hint") != hint]
+    source, shared = (JS / "src/errors.mjs").read_text(), (SMALL_SUMS.replace("^", "**"), LIMITS, TO_MOST)
+    return wrong + [f"errors.mjs does not say {hint!r}" for hint in shared if f'"{hint}"' not in source]
 
 
 def solved(words, known):
