@@ -66,8 +66,9 @@ class Session:
     def __init__(self, library, instance):
         self.library, self.solver, self.room = library, library.new(), ctypes.create_string_buffer(64)
         self.variables = instance.variables
-        self.tell(instance.costs)
-        library.end_objective(self.solver)
+        if instance.costs:
+            self.tell(instance.costs)
+            library.end_objective(self.solver)
         for terms, is_equal, bound in instance.rows:
             self.tell(terms)
             library.end(self.solver, 2 if is_equal else 0, bound)
