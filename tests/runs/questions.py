@@ -8,7 +8,8 @@ one do not fit 64 bits. Between the questions of one instance more is told of it
 objective, and values are suggested. A question is for the least assignment under literals, why there is none, or which variables are
 fixed, some with a budget of decisions; the literals may repeat, contradict each other and be of a variable that nothing names. Worked
 questions are cut, and those after them are not, since what is known takes no decision. A row of questions on a larger instance must
-take no memory but for its first ones. Where there is no cargo Rust is left out, and all where there is no C compiler.
+take no memory but for its first ones, and on a product each click must be told by few decisions what is fixed. Where there is no cargo
+Rust is left out, and all where there is no C compiler.
 """
 import os
 import random
@@ -18,15 +19,20 @@ from pathlib import Path
 
 sys.dont_write_bytecode = True
 sys.path.insert(0, str(Path(__file__).resolve().parents[1]))
-from lib import callers, ran
+from lib import TOP, callers, ran
 from lib.asked import JUDGES, QUESTIONS, report_of, steps_of, worked_steps, wrong_answers
-from lib.callers import NO_LIMIT, by_driver, drivers, terms_of
+from lib.callers import NO_LIMIT, RELATIONS, by_driver, drivers, terms_of
+
+sys.path.insert(0, str(TOP / "bench"))
+import make_configurator
 
 pbcube = callers.package()
 INSTANCES = 340
 FEASIBLE = (2000, 4000)  # between which is the number of questions about something feasible
 ROW, ROW_ITEMS, ROW_QUESTIONS = 1000, 60, 10_000
 FIRST_QUESTIONS = 1  # which may take memory: for the search, and for two assignments
+OPTIONS, CLICKS, FIRST_DECISIONS = 300, 6, 2000
+CLICK_DECISIONS = 5000  # when each variable was asked about near the first assignment, a click took over 20,000
 STATUSES = {False: "0", True: "1", None: "2"}
 
 
@@ -116,13 +122,37 @@ def memory_of_a_row(command):
     return [] if few == many and few[0] == 0 else [f"memory: {few} of {FIRST_QUESTIONS} question, {many} of {ROW_QUESTIONS} more"]
 
 
+def rows_of_a_product():
+    """Those of a product that is configured."""
+    for line in make_configurator.text(OPTIONS, "1").splitlines()[2:]:
+        *words, relation, bound, _ = line.replace("~x", "-").replace("x", "").split()
+        terms = list(zip(map(int, words[::2]), map(int, words[1::2])))
+        yield f"sum {RELATIONS.index(relation)} {bound} {terms_of(terms)}\n"
+
+
+def decisions_of_clicks(command):
+    """The clicks on a product of which a driver can't tell what is fixed by CLICK_DECISIONS, as a list of texts. Each click takes one
+    option more of a feasible assignment."""
+
+    def answers(questions):
+        ended = ran(command, input="".join([*rows_of_a_product(), *questions]).encode(), timeout=callers.SECONDS)
+        return ended.out.splitlines()
+
+    values = next(line for line in answers([f"under {FIRST_DECISIONS} 0\n"]) if line.startswith("v ")).split()[1:]
+    taken = [int(word[1:]) for word in values if word.startswith("x")]
+    chosen = random.Random(12).sample(taken, CLICKS)
+    clicks = [f"fixed 0 {CLICK_DECISIONS} {count} {' '.join(map(str, chosen[:count]))}\n" for count in range(CLICKS + 1)]
+    told = [line for line in answers(clicks) if line.startswith("= ")]
+    return [f"click {place}: {line}" for place, line in enumerate(told) if line != "= 10"] + ["clicks: not all told"] * (len(told) != len(clicks))
+
+
 def main():
     random.seed(10)
     every = [*worked_steps(), *(step for number in range(INSTANCES) for step in steps_of(number))]
     with tempfile.TemporaryDirectory() as name:
         commands = dict(drivers(Path(name)))
         ways = {way: by_driver(command, every) for way, command in commands.items()}
-        wrong = memory_of_a_row(commands["C"])
+        wrong = memory_of_a_row(commands["C"]) + decisions_of_clicks(commands["C"])
     ways["Python"] = by_python(every)
     wrong += wrong_draws(every)
     wrong += [text for way, reports in ways.items() for text in wrong_answers(way, every, reports)]

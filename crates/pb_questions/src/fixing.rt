@@ -107,19 +107,31 @@ impl<'a> Questions<'a> {
         ensures unchanged { self.new ≡ self.old }
     {
         let mut statuses = self.unknown()?;
+        let mut turned = self.first_turned();
         for place in 0..first.len() {
             if statuses[place as usize] == VariableStatus::Unknown {
                 let value = first.get(place + 1);
-                let sought = self.seek_other(place, value, &mut cube, bound, left)?;
+                let sought = self.seek_apart(
+                    place,
+                    value,
+                    first,
+                    &statuses,
+                    &mut turned,
+                    &mut cube,
+                    bound,
+                    left,
+                )?;
                 learn(&mut statuses, first, place, value, sought);
             }
         }
+        // So that the next question begins near what this one found.
+        self.follow(first);
         Ok(statuses)
     }
 
     /// Seeks an assignment that makes the cube true, costs no more than the bound, and gives the variable at the place the
     /// other value than this one. Leaves the cube as it was. Fails where memory is refused.
-    fn seek_other(
+    pub(crate) fn seek_other(
         &mut self,
         place: u32,
         value: bool,

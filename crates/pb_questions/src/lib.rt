@@ -9,6 +9,7 @@ mod fixing;
 mod known;
 mod questions;
 mod seeking;
+mod turning;
 
 pub use explaining::{Core, Explanation};
 pub use fixing::{Among, Fixed, VariableStatus};

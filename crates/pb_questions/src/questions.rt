@@ -253,6 +253,15 @@ impl<'a> Questions<'a> {
         self.instance.has_objective()
     }
 
+    /// Where nothing is minimised, the values of the assignment are the first that further searches try.
+    pub(crate) fn follow(&mut self, values: &Assignment)
+        ensures { self.new ≡ self.old }
+    {
+        if !self.has_objective() {
+            self.search.suggest(values);
+        }
+    }
+
     /// The allocator of what the questions make.
     pub(crate) fn alloc(&self) -> Global {
         self.alloc

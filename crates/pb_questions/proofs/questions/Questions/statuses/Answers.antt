@@ -33,9 +33,9 @@ loop-place-preserved c =
           subst (λ (l : List VariableStatus). IsSoFar p cube bound c.args.left.now (place + 1) ended.left l)
           (sym (ap (λ (v : Vec VariableStatus Global). v.items) w.statuses-is ∙ with_items_is c.loop-place.statuses new (further.same_length ∙ sym c.loop-place.statuses.ok.0)))
           (subst (λ (o : Option ℕ). IsSoFar p cube bound c.args.left.now (place + 1) o new) (sym w.left-is)
-          (searched p cube bound c.args.left.now place c.loop-place.left w.seek_other.new.left sought items new within further w.in_ok-sought.ensures.no_budget so_far)) in
+          (searched p cube bound c.args.left.now place c.loop-place.left w.seek_apart.new.left sought items new within further w.in_ok-sought.ensures.no_budget so_far)) in
           record {
-            same_instance = w.self-is ∙ w.seek_other.ensures.unchanged ∙ inv.same_instance;
+            same_instance = w.self-is ∙ w.seek_apart.ensures.unchanged ∙ inv.same_instance;
             same_cube = ap (λ (v : Vec Literal Global). v.items) w.cube-is ∙ w.in_ok-sought.ensures.same_cube ∙ inv.same_cube;
             count = next.count;
             are = next.are;
