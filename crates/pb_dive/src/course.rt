@@ -13,6 +13,13 @@ const VARIABLES_OF_A_CONFLICT: u32 = 4;
 /// After how many conflicts the last dive of a round gives up. Chosen by hand.
 const MANY_CONFLICTS: u32 = 4_000;
 
+/// That dive makes at most one in this many of the decisions that a round may make, since it seldom leads to anything: with all of them
+/// `cover 500` held a dearer assignment after 16,000 decisions.
+const LONG_PART: u64 = 6;
+
+/// It makes as many as this in any case, where the round may. Chosen by hand.
+const LEAST_LONG: u64 = 512;
+
 /// By what a dive chooses its decisions.
 #[derive(Clone, Copy, Debug, PartialEq, Eq)]
 pub enum Way {
@@ -50,6 +57,14 @@ impl Course {
             limit: None,
             conflicts: MANY_CONFLICTS,
         }
+    }
+
+    /// How many of the decisions that a round may make are for this dive.
+    pub fn share_of(&self, most: u64) -> u64 {
+        if self.conflicts < MANY_CONFLICTS {
+            return most;
+        }
+        (most / LONG_PART).max(LEAST_LONG).min(most)
     }
 
     /// By the order of the search over `vars` variables, within a limit if there is one, for a few conflicts.

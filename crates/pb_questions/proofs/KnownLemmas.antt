@@ -1,5 +1,5 @@
 -- What answers to earlier questions tell of further ones.
-use Rattle.std.proofs.Common.{◌≡◌, ℕ, ◌≤◌, List, Bool, refl}
+use Rattle.std.proofs.Common.{◌≡◌, ◌≤◌, List, Bool, refl}
 use Rattle.std.specs.Prelude.{All, Contains, slice_index_or}
 use Rattle.std.proofs.lemmas.List.Elements.{All-contains}
 use Rattle.pb_inst.specs.Literal.{Literal}

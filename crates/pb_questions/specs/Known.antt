@@ -1,5 +1,5 @@
 -- Answers that are known from earlier questions.
-use Rattle.std.specs.Prelude.{◌≡◌, ℕ, Bool, List, length, ⊤}
+use Rattle.std.specs.Prelude.{◌≡◌, Bool, List, length, ⊤}
 use Rattle.pb_inst.specs.Literal.{Literal}
 use Rattle.pb_inst.specs.Problem.{Problem}
 use Rattle.pb_questions.specs.declared.known.Kind.{Kind}

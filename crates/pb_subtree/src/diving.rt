@@ -70,6 +70,7 @@ fn dive_in_round<C: Coefficient, S: Share>(
         let Some(course) = round.next() else {
             return is_better;
         };
+        rest = rest.min(course.share_of(most));
         let has_led = dive_once(state, best, share, run, course, &mut rest);
         round.note(has_led, best.cost());
         if has_led {

@@ -1,6 +1,5 @@
-use Rattle.std.proofs.Common.{ℕ, take}
+use Rattle.std.proofs.Common.{take}
 use Rattle.std.specs.Prelude.{All, Contains}
-use Rattle.pb_inst.specs.Literal.{Literal}
 use Rattle.pb_questions.proofs.known.KnownAnswer.is_under.Given as goal
 
 -- the literals so far are among those of the cube

@@ -1,5 +1,5 @@
 use Rattle.std.proofs.Common.{rules, ◌≡◌, false, true}
-use Rattle.pb_questions.specs.declared.known.Kind.TheVariants.{Least, Infeasible}
+use Rattle.pb_questions.specs.declared.known.Kind.TheVariants.{Infeasible}
 use Rattle.pb_questions.proofs.KnownLemmas.{tells_more}
 use Rattle.pb_questions.proofs.known.KnownAnswer.tells.Goals as goal
 use Rattle.pb_questions.proofs.known.KnownAnswer.tells.Goals.{in-Open, in-Least, in-Infeasible}
