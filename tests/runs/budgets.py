@@ -9,7 +9,8 @@ to 20, and with some of them in pieces and with two workers. The numbers of some
 `s UNSATISFIABLE` must be the whole answer; with `s SATISFIABLE` the values must be feasible and the `o` line their cost; `s UNKNOWN`
 stands alone. With one worker a greater budget never does worse, and once it is enough it stays so. Where some assignments are pieces
 of their own, a run that makes no decision tells the first of these, or the whole answer where the other piece needs no decision.
-Two worked instances end within a budget that is enough only where each decision has a bound before it, one is cut by each budget that
+Two worked instances end within a budget that is enough only where each decision has a bound before it, and another one only
+where dives may take most of a budget; one is cut by each budget that
 is less than its dives need, and others owe a report within each of some budgets (worked_budgets.py). Worked texts (worked_texts.py)
 have the report that is owed with their budget.
 """
@@ -25,6 +26,7 @@ sys.path.insert(0, str(Path(__file__).resolve().parents[1]))
 from lib import PROCESSORS, STATUSES, built, ran
 from lib.draws import instances
 from lib.efforts import ring_cover
+from lib.made import Made
 from lib.reports import values_line
 from lib.worked_budgets import WITHIN
 from lib.worked_texts import BUDGETED
@@ -51,8 +53,9 @@ min: 1 x1 1 x2 1 x3 1 x4 1 x5 1 x6 1 x7 1 x8 1 x9 1 x10 1 x11 ;
 """
 # Budgets that are enough for these, where each decision has a bound before it. Where a bound from above is used again at a tie, the
 # first one takes a decision more. Where a dive goes on though the bound tells that nothing below it costs less than what is held,
-# the ring takes seven more.
-ENOUGH = [("a tie", TIED, 22), ("a dive", ring_cover(420).text(), 1141)]
+# the ring takes seven more. A question to a package manager is answered by dives, which an eighth of the budget is too little for.
+QUESTION = Made("make_packages.py 460 17 --distribution").text()
+ENOUGH = [("a tie", TIED, 22), ("a dive", ring_cover(420).text(), 1141), ("dives of a package question", QUESTION, 6_000)]
 # A search that dives from its root, and budgets of fewer decisions than it needs, those of its dives among them.
 DIVING, FEWER = ring_cover(390).text(), (0, 64, 300)
 

@@ -18,9 +18,10 @@ from pathlib import Path
 
 sys.dont_write_bytecode = True
 sys.path.insert(0, str(Path(__file__).resolve().parents[1]))
-from lib import SECONDS, TOP, built, ran, side_by_side
+from lib import SECONDS, built, ran, side_by_side
 from lib.draws import Random
 from lib.efforts import chain, crowd_behind_ring, failing_behind_ring, filled_cover, gated_cover, packing, pigeons, ring_cover, schedule
+from lib.made import Made
 
 INTERVAL = 256  # decisions after which a search asks again
 
@@ -38,26 +39,6 @@ class Effort:
     def command(self):
         """What asks `bench` for the search. `pieces` begins with the whole before the pieces, as a run does."""
         return f"{'pieces' if self.begins else 'search'} {self.split}"
-
-
-@dataclass(frozen=True)
-class Made:
-    """An instance that a script of bench/ makes by these words. Of its costs every `part`-th one is kept."""
-
-    words: str
-    part: int = 1
-
-    def text(self):
-        script, *words = self.words.split()
-        lines = ran([sys.executable, TOP / "bench" / script, *words]).out.splitlines()
-        return "".join(f"{self.with_few_costs(it)}\n" for it in lines)
-
-    def with_few_costs(self, line):
-        if self.part == 1 or not line.startswith("min:"):
-            return line
-        words = line.split()[1:-1]
-        kept = [f"{coefficient} {literal}" for coefficient, literal in zip(words[::2], words[1::2])][:: self.part]
-        return " ".join(["min:", *kept, ";"])
 
 
 @dataclass(frozen=True)
