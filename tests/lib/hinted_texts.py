@@ -18,6 +18,7 @@ MOVE_LEFT = "one number alone stands on the right: write all literals on the lef
 RELATE = "end a constraint with >=, <= or =, and a number"
 END = "end the statement before it with ;"
 MINIMISE = "write min: of the negated sum"
+END_OBJECTIVE = "the objective has no relation: end it with ; before the first constraint"
 SMALL_SUMS = "the numbers of a statement, without their signs, add up to at most 2^126 - 1: take smaller units"
 LIMITS = "there are at most 1048576 variables, 4194304 constraints, 1048575 cubes and 16777216 terms"
 CUBE_LINE = "a cube is a line of its own: a, its literals and 0"
@@ -48,6 +49,9 @@ PLACED = [
     ("opb", b"maximize: 1 x1 ;\n1 x1 >= 1 ;\n", f"line 1, column 1: 'maximize:': {MINIMISE}"),
     ("opb", b"minimize: 1 x1 ;\n1 x1 >= 1 ;\n", "line 1, column 1: 'minimize:': write min:"),
     ("opb", b"MIN: 1 x1 ;\n1 x1 >= 1 ;\n", "line 1, column 1: 'MIN:': write min:"),
+    ("opb", b"min: 1 x1\n1 x1 1 x2 >= 1 ;\n", f"line 2, column 11: '>=': {END_OBJECTIVE}"),
+    ("opb", b"min: 1 x1 <= 1 ;\n", f"line 1, column 11: '<=': {END_OBJECTIVE}"),
+    ("opb", b"min: = 1 ;\n", f"line 1, column 6: '=': {END_OBJECTIVE}"),
     ("opb", b"* a comment\nsoft: 9 ;\n[2] 1 x1 >= 1 ;\n", f"line 2, column 1: 'soft:': {NO_SOFT}"),
     ("opb", b"min: 1 x1 ;\n1 x1\n* between\n 2 x2 > 1 ;\n", f"line 4, column 7: '>': {AT_LEAST}"),
     ("opb", b"1 x1 1 x2 <2 ;\n", f"line 1, column 11: '<': {AT_MOST}"),
@@ -89,6 +93,8 @@ PLACED = [
     ("icnf", b"p inccnf\n9 2 0\na 1 -1048577 0\n", f"line 3, column 5: '-1048577': {TO_MOST}"),
     ("cnf", b"c 0 0\np cnf 2 3\n1 2 0 -1 00\n%\n0\n", "line 3: the header says that the number of clauses is 3, but it is 2"),
     ("cnf", b"p cnf 2 1\n1 0\n2 0\n", "line 3: the header says that the number of clauses is 1, but it is 2"),
+    ("cnf", b"p cnf 2 1\n1 2 0\n1 2\n", "line 3: the header says that the number of clauses is 1, but it is 2"),
+    ("cnf", b"p cnf 2 0\n1\n", "line 2: the header says that the number of clauses is 0, but it is 1"),
     ("cnf", b"p cnf 2 2\n1 2 0\n-1\n+2 0\n", "line 4, column 1: '+2'"),
     ("icnf", b"p inccnf\n1 2 0\na 1 x 0\n", "line 3, column 5: 'x'"),
     ("cnf", b"p cnf 1 1\n-0 0\n", "line 2, column 1: '-0'"),

@@ -49,6 +49,9 @@ pub enum Advice {
     /// A statement begins before the last one ends.
     #[error("end the statement before it with ;")]
     End,
+    /// A relation follows the terms of the objective, which as a rule does not end.
+    #[error("the objective has no relation: end it with ; before the first constraint")]
+    EndObjective,
     /// A comment stands behind a statement.
     #[error("write a comment on a line of its own")]
     Separate,

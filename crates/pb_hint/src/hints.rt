@@ -138,9 +138,15 @@ fn broken_rule(format: Format, text: &[u8], kind: ReadKind) -> Option<Rule> {
         ReadKind::TooMany => Some(Rule::Limits),
         ReadKind::BadHeader if format == Format::Icnf => Some(Rule::IcnfHeader),
         ReadKind::BadHeader => Some(Rule::CnfHeader),
-        ReadKind::TooFewClauses | ReadKind::TooManyClauses => {
+        ReadKind::TooFewClauses => {
             let told = variables::clauses_told(text)?;
             Some(Rule::ClauseCount(told, dimacs::clauses(text)))
+        }
+        ReadKind::TooManyClauses => {
+            let told = variables::clauses_told(text)?;
+            // The last clause may have no end.
+            let least = told.saturating_add(1);
+            Some(Rule::ClauseCount(told, dimacs::clauses(text).max(least)))
         }
         ReadKind::ClauseAfterCube => Some(Rule::ClausesFirst),
         _ => None,

@@ -46,6 +46,10 @@ impl StrayToken {
             }
             Expected::AfterLiteral { objective: false } | Expected::Bound
                 if word == b";".as_slice() => { Some(Advice::Relate) }
+            Expected::ObjectiveNumber
+            | Expected::Literal { objective: true }
+            | Expected::AfterLiteral { objective: true }
+                if is_relation(word) => { Some(Advice::EndObjective) }
             Expected::Bound | Expected::End if is_literal => Some(Advice::MoveLeft),
             Expected::End if is_number(word) || word == b"min:".as_slice() => Some(Advice::End),
             Expected::Literal { .. } | Expected::AfterLiteral { .. } if is_name(word) => {
@@ -99,6 +103,11 @@ fn misplaced_on(line: &[u8], expected: Expected) -> Result<Expected, StrayToken>
         Some(from) => after_word(line, from..line.len(), expected),
         None => Ok(expected),
     }
+}
+
+/// Whether the word is the relation of a constraint.
+fn is_relation(word: &[u8]) -> bool {
+    word == b">=".as_slice() || word == b"<=".as_slice() || word == b"=".as_slice()
 }
 
 /// Whether a byte is no part of a word.
