@@ -4,6 +4,7 @@ from __future__ import annotations
 
 import argparse
 import math
+import os
 import signal
 import subprocess
 import sys
@@ -142,3 +143,14 @@ def end_with_program() -> None:
     """Lets SIGINT and SIGTERM end this process by way of its program, which would else go on by itself."""
     for number in (signal.SIGINT, signal.SIGTERM):
         signal.signal(number, lambda number, _: sys.exit(128 + number))
+
+
+def end_with_status(main: Callable[[], int]) -> None:
+    """Ends this process with the status that `main` returns, or silently with 1, as pbcube's tools do, where nobody reads its output."""
+    try:
+        status = main()
+        sys.stdout.flush()
+    except BrokenPipeError:
+        os.dup2(os.open(os.devnull, os.O_WRONLY), sys.stdout.fileno())  # for what is left, which Python writes at the end
+        status = 1
+    sys.exit(status)

@@ -10,6 +10,7 @@
 # A lost host or a killed task costs its share alone: the same words once more run the tasks that have no report, or one in which
 # a piece was cut, and join all. A FOLDER with a report of another file, split or number of tasks is refused, with status 2.
 set -euo pipefail
+[ $# -ge 5 ] && [ $# -le 6 ] || { echo "usage: parallel-tasks.sh FILE FORMAT SPLIT TASKS FOLDER [HOSTS]" >&2; exit 2; }
 file=$(realpath "$1") format=$2 split=$3 tasks=$4 hosts=()
 mkdir -p "$5"
 folder=$(realpath "$5")
@@ -19,6 +20,10 @@ cd "$folder"
 digest=$(sha256sum < "$file" | cut -d ' ' -f 1)
 for report in *.report; do
   [ -s "$report" ] || continue
+  if [[ $(head -n 1 "$report") == 'c refused split'* ]]; then
+    rm -f "$report" # and not of a division, so the folder can serve another one
+    continue
+  fi
   heading="c part ${report%.report} of $tasks of instance $digest"$'\nc pieces '
   if [[ $(head -n 2 "$report") != "$heading"*" split $split cubes none" ]]; then
     echo "parallel-tasks.sh: $folder/$report is of another file, split or number of tasks" >&2
@@ -32,10 +37,11 @@ missing() { # the tasks that have no report, or an empty one, or one in which a 
   done
 }
 
-# With the statuses 0 and 10 what begins like a part is one. It gets the report's name only once it is whole; until then its name
-# is another one in each process, so that the same task may run twice at a time. What else a task writes is shown.
+# With the statuses 0 and 10 what begins like a part is one, and a refused split is one for the join, which tells it where all tasks
+# refuse it. It gets the report's name only once it is whole; until then its name is another one in each process, so that the same
+# task may run twice at a time. What else a task writes is shown.
 printf -v words '%q ' --format "$format" --split "$split" --tasks "$tasks" --exchange notes "$file"
 search="part={}.\$(uname -n).\$\$.part; pbcube_task --task {} $words > \$part; case \$? in 0 | 10) "
-search+='if grep -q "^c part " $part; then mv $part {}.report; else cat $part >&2; exit 1; fi ;; *) exit 1 ;; esac'
+search+='if grep -q -e "^c part " -e "^c refused split" $part; then mv $part {}.report; else cat $part >&2; exit 1; fi ;; *) exit 1 ;; esac'
 missing | parallel --workdir "$folder" "${hosts[@]}" --joblog +joblog "$search" || true
 exec pbcube_join "$file" --format "$format" --tasks "$tasks" "$folder"

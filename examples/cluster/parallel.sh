@@ -7,6 +7,7 @@
 # A lost host or a killed solver costs its pieces alone: the same words once more solve the pieces that have no report, and join
 # all. A FOLDER with the pieces of another file or of another split is refused, with status 2.
 set -euo pipefail
+[ $# -ge 4 ] && [ $# -le 5 ] || { echo "usage: parallel.sh FILE FORMAT SPLIT FOLDER [HOSTS]" >&2; exit 2; }
 file=$1 format=$2 split=$3 folder=$4 hosts=()
 [ $# -lt 5 ] || hosts=(--sshloginfile "$(realpath "$5")" --transferfile '{}' --return '{.}.report' --cleanup)
 

@@ -9,6 +9,7 @@
 # The report is FOLDER/joined, and FOLDER/joined.log names the pieces or tasks that are missing. The job ends with 0 where the
 # report has an assignment or says that there is none, and with 1 where it does not or where the join is refused.
 set -euo pipefail
+[ $# -ge 3 ] && [ $# -le 4 ] || { echo "usage: slurm-join.sh FILE FORMAT FOLDER [TASKS]" >&2; exit 2; }
 file=$1 format=$2 folder=$3 status=0
 pbcube_join "$file" --format "$format" ${4:+--tasks "$4"} "$folder" > "$folder/joined.part" 2> "$folder/joined.log" || status=$?
 mv "$folder/joined.part" "$folder/joined"

@@ -12,6 +12,7 @@
 # FOLDER/joined.log names them as --array takes them. FOLDER/division tells the file, split and number of tasks: a task of another
 # one ends with status 2. What a task says on standard error is FOLDER/task-NUMBER.log, where it says anything.
 set -euo pipefail
+[ $# -eq 5 ] || { echo "usage: slurm-tasks.sh FILE FORMAT SPLIT TASKS FOLDER" >&2; exit 2; }
 file=$(realpath "$1") format=$2 split=$3 tasks=$4 task=$SLURM_ARRAY_TASK_ID status=0
 mkdir -p "$5"
 cd "$5"

@@ -16,6 +16,7 @@
 # FOLDER/joined.log names them as --array takes them, with one piece for each task: `run again: pieces 3,5-7`.
 # What a task says on standard error is FOLDER/task-NUMBER.log, where it says anything.
 set -euo pipefail
+[ $# -ge 1 ] && [ $# -le 2 ] || { echo "usage: slurm.sh FOLDER [PIECES]" >&2; exit 2; }
 cd "$1"
 log=task-$SLURM_ARRAY_TASK_ID.log
 exec 2> "$log"

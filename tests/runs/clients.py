@@ -135,6 +135,15 @@ def manual_fault():
     return "" if told == [helped, helped] else f"{told} and not {helped}"
 
 
+def unread_fault(command):
+    """What is wrong where nobody reads the output of a client: it is silent then, and has the status 1."""
+    reading, writing = os.pipe()
+    os.close(reading)
+    ended = subprocess.run(command, stdout=writing, stderr=subprocess.PIPE, text=True, timeout=SECONDS)
+    os.close(writing)
+    return "" if (ended.returncode, ended.stderr) == (1, "") else f"status {ended.returncode}: {ended.stderr}"
+
+
 def stopped_fault(room):
     """Where pbcube goes on when pbcube-lp, which waits for it, is told to end."""
     sleeper, number = room / "sleeper", room / "number"
@@ -407,6 +416,7 @@ def flatzinc_faults(path, room):
     for file, text in files.items():
         file.write_text(text)
     ends = side_by_side(lambda file: ran([CLIENTS / "fzn-pbcube", "--program", path, file]), files)
+    yield "FlatZinc, not read", unread_fault([CLIENTS / "fzn-pbcube", "--program", path, room / "0.fzn"])
     for (text, expected), end in zip(rows.items(), ends):
         yield f"FlatZinc {text!r}", "" if end == expected else f"{end} and not {expected}"
 
@@ -511,6 +521,7 @@ def checks(path, room):
     yield from word_faults(path, room)
     yield "pbcube-lp, its manual page", manual_fault()
     yield "pbcube-lp, stopped", stopped_fault(room)
+    yield "pbcube-lp, not read", unread_fault([CLIENTS / "pbcube-lp", "--program", path, CLIENTS / "mixture.lp"])
     yield from timed_faults(room)
     yield from flatzinc_faults(path, room)
     yield from command_faults(path, room, python)

@@ -9,6 +9,7 @@ again; what a child process finds is what this process finds. Real signals end a
 terminal sends it, an exception, a time limit, and the death of the process; each time no child is left, and after Ctrl-C the process
 solves on. The blocks of docs/EMBEDDING.md print what it says. Where there is no C compiler, and so no library, all is left out.
 """
+import io
 import itertools
 import json
 import operator
@@ -44,6 +45,7 @@ MODELS = 150
 INSTANCES = 300
 SPOILS = (b";", b"-", b"\n", b"\xff", b"*", b"0", b"~", b":", b"%", b"\r", b"c")  # bytes that change what a text spells
 IN_CHILD = 6  # of which each has to start
+GROWING = (50, 100, 200, 300, 400)  # decisions
 PATIENCE = 30  # seconds, of a machine that may be busy; no search that is ended here would end by itself in so few
 RELATIONS = {">=": operator.ge, "<=": operator.le, "==": operator.eq}
 TEXT = "min: 2 x1 3 x2 ;\n1 x1 1 x2 >= 1 ;\n"
@@ -249,6 +251,12 @@ def mistake_facts():
         (lambda: model.solve(1.5), "whole number"), (lambda: model.solve(start="x"), "{x: True}"),
         (lambda: model.solve(start=7), "{x: True}"), (lambda: model.add("x >= 1"), "x + y >= 1"), (lambda: model.clause(x), "[x]"),
         (lambda: model.solve(assuming=~x), "[~x]"), (lambda: model.minimise("x"), "model['x']"), (lambda: 2 * x + "y", "model['y']"),
+        (lambda: x in model, "'x' in model"), (lambda: [*model], "for x in xs"), (lambda: model.variables(model), "for x in xs"),
+        (lambda: model.add([x >= 1]), "for rule in rules"), (lambda: model.add(it >= 1 for it in [x, y]), "for rule in rules"),
+        (lambda: model.add(x >= 1, "a rule"), "name='budget'"), (lambda: solve(7), "pbcube.solve(text)"),
+        (lambda: Model.read(None), "Model.read(text)"), (lambda: Model.read(model), "model.copy()"), (lambda: solve(model), "model.solve()"),
+        (lambda: solve(io.StringIO(TEXT)), "file.read()"), (lambda: Model.read(io.BytesIO(b"")), "file.read()"),
+        (lambda: solve(Path("a.cnf")), "Model.read('a.cnf', 'cnf')"), (lambda: solve(Path("a.txt"), "icnf"), "Model.read('a.txt', 'icnf')"),
     )  # fmt: skip
     for at, (call, said) in enumerate(cases):
         fault = raised(call)
@@ -259,6 +267,10 @@ def mistake_facts():
     text = str(TOP / "examples/tie.opb")
     fault = raised(lambda: solve(text))
     yield "the name of a file", isinstance(fault, Refused) and fault.hint.endswith(f"Model.read({text!r}, 'opb') reads that")
+    for path in sorted((TOP / "examples").glob("*.*cnf")):
+        told = f"Model.read({str(path)!r}, {path.suffix[1:]!r}) reads that"
+        yield f"by its format: {path}", raised(lambda: solve(str(path))).hint.endswith(told)
+    yield "its names", "x" in model and "z" not in model and "'z'" in str(raised(lambda: model["z"]))
     yield "which is not there", "'b/a.opb' is not there" in raised(lambda: solve("b/a.opb")).hint
     named = ((lambda: solve(TEXT, "OPB"), "'opb'"), (lambda: model.fixed(among="all"), "'least'"))
     for call, said in named:
@@ -724,10 +736,47 @@ def start_facts():
         model.at_least(2, random.sample(items, 5))
     model.clause(items[:2])
     start = {item: at > 1 for at, item in enumerate(items)}
-    plain, led = model.solve(24), model.solve(24, start=start)
+    plain, led = model.solve(24), model.copy().solve(24, start=start)  # of a copy, which does not know the plain one
     yield "both are cut", plain.status is led.status is Status.FOUND
     yield "a start is tried first", sum(led[item] != value for item, value in start.items()) <= 4
     yield "and else it is not", sum(plain[item] != value for item, value in start.items()) > 8
+
+
+def never_worse_facts():
+    """A later answer is never worse than an earlier one until something is stated, and a whole one is the answer of all later ones."""
+    random.seed(4)
+    drawn = Model()
+    items = drawn.variables(60)
+    drawn.minimise(total(random.randint(20, 40) * item for item in items))
+    for _ in range(60):
+        drawn.at_least(2, random.sample(items, 6))
+    read = [Model.read(TOP / f"examples/hard/{name}.opb") for name in ("knapsack", "cover")]
+    for at, model in enumerate((*read, drawn)):
+        costs = [model.solve(nodes).cost for nodes in GROWING]
+        known = [cost for cost in costs if cost is not None]
+        yield f"model {at} with more decisions: {costs}", len(known) > 2 and costs[-len(known) :] == known == sorted(known)[::-1]
+        again = [model.solve(nodes).cost for nodes in (0, *GROWING[::-1])]
+        yield f"model {at} with fewer: {again}", again[0] == known[-1] and again == sorted(again)[::-1]
+        told = []
+        answer = model.solve(3000, on_better=lambda better: told.append(better.cost))
+        yield f"model {at} tells: {told}", told[0] == again[-1] and told[-1] == answer.cost and told == sorted({*told})[::-1]
+        yield f"model {at} with no time", model.solve(time_limit=0) == answer
+    model, x = read[0], read[0]["x1"]
+    whole, worse = model.solve(), {f"x{number}": False for number in range(1, 9)}
+    later = model.solve(0), model.solve(0, start=worse), model.solve(time_limit=0), model.solve(on_better=told.append)
+    yield "a whole answer stays", whole.status is Status.OPTIMUM and all(it == whole for it in later) and told[-1] == whole
+    fewer = model.copy().solve(0, start=worse), model.solve(0, assuming=[x]), model.solve(0, assuming=[~x])
+    yield "of the same assumptions alone", all(it.status is not Status.OPTIMUM for it in fewer)
+    yield "in any order", model.solve(assuming=[x, ~model["x2"]]) == model.solve(0, assuming=[~model["x2"], x, x])
+    yield "that nothing is feasible", model.solve(assuming=[x, ~x]) == model.solve(time_limit=0, assuming=[x, ~x])
+    for literals in itertools.islice(itertools.combinations([model[f"x{number}"] for number in range(1, 20)], 2), 120):
+        model.solve(1, assuming=literals, start=[False] * len(whole.values))
+    yield "of few assumptions", len(model._found) <= 100
+    model.add(x + model["x2"] <= 1)
+    model.add(total([]) + x >= int(not whole[x]))
+    yield "until something is stated", model._found == {} and model.solve(0).status is not Status.OPTIMUM
+    model.minimise(x)
+    yield "or aimed at", model._found == {} and model.solve().cost == int(not whole[x])
 
 
 def kept_facts():
@@ -978,7 +1027,7 @@ def main():
     refusals = [mistake_facts, foreign_facts, refusal_facts, room_facts, text_facts, hint_facts, shared_hint_facts, limit_of_text_facts]
     interrupts = [lambda: interrupt_facts(os.kill), lambda: interrupt_facts(os.killpg), question_end_facts]
     ends = [*interrupts, exception_facts, limit_facts, death_facts]
-    facts = [fact for part in (*written, *calls, *refusals, *ends) for fact in part()]
+    facts = [fact for part in (*written, *calls, never_worse_facts, *refusals, *ends) for fact in part()]
     wrong = [what for what, holds in facts if not holds]
     print(*(f"python: not so: {it}" for it in wrong), sep="\n", end="\n" if wrong else "")
     print(f"python: {len(facts) - len(wrong)} facts of the package hold, {len(wrong)} do not")

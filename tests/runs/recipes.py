@@ -233,12 +233,22 @@ class OfTasks(Recipes):
         folder = self.room / "refused"
         if (ended := self.parallel(folder, kind="cnf")).out or "c refused: BadHeader" not in ended.err or reports_in(folder):
             yield f"parallel-tasks.sh, another format: {ended} {reports_in(folder)}"
+        yield from self.of_refused_split()
         folder = self.room / "one piece"
         ended = self.parallel(folder, split=0)
         if ended.out != self.answer.out or ended.err.count("none of the 1 pieces") != self.TASKS - 1:
             yield f"parallel-tasks.sh, one piece: {ended}"
         if len(reports_in(folder)) != self.TASKS:
             yield f"parallel-tasks.sh, one piece: {reports_in(folder)}"
+
+    def of_refused_split(self):
+        """All tasks refuse a split that is too great, as one run does, and then the folder serves another split."""
+        folder, file = self.room / "great", TOP / "examples/tie.opb"
+        for split in (8, 8, 1):
+            whole = run("pbcube", "--split", split, file)
+            ended = self.parallel(folder, file=file, split=split, tasks=2)
+            if (ended.out, ended.status, "run again" in ended.err) != (whole.out, whole.status, False):
+                yield f"parallel-tasks.sh, split {split} of few variables: {ended} and not {whole}"
 
     def of_lost_report(self, folder, number, text):
         """What is wrong where the report of one task is not there, or has this text, and the same words are run once more."""
@@ -379,9 +389,19 @@ class OfTasks(Recipes):
             yield f"slurm-join.sh: {said}"
 
 
+def faults_of_words(script):
+    """What is wrong where a recipe is not bash, or is run with no words and with too many."""
+    if (said := ran(["bash", "-n", script])).status:
+        yield f"{script.name}: {said}"
+    for count in (0, 9):
+        ended = ran([script, *["word"] * count])
+        if (ended.out, ended.status, ended.err.count("\n")) != ("", 2, 1) or not ended.err.startswith(f"usage: {script.name} "):
+            yield f"{script.name} with {count} words: {ended}"
+
+
 def main():
     is_here = has_parallel()
-    wrong = [f"{it.name}: {said}" for it in sorted(CLUSTER.iterdir()) if (said := ran(["bash", "-n", it])).status]
+    wrong = [said for it in sorted(CLUSTER.iterdir()) for said in faults_of_words(it)]
     with tempfile.TemporaryDirectory(prefix="pbcube-recipes-") as folder:
         kinds = [OfTasks(Path(folder) / "tasks"), OfPieces(Path(folder) / "pieces")]
         steps = [it.of_slurm for it in kinds] + [it.of_parallel for it in kinds if is_here]

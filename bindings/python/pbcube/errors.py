@@ -54,11 +54,18 @@ def _is_path(text: bytes) -> bool:
     return len(text) < 4096 and not set(text) & set(b"\n;") and os.path.isfile(text)
 
 
+def format_of(path: str, format: str) -> str:
+    """The format that the name of a file ends with, or else this one."""
+    ending = os.path.splitext(path)[1][1:]
+    return ending if ending in FORMATS else format
+
+
 def refused(name: str, line: int, text: bytes, format: str, reads: str = "solve") -> Refused:
     """The refusal of a text in this format by the call of that name. It has the hint that the program gives, which names another format
     by an option, and here by the call."""
     if _is_path(text):
-        return Refused(name, line, f"the text is the name of a file: Model.read({os.fsdecode(text)!r}, {format!r}) reads that")
+        path = os.fsdecode(text)
+        return Refused(name, line, f"the text is the name of a file: Model.read({path!r}, {format_of(path, format)!r}) reads that")
     if _LIKE_A_PATH.fullmatch(text):
         return Refused(name, line, f"the text is like the name of a file, and {os.fsdecode(text)!r} is not there")
     hint = hint_on(loaded, text, FORMATS[format])

@@ -8,13 +8,13 @@ from array import array
 from dataclasses import dataclass
 from fractions import Fraction
 from operator import index
-from typing import Any, Callable, Dict, Iterable, List, Mapping, NoReturn, Optional, Sequence, SupportsIndex, Tuple, Union
+from typing import Any, Callable, Dict, FrozenSet, Iterable, List, Mapping, NoReturn, Optional, Sequence, SupportsIndex, Tuple, Union
 
 from . import conflicts, searches, texts
 from .answers import Answer, Explanation, Fixed, Names, Status
-from .errors import Error, Refused, refused
+from .errors import Error, Refused, format_of, refused
 from .jobs import Job, Question, Reply, Statement
-from .library import AMONG, FORMATS, RELATIONS
+from .library import AMONG, FORMATS, NOTHING, RELATIONS
 from .programs import Workers
 from .sums import MOST_VARIABLES, Constraint, Exact, Expression, Literal, Owner, Sum, total
 from .sums import as_constraint, as_literal, as_sum, check_owners, compact, lower_bounds, tidy, whole
@@ -22,6 +22,7 @@ from .tables import table
 
 _MOST_CONSTRAINTS = 4_194_304
 _MOST_TERMS = 16_777_216
+_MOST_FOUND = 100  # replies that a model keeps
 _WIDE = "the numbers of a model are below 2**63 where it is asked for more than an answer: take smaller units"
 
 
@@ -61,6 +62,7 @@ class Model:
         self._objective: Optional[_Objective] = None
         self._has_wide_rules = False  # with numbers that do not fit 64 bits
         self._kept = searches.Kept()
+        self._found: Dict[FrozenSet[int], Reply] = {}  # the best ones by what they assume, until something is stated
 
     def copy(self) -> Model:
         """A model of the same variables and rules, which takes more without this one. The literals that this one has are literals of
@@ -203,7 +205,18 @@ class Model:
     def __getitem__(self, name: str) -> Literal:
         """The variable of that name, the same object each time. Raises KeyError where there is none."""
         literal = self._literals.get(name)
+        if literal is None and name not in self._names:
+            raise KeyError(f"no variable is named {name!r}: model.variable('x') makes the one that model['x'] is")
         return self._literals.setdefault(name, Literal(self._names[name], name, self._owner)) if literal is None else literal
+
+    def __contains__(self, name: str) -> bool:
+        """Whether one of its variables has that name."""
+        if not isinstance(name, str):
+            raise TypeError(f"a model is asked for a name, and not for {name!r}: write 'x' in model")
+        return name in self._names
+
+    def __iter__(self) -> NoReturn:
+        raise TypeError("a model is no list of its variables: keep what makes them, as in xs = model.variables(3), and write for x in xs")
 
     def minimise(self, cost: Expression) -> None:
         """Makes the sum what is to be least, in place of an earlier objective."""
@@ -222,8 +235,9 @@ class Model:
         with self._lock:
             self._check_room(objective.terms)
             self._objective = objective
+            self._found = {}
 
-    def add(self, constraint: Union[Constraint, bool], *, name: Optional[str] = None) -> None:
+    def add(self, constraint: Union[Constraint, bool], *more: NoReturn, name: Optional[str] = None) -> None:
         """Adds a constraint, as `2 * x + 3 * ~y >= 2`. Raises Error, and adds nothing, where it is refused. By its name `explain` tells
         whether it is one of those that cannot hold together; constraints of one name are told of as one. What Python itself compared,
         as a `sum` of nothing is, holds always or never:
@@ -233,6 +247,8 @@ class Model:
             >>> model.solve().status
             Status.UNSATISFIABLE
         """
+        if more:
+            raise TypeError("one constraint is added at a time, and its name stands behind name=: write add(constraint, name='budget')")
         rule = as_constraint(constraint)
         check_owners(rule.owners, self._known())
         if rule.relation not in RELATIONS:
@@ -296,6 +312,7 @@ class Model:
             self._statements.append(statement)
             self._has_wide_rules |= isinstance(statement[2], list)
             self._terms += terms
+            self._found = {}  # another one, since questions that are being asked note their replies in that before
 
     def solve(
         self,
@@ -316,6 +333,9 @@ class Model:
         answer, as `Status.FOUND`, or `Status.UNKNOWN` where there is none. `on_better` has them come so too, without a time limit. It
         is called with the first answer that is found and with each that costs less than those before, the last one included; what it
         raises ends the search.
+
+        Until something is stated, no answer is worse than an earlier one that assumed the same: where no start is given, the earlier
+        one is the start, and where it was whole it is the answer. For this the last 100 answers that assume different literals are kept.
 
         A start is an answer of this model, values of literals or names, all others being False, or one value for each variable in order.
         Searches try these values first, until there is another start or a better answer; only an answer that is cut depends on them.
@@ -340,14 +360,14 @@ class Model:
         given = self._own(assuming)
         first = None if start is None else self._values_of(start)
         asked, program = self._asked("solve", given, first, 0), Workers.of(workers, split)
-        limits = searches.Limits.of(nodes, time_limit, told_by(on_better, asked.answer))
+        limits = searches.Limits.of(nodes, time_limit, told_by(on_better, asked.answer), asked.known)
         if program is None:
-            return asked.answer(self._ask(asked, limits))
+            return self._noted(asked, self._ask(asked, limits))
         if first is not None:
             raise ValueError("the program takes no start: leave out either start, or workers and split")
         if program.split > asked.variables:
             raise ValueError(f"split is no more than the number of variables, {asked.variables}, and not {program.split}")
-        return asked.answer(_checked(searches.run_program(asked.text(), program, limits)))
+        return self._noted(asked, _checked(searches.run_program(asked.text(), program, limits)))
 
     def explain(
         self,
@@ -454,14 +474,18 @@ class Model:
     def _asked(self, kind: str, literals: List[Literal], other: object, variables: int) -> _Asked:
         """The question, and what the model is now."""
         numbers = array("i", (literal.number for literal in literals))
-        question: Question = (kind, numbers.tobytes(), other, max((variables, *map(abs, numbers))))
+        assumed = frozenset(numbers)
         with self._lock:
             objective = self._objective
             aim, terms = (objective.statement, objective.terms + self._terms) if objective else (None, self._terms)
             statements = searches.Statements(self._statements, len(self._statements), aim, terms)
             owners = tuple(self._known().items())
             is_wide = self._has_wide_rules or (aim is not None and isinstance(aim[2], list))
-            return _Asked(question, statements, is_wide, self._variables, self._all_names(), owners, objective)
+            known = self._found.get(assumed, NOTHING) if kind == "solve" else NOTHING
+            begun = known[2] if other is None else other
+            question: Question = (kind, numbers.tobytes(), begun, max((variables, *map(abs, numbers))))
+            named = self._all_names()
+            return _Asked(question, statements, is_wide, self._variables, named, owners, objective, known, self._found, assumed)
 
     def _ask(self, asked: _Asked, limits: searches.Limits) -> Reply:
         """Asks the searches that are kept, or others where these answer another thread."""
@@ -472,6 +496,16 @@ class Model:
         finally:
             self._kept = kept
         return _checked(told)
+
+    def _noted(self, asked: _Asked, reply: Reply) -> Answer:
+        """The answer, which is kept for later questions that assume the same where nothing better is known."""
+        with self._lock:
+            best = searches.best_of(asked.found.pop(asked.assumed, NOTHING), reply)
+            if best[0] != NOTHING[0]:
+                asked.found[asked.assumed] = best  # as the last one
+            if len(asked.found) > _MOST_FOUND:
+                del asked.found[next(iter(asked.found))]
+        return asked.answer(reply)
 
     def _all_names(self) -> Names:
         """The names of all variables in order, which all answers share until there is another variable."""
@@ -491,6 +525,9 @@ class _Asked:
     names: Names
     owners: Tuple[Tuple[int, int], ...]
     objective: Optional[_Objective]
+    known: Reply
+    found: Dict[FrozenSet[int], Reply]
+    assumed: FrozenSet[int]
 
     def text(self) -> Job:
         """The question as a text, in which each literal that is to be true is one more statement. Numbers in it may be greater than is
@@ -598,10 +635,12 @@ def solve(
     """
     _check_format(format)
     if isinstance(text, os.PathLike):
-        raise TypeError(f"a path is no text: Model.read({os.fspath(text)!r}, {format!r}).solve() solves the file")
+        path = os.fsdecode(text)
+        raise TypeError(f"a path is no text: Model.read({path!r}, {format_of(path, format)!r}).solve() solves the file")
     program = Workers.of(workers, split)
     limits = searches.Limits.of(nodes, time_limit, told_by(on_better, _answer_of_text))
-    data = text.encode("utf-8", "surrogateescape") if isinstance(text, str) else bytes(memoryview(text))
+    advice = "Model.read(path).solve() solves a file, and pbcube.solve(text) a text"
+    data = text.encode("utf-8", "surrogateescape") if isinstance(text, str) else texts.given_bytes(text, advice)
     job: Job = ("text", data, FORMATS[format])
     reply = searches.search(job, limits) if program is None else searches.run_program(job, program, limits)
     if reply[3] and reply[3][0] == "BadSplit":

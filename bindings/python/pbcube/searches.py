@@ -27,7 +27,7 @@ from typing import Callable, List, Optional, Tuple, Union
 
 from . import library
 from .jobs import Job, Plan, Question, Reply, Statement
-from .library import CUT, NO_LIMIT, NOTHING, Search, begun_with, join_of, replies
+from .library import CUT, NO_LIMIT, NOTHING, Search, begun_with, better, join_of, replies
 from .processes import Child, Program, python_command
 from .programs import MOST_NODES, Workers, is_budget
 
@@ -74,11 +74,13 @@ def deadline_of(time_limit: Optional[float]) -> Optional[float]:
 
 @dataclass(frozen=True)
 class Limits:
-    """How long to search: with at most `nodes` decisions, and up to the deadline where there is one. Each better reply is told."""
+    """How long to search: with at most `nodes` decisions, and up to the deadline where there is one. Each better reply is told. No
+    reply is worse than the one that is known before."""
 
     nodes: int = NO_LIMIT
     deadline: Optional[float] = None
     tell: Optional[Callable[[Reply], object]] = None
+    known: Reply = NOTHING
 
     @classmethod
     def of(
@@ -86,42 +88,60 @@ class Limits:
         nodes: Optional[int],
         time_limit: Optional[float],
         tell: Optional[Callable[[Reply], object]] = None,
+        known: Reply = NOTHING,
     ) -> Limits:
         """The limits that begin now."""
-        return cls(budget(nodes), deadline_of(time_limit), tell)
+        return cls(budget(nodes), deadline_of(time_limit), tell, known)
 
     def plan(self) -> Plan:
         """What a process that searches is told of them."""
         return self.nodes, self.deadline, self.deadline is not None or self.tell is not None
 
 
-class _Told:
-    """The replies to a job as one. Each that is better than those before is told."""
+def best_of(known: Reply, reply: Reply) -> Reply:
+    """The reply, or what was known of the same question before where that is better."""
+    if reply[3] is not None or reply[0] not in CUT:
+        return reply
+    return better(known, reply) if known[0] in CUT else known
 
-    def __init__(self, job: Job, tell: Optional[Callable[[Reply], object]]) -> None:
+
+class _Told:
+    """The replies to a job as one. Each that is better than those before is told, beginning with what is known."""
+
+    def __init__(self, job: Job, limits: Limits) -> None:
         self.reply = NOTHING
         self.is_telling = False
         self._join = join_of(job)
-        self._tell = tell
+        self._known = limits.known
+        self._tell = limits.tell
         self._least: Optional[Tuple[Optional[int]]] = None  # the cost that was told, once something was
+        self._tell_better(limits.known)
+
+    @property
+    def best(self) -> Reply:
+        """The reply, or what was known before where that is better."""
+        return best_of(self._known, self.reply)
 
     def take(self, reply: Reply) -> None:
         """Takes one more reply."""
         self.reply = self._join(self.reply, reply)
-        status, cost, _, _ = self.reply
+        self._tell_better(self.reply)
+
+    def _tell_better(self, reply: Reply) -> None:
+        status, cost, _, _ = reply
         if self._tell is None or status not in _FOUND:
             return
         if self._least is None or (cost is not None and self._least[0] is not None and cost < self._least[0]):
             self._least = (cost,)
             self.is_telling = True  # also where that raises
-            self._tell(self.reply)
+            self._tell(reply)
             self.is_telling = False
 
 
 def search(job: Job, limits: Limits) -> Reply:
     """What is found in a text."""
     is_divided = job[2] == library.FORMATS["icnf"]  # of which each cube has a budget of its own, and there may be many
-    told = _Told(job, limits.tell)
+    told = _Told(job, limits)
 
     def planned(plan: Plan) -> Plan:
         nodes, deadline, grows = plan
@@ -137,11 +157,13 @@ def search(job: Job, limits: Limits) -> Reply:
             child.ask(job, planned(limits.plan()), told)
 
     _find(_is_small(job), here, by_child, limits, told)
-    return told.reply
+    return told.best
 
 
 def _find(is_small: bool, here: Callable[[Plan], None], by_child: Callable[[], None], limits: Limits, told: _Told) -> None:
-    """Searches in this process, or by a child."""
+    """Searches in this process, or by a child, unless the answer is known."""
+    if limits.known[0] not in CUT:
+        return None
     if limits.deadline is None and threading.current_thread() is not threading.main_thread():
         return here(limits.plan())  # where Ctrl-C is never raised
     if is_small:  # a child takes longer to start than most of these take in all
@@ -186,12 +208,12 @@ class Kept:
 
     def ask(self, statements: Statements, question: Question, limits: Limits) -> Reply:
         """What is found."""
-        told = _Told(("told", [], question), limits.tell)
+        told = _Told(("told", [], question), limits)
         here = lambda plan: self._ask_here(statements, question, plan, told)  # noqa: E731
         by_child = lambda: self._ask_child(statements, question, limits.plan(), told)  # noqa: E731
         is_long = question[0] == "fixed" and self._child is not None  # many searches, of which some question took long before
         _find(_is_small(statements) and not is_long, here, by_child, limits, told)
-        return told.reply
+        return told.best
 
     def _ask_here(self, statements: Statements, question: Question, plan: Plan, told: _Told) -> None:
         made, before = self._here or Search(library.loaded), self._told_here
@@ -298,10 +320,10 @@ def run_program(job: Job, workers: Workers, limits: Limits) -> Reply:
     """What the program finds in a text with these workers."""
     if MOST_NODES < limits.nodes < NO_LIMIT:
         raise ValueError(f"with workers or a split a budget is at most {MOST_NODES}, and not {limits.nodes}")
-    told = _Told(job, limits.tell)
+    told = _Told(job, limits)
     try:
         for _, reply in replies(_Runs(workers, limits.deadline), job, limits.plan()):
             told.take(reply)
     except _TimeIsUp:
         pass
-    return told.reply
+    return told.best

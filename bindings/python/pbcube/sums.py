@@ -385,6 +385,8 @@ def as_constraint(value: object) -> Constraint:
         raise TypeError(f"no constraint: {value!r}: compare it, as {value!r} >= 1")
     if isinstance(value, str):
         raise TypeError(f"no constraint: {value!r}: write it with variables, as x + y >= 1; Model.read reads a text")
+    if isinstance(value, (list, tuple, set)) or hasattr(value, "__next__"):
+        raise TypeError(f"no constraint: {value!r}: add each by itself, as in for rule in rules: model.add(rule)")
     is_truth = hasattr(value, "__bool__") and not (value is None or isinstance(value, (int, float, complex)))
     raise TypeError(f"no constraint: {value!r}{': write bool(value) where it is a truth value' if is_truth else ''}")
 

@@ -33,13 +33,26 @@ def bytes_of(path_or_text: Union[str, bytes, os.PathLike[str]]) -> bytes:
     if isinstance(path_or_text, str) and _is_text(path_or_text):
         return path_or_text.encode("utf-8", "surrogateescape")
     if not isinstance(path_or_text, (str, os.PathLike)):
-        return bytes(memoryview(path_or_text))
+        return given_bytes(path_or_text, "Model.read(path) reads a file, or Model.read(text) a text")
     try:
         with open(path_or_text, "rb") as file:
             return file.read()
     except FileNotFoundError as fault:
         told = f"{fault.strerror}, and a text has a ';' or a line break"
         raise FileNotFoundError(fault.errno, told, path_or_text) from None
+
+
+def given_bytes(given: object, advice: str) -> bytes:
+    """The text that is given as bytes. What is none is refused with this advice."""
+    try:
+        return bytes(memoryview(given))  # type: ignore[arg-type]
+    except TypeError:
+        pass
+    if hasattr(given, "solve"):
+        raise TypeError("a model is no text: model.solve() solves it, and model.copy() copies it")
+    if hasattr(given, "read"):
+        raise TypeError("an open file is no text: write file.read() for it, or Model.read(path) with its path")
+    raise TypeError(f"{given!r} is no text: {advice}")
 
 
 def _is_text(given: str) -> bool:
