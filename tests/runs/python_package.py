@@ -5,9 +5,10 @@
 
 It takes the library that is built. Random models with fractions, floats, implications and counts have the answer that a listing of all
 assignments finds; each refusal is met; a model is read from a text as a reader of docs/FORMATS.md tells, and written so that it reads
-again; what a child process finds is what this process finds. Real signals end a long search: Ctrl-C, alone and for the whole group as a
-terminal sends it, an exception, a time limit, and the death of the process; each time no child is left, and after Ctrl-C the process
-solves on. The blocks of docs/EMBEDDING.md print what it says. Where there is no C compiler, and so no library, all is left out.
+again; what a child process finds is what this process finds; and no later answer of a model is worse than an earlier one. Real signals
+end a long search: Ctrl-C, alone and for the whole group as a terminal sends it, an exception, a time limit, and the death of the
+process; each time no child is left, and after Ctrl-C the process solves on. The blocks of docs/EMBEDDING.md print what it says. Where
+there is no C compiler, and so no library, all is left out.
 """
 import io
 import itertools
@@ -254,7 +255,8 @@ def mistake_facts():
         (lambda: x in model, "'x' in model"), (lambda: [*model], "for x in xs"), (lambda: model.variables(model), "for x in xs"),
         (lambda: model.add([x >= 1]), "for rule in rules"), (lambda: model.add(it >= 1 for it in [x, y]), "for rule in rules"),
         (lambda: model.add(x >= 1, "a rule"), "name='budget'"), (lambda: solve(7), "pbcube.solve(text)"),
-        (lambda: Model.read(None), "Model.read(text)"), (lambda: Model.read(model), "model.copy()"), (lambda: solve(model), "model.solve()"),
+        (lambda: Model.read(None), "Model.read(text)"), (lambda: Model.read(model), "model.copy()"),
+        (lambda: solve(model), "model.solve()"),
         (lambda: solve(io.StringIO(TEXT)), "file.read()"), (lambda: Model.read(io.BytesIO(b"")), "file.read()"),
         (lambda: solve(Path("a.cnf")), "Model.read('a.cnf', 'cnf')"), (lambda: solve(Path("a.txt"), "icnf"), "Model.read('a.txt', 'icnf')"),
     )  # fmt: skip
