@@ -81,7 +81,7 @@ FAMILIES = {
     "dives find the least cost early": [Effort(2_880, [ring_cover(size) for size in (390, 500)])],
     # Dives that look for an assignment within a limit of cost find the least cost of these clauses. Where dives have no limits the two
     # searches take three times as many decisions.
-    "dives within limits find the least cost": [Effort(1_270, [few_costs(39), few_costs(50)])],
+    "dives within limits find the least cost": [Effort(975, [few_costs(39), few_costs(50)])],
     # After a conflict a dive also takes back the decisions that had no part in it. Else this question to a package manager takes nearly
     # four times as many decisions.
     "dives go back to what led to a conflict": [Effort(6_830, [Made("make_packages.py 460 17 --distribution")])],
@@ -137,7 +137,7 @@ FAMILIES = {
     "what led to conflicts comes forward": [Effort(3_970, [clauses(25, 130, 570)])],
     # Decided first, a few variables with a cost tell early what the rest will cost. Else one search takes nine times as many decisions,
     # and the other five times.
-    "few costs come first": [Effort(175, [few_costs(4)]), Effort(470, [few_costs(52)])],
+    "few costs come first": [Effort(175, [few_costs(4)]), Effort(361, [few_costs(52)])],
     # Of two values the one that costs less by the multipliers is decided first. Else one search takes six times as many decisions, and
     # the other nearly ten times.
     "the cheaper value comes first": [Effort(240, [few_costs(12)]), Effort(410, [few_costs(23)])],
