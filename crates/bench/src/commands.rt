@@ -50,10 +50,19 @@ fn spelled(line: &str) -> Command {
             is_cubes: words.next() == Some("cubes"),
         },
         "search" => Command::Search {
-            way: way_of(words.next(), words.next(), false),
+            way: way_of(words.next(), words.next()),
         },
         "pieces" => Command::Search {
-            way: way_of(words.next(), words.next(), true),
+            way: Way {
+                is_told: true,
+                ..way_of(words.next(), words.next())
+            },
+        },
+        "unlimited" => Command::Search {
+            way: Way {
+                is_counted: false,
+                ..way_of(words.next(), words.next())
+            },
         },
         "engine" => Command::Engine {
             course: course_of(words.next()),
@@ -64,11 +73,13 @@ fn spelled(line: &str) -> Command {
 }
 
 /// The way to search in pieces of a split over as many variables as the first word spells, each anew where there is another word.
-fn way_of(k: Option<&str>, anew: Option<&str>, is_told: bool) -> Way {
+/// Decisions are counted, and no piece is told of.
+fn way_of(k: Option<&str>, anew: Option<&str>) -> Way {
     Way {
         k: number_of(k),
         is_anew: anew.is_some(),
-        is_told,
+        is_told: false,
+        is_counted: true,
     }
 }
 

@@ -27,6 +27,8 @@ pub struct Way {
     pub is_anew: bool,
     /// Whether a line tells of each piece.
     pub is_told: bool,
+    /// Whether the search has a budget, which is never used up. It then counts its decisions, and takes a bound before each.
+    pub is_counted: bool,
 }
 
 /// Counts the assignments that it is offered, and how often it is asked for one, and lends nothing.
@@ -138,11 +140,16 @@ fn begin(
     let start = rt.process_cpu_time().ok()?;
     search.begin(best, counter, FIRST_TURNS, None);
     let taken = rt.process_cpu_time().ok()?.saturating_sub(start);
-    let intervals = counter.asked.saturating_sub(asked).saturating_sub(1);
     Some(Spent {
-        decisions: intervals.saturating_mul(INTERVAL),
+        decisions: decisions_since(asked, counter),
         taken,
     })
+}
+
+/// About how many decisions a search made that began when the share had been asked as often as this.
+fn decisions_since(asked: u64, counter: &Counter) -> u64 {
+    let intervals = counter.asked.saturating_sub(asked).saturating_sub(1);
+    intervals.saturating_mul(INTERVAL)
 }
 
 /// Searches the piece, and before it the root of the whole as far as that is due. Says what the root took and what the piece took;
@@ -152,7 +159,7 @@ fn search_piece(
     search: &mut Search<'_>,
     piece: u32,
     best: &mut Best<'_>,
-    is_told: bool,
+    way: Way,
     counter: &mut Counter,
 ) -> Option<(Spent, Spent)>
     requires piece { piece ≤ length search.old.division.cubes }
@@ -160,11 +167,17 @@ fn search_piece(
     ensures same_instance { best.new.problem ≡ best.old.problem }
     ensures unchanged { search.new.division ≡ search.old.division }
 {
-    let first = begin(rt, search, best, is_told, counter)?;
+    let first = begin(rt, search, best, way.is_told, counter)?;
+    let asked = counter.asked;
+    let budget = if way.is_counted { Some(u64::MAX) } else { None };
     let start = rt.process_cpu_time().ok()?;
-    search.run(piece, best, counter, Some(u64::MAX));
+    search.run(piece, best, counter, budget);
     let taken = rt.process_cpu_time().ok()?.saturating_sub(start);
-    let decisions = search.decisions();
+    let decisions = if way.is_counted {
+        search.decisions()
+    } else {
+        decisions_since(asked, counter)
+    };
     Some((first, Spent { decisions, taken }))
 }
 
@@ -183,7 +196,7 @@ fn search_pieces(
     first: u32,
     end: u32,
     best: &mut Best<'_>,
-    is_told: bool,
+    way: Way,
     measured: &mut Measured,
 ) -> Option<()>
     requires pieces { end ≤ length search.old.division.cubes + 1 }
@@ -191,10 +204,10 @@ fn search_pieces(
     ensures same_instance { best.new.problem ≡ best.old.problem }
 {
     for piece in first..end {
-        let (root, spent) = search_piece(rt, search, piece, best, is_told, &mut measured.counter)?;
+        let (root, spent) = search_piece(rt, search, piece, best, way, &mut measured.counter)?;
         measured.first = measured.first.plus(root);
         measured.pieces = measured.pieces.plus(spent);
-        if is_told {
+        if way.is_told {
             tell_piece(rt, piece, spent).ok()?;
         }
     }
@@ -210,7 +223,7 @@ fn search_range(
     first: u32,
     end: u32,
     best: &mut Best<'_>,
-    is_told: bool,
+    way: Way,
     measured: &mut Measured,
 ) -> Option<()>
     requires pieces { end ≤ length tables.now.cubes + 1 }
@@ -218,7 +231,7 @@ fn search_range(
     ensures same_instance { best.new.problem ≡ best.old.problem }
 {
     let mut search = Search::over(rt.alloc(), tables).ok()?;
-    search_pieces(rt, &mut search, first, end, best, is_told, measured)
+    search_pieces(rt, &mut search, first, end, best, way, measured)
 }
 
 /// Searches the pieces below `count`, each anew or all with one search.
@@ -232,16 +245,11 @@ fn search_all(
     requires pieces { count ≤ length tables.now.cubes + 1 }
     requires same_instance { best.old.problem ≡ tables.now.problem }
 {
-    let Way {
-        k: _,
-        is_anew,
-        is_told,
-    } = way;
     let mut measured = Measured::none();
-    let searches = if is_anew { count } else { 1 };
+    let searches = if way.is_anew { count } else { 1 };
     for i in 0..searches {
-        let (first, end) = if is_anew { (i, i + 1) } else { (0, count) };
-        search_range(rt, tables, first, end, best, is_told, &mut measured)?;
+        let (first, end) = if way.is_anew { (i, i + 1) } else { (0, count) };
+        search_range(rt, tables, first, end, best, way, &mut measured)?;
     }
     Some(measured)
 }

@@ -60,6 +60,14 @@ const MOST_RETURNS_IMPROVED: u32 = 4;
 /// search does not step back for each of many small steps. Chosen by hand.
 const PARTS_OF_THE_GAP: Number = 8;
 
+/// After this many flips the search of the whole steps back to its root if it has found a much better assignment since it last
+/// dived. Sooner and more often, the real instance `garden11` took 4 and more times the decisions.
+const FIRST_LATE_RETURN: u64 = 4_096;
+
+/// The next such step may come after this many times as many flips, so that what is searched again stays a part of the whole.
+/// Chosen with the first.
+const GROWTH_OF_LATE_RETURNS: u64 = 8;
+
 /// Of the decisions left of a budget a round of dives leaves one in this many to the search. With more for dives two real package
 /// questions hold the least cost after 16,000 decisions, and a third half of what it held before.
 const KEPT_OF_A_BUDGET: u64 = 4;
@@ -112,6 +120,10 @@ pub struct RootWork {
     improved_returns: u32,
     /// The best cost when it did so last.
     improved: Option<Number>,
+    /// How often it was about to flip a decision since it last considered a late step back to its root.
+    flips: u64,
+    /// After how many of these it considers one again.
+    late: u64,
     /// How often multipliers may still be improved anew at the root.
     renewals: u32,
     /// The length of the root's trail when that was done last.
@@ -153,6 +165,8 @@ impl RootWork {
             vars,
             improved_returns: 0,
             improved: None,
+            flips: 0,
+            late: u64::MAX,
         }
     }
 
@@ -194,6 +208,13 @@ impl RootWork {
         let has_many = !self.is_decision && self.vars >= MANY_VARIABLES;
         self.improved_returns = if has_many { MOST_RETURNS_IMPROVED } else { 0 };
         self.improved = None;
+        self.flips = 0;
+        let is_whole = !self.is_decision && !self.is_after_whole;
+        self.late = if is_whole {
+            FIRST_LATE_RETURN
+        } else {
+            u64::MAX
+        };
     }
 
     /// Whether the search was about to flip a decision as often as it may.
@@ -234,6 +255,11 @@ impl RootWork {
         let prefix = self.prefix_of(path);
         let has_improved = self.ties.has_improved;
         let count = self.ties.leave(path, prefix, cost);
+        if self.is_late_return_due() && self.is_worth_dives(cost) {
+            self.is_open = true;
+            self.dives = self.dives.max(COST_OF_A_DIVE);
+            return Some(prefix);
+        }
         if self.early > 0 {
             self.early -= 1;
             return count;
@@ -260,7 +286,7 @@ impl RootWork {
         ensures { self.new ≡ self.old }
     {
         let Some(cost) = cost else { return false };
-        if self.improved_returns == 0 || !self.saves_a_part(cost) {
+        if self.improved_returns == 0 || !self.saves_a_part(self.improved, cost) {
             return false;
         }
         self.improved_returns -= 1;
@@ -268,9 +294,35 @@ impl RootWork {
         true
     }
 
-    /// Whether the cost is a good part nearer to the root's bound than the best one was when this was said last.
-    fn saves_a_part(&self, cost: Number) -> bool {
-        let Some(last) = self.improved else {
+    /// Whether the search was about to flip a decision as often as it is to be before the next late step back to its root: the
+    /// number grows from one to the next.
+    /// Source: [W99]
+    fn is_late_return_due(&mut self) -> bool
+        ensures { self.new ≡ self.old }
+    {
+        self.flips = self.flips.saturating_add(1);
+        if self.flips < self.late {
+            return false;
+        }
+        self.flips = 0;
+        self.late = self.late.saturating_mul(GROWTH_OF_LATE_RETURNS);
+        true
+    }
+
+    /// Whether dives from the root are likely to find more, since the tree has found an assignment of this cost that saves enough
+    /// over the best one when the search last dived, and more than ties are left.
+    fn is_worth_dives(&self, cost: Option<Number>) -> bool {
+        let Some(found) = cost else { return false };
+        let last = match self.dived {
+            Some((_, last)) => last,
+            None => None,
+        };
+        self.saves_a_part(last, found) && !self.are_ties_left(cost)
+    }
+
+    /// Whether the cost is a good part nearer to the root's bound than the last one, or there was none.
+    fn saves_a_part(&self, last: Option<Number>, cost: Number) -> bool {
+        let Some(last) = last else {
             return true;
         };
         let gap = last.saturating_sub(self.ties.root_bound.unwrap_or(cost));

@@ -41,20 +41,20 @@ pub struct Course {
 }
 
 impl Course {
-    /// By a point of the relaxation over `vars` variables, for a few conflicts.
-    pub fn by_plan(vars: u32) -> Course {
+    /// By a point of the relaxation over `vars` variables, within a limit if there is one, for a few conflicts.
+    pub fn by_plan(vars: u32, limit: Option<Number>) -> Course {
         Course {
             way: Way::Plan,
-            limit: None,
+            limit,
             conflicts: few_conflicts(vars),
         }
     }
 
-    /// By a point of the relaxation, for many conflicts.
-    pub fn by_plan_for_long() -> Course {
+    /// By a point of the relaxation, within a limit if there is one, for many conflicts.
+    pub fn by_plan_for_long(limit: Option<Number>) -> Course {
         Course {
             way: Way::Plan,
-            limit: None,
+            limit,
             conflicts: MANY_CONFLICTS,
         }
     }

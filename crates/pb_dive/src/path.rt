@@ -68,7 +68,7 @@ impl DivePath {
             most_work: 0,
             plans: 0,
             free: 0,
-            course: Course::by_plan_for_long(),
+            course: Course::by_plan_for_long(None),
             gap: None,
             blamed,
             passed: 0,

@@ -1,8 +1,8 @@
 //! Which dives are made from a root, one after another.
 //!
 //! A point of the relaxation comes first, because it often leads to the least cost at once. Where it leads to nothing better, dives
-//! within limits follow: the first limit is the root's bound, and the next ones halve what is left up to the best cost. So they
-//! look for an assignment of a given cost, where other dives take what they come to.
+//! within lower limits follow: the first limit is the root's bound, and the next ones halve what is left up to the best cost. So they
+//! look for an assignment of a given cost, where other dives take whatever is better than the best one.
 //! Source: [B06]
 
 use crate::course::Course;
@@ -67,13 +67,15 @@ impl Round {
         }
     }
 
-    /// What the next dive goes by; none where the round is over.
-    pub fn next(&self) -> Option<Course> {
+    /// What the next dive goes by, where the best cost is `cost`; none where the round is over. A dive looks for something better,
+    /// so where it has no lower limit, its limit is one below the best cost.
+    pub fn next(&self, cost: Option<Number>) -> Option<Course> {
+        let below = cost.map(|cost| cost.saturating_sub(1));
         match self.stage {
-            Stage::Plan => Some(Course::by_plan(self.vars)),
-            Stage::Order => Some(Course::by_order(self.vars, None)),
+            Stage::Plan => Some(Course::by_plan(self.vars, below)),
+            Stage::Order => Some(Course::by_order(self.vars, below)),
             Stage::Limits => Some(Course::by_order(self.vars, Some(self.limit))),
-            Stage::LongPlan => Some(Course::by_plan_for_long()),
+            Stage::LongPlan => Some(Course::by_plan_for_long(below)),
             Stage::Over => None,
         }
     }

@@ -67,7 +67,7 @@ fn dive_in_round<C: Coefficient, S: Share>(
         if rest == 0 {
             return is_better;
         }
-        let Some(course) = round.next() else {
+        let Some(course) = round.next(best.cost()) else {
             return is_better;
         };
         rest = rest.min(course.share_of(most));
