@@ -28,16 +28,20 @@ INTERVAL = 256  # decisions after which a search asks again
 
 @dataclass(frozen=True)
 class Effort:
-    """Instances, how many decisions the searches of all of them may take together, by how many variables each is split into pieces, and
-    whether the search of the whole begins before them."""
+    """Instances, how many decisions the searches of all of them may take together, by how many variables each is split into pieces,
+    whether the search of the whole begins before them, and whether they have no budget, as a run without `--nodes` has none."""
 
     most: int
     instances: list
     split: int = 0
     begins: bool = False
+    is_unlimited: bool = False
 
     def command(self):
-        """What asks `bench` for the search. `pieces` begins with the whole before the pieces, as a run does."""
+        """What asks `bench` for the search. `pieces` begins with the whole before the pieces, as a run does. An `unlimited` search takes
+        fewer bounds, and its decisions are counted by intervals."""
+        if self.is_unlimited:
+            return "unlimited"
         return f"{'pieces' if self.begins else 'search'} {self.split}"
 
 
@@ -88,6 +92,12 @@ FAMILIES = {
     # After a much better assignment the search steps back to its root, where more may be fixed and dives begin again. Else this question
     # takes five times as many decisions.
     "a better assignment leads back to the root": [Effort(93_200, [Made("make_packages.py 460 10 --distribution")])],
+    # A dive looks for something below the best cost, so it turns back where the multipliers' bound reaches that. Else this question,
+    # searched without a budget, takes over twenty times as many decisions.
+    "dives look below the best cost": [Effort(52_700, [Made("make_packages.py 400 50 --distribution")], is_unlimited=True)],
+    # After thousands of flips the search steps back to its root if it has found a much better assignment since its last dive from there.
+    # Else this question, searched without a budget, takes over ten times as many decisions.
+    "late steps back lead to better assignments": [Effort(173_000, [Made("make_packages.py 400 59 --distribution")], is_unlimited=True)],
     # Once the gates are known to be closed, the multipliers are improved beside what that leaves. Beside no literal at all they count
     # on open gates, and the covers take fifty times as many decisions. Where gates are not tried at the root, or the search does not
     # dive from there, it is over twice as many.

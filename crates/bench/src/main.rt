@@ -3,6 +3,7 @@
 //! ```text
 //! read [cubes]
 //! search [K [anew]]
+//! unlimited [K [anew]]
 //! pieces K [anew]
 //! engine one|ordered|shuffled ROUNDS
 //! ```

@@ -1,8 +1,9 @@
-//! Searches the instance of a text as a run does: before each piece the root of the whole as far as that is due. Says on standard
-//! error what was found, how many decisions and how much time that took, how often the incumbent was improved, and how often other
-//! searches were asked for theirs. A search of each piece anew knows nothing of the conflicts and multipliers of the pieces before.
-//! Where there are cubes it says on standard output about how many of the decisions were made at the root of the whole, the first
-//! phase, and before that, where it is asked to, what each piece took.
+//! Searches the instance of a text as a run does: before each piece the root of the whole as far as that is due. With a budget, which
+//! is never used up, it counts decisions exactly. A search without one makes other decisions, and its share tells about how many.
+//! Says on standard error what was found, how many decisions and how much time that took, how often the incumbent was improved, and
+//! how often other searches were asked for theirs. A search of each piece anew knows nothing of the conflicts and multipliers of the
+//! pieces before. Where there are cubes it says on standard output about how many of the decisions were made at the root of the
+//! whole, the first phase, and before that, where it is asked to, what each piece took.
 
 ghost use Rattle.std.specs.Prelude.{◌≡◌, ◌+◌, ◌≤◌, false, length, IfSome};
 
