@@ -8,26 +8,42 @@ TO_MOST = "variables are numbered from 1 to 1048576"
 NO_LP = "begins as LP, which is not read: the client pbcube-lp solves it"
 NO_MPS = "begins as MPS, which is not read: save it as LP, which the client pbcube-lp solves"
 WEIGH = "write a number before each literal, as 1 x1"
+NEGATE = "write 1 ~x1 for the negation of x1, or -1 x1 for a negative coefficient"
 SIGN = "write the sign with a number, without a space, as -1 x1"
 PART = "write a space between a number and its literal, and no *, as 2 x1"
 MAKE_WHOLE = "numbers are whole: multiply all numbers of the statement by the same one"
 RENAME = "variables are named x1, x2 and so on"
 AT_LEAST = "write >= and the least number allowed, as >= 2 for > 1"
 AT_MOST = "write <= and the greatest number allowed, as <= 1 for < 2"
+CHOOSE = "no != is read: write two constraints with a new variable, which chooses a sum below the number or above it"
+TURN = "write the sum on the left and one number on the right, and two relations as two constraints"
 MOVE_LEFT = "one number alone stands on the right: write all literals on the left"
 RELATE = "end a constraint with >=, <= or =, and a number"
 END = "end the statement before it with ;"
+STARRED = "begin a comment with *, on a line of its own"
+LETTERED = "begin a comment with c, on a line of its own"
+NUMBER = "write a literal as the number of its variable, as 2, or -2 for its negation"
+ZERO = "write 0 at the end, since variables are numbered from 1"
 MINIMISE = "write min: of the negated sum"
 END_OBJECTIVE = "the objective has no relation: end it with ; before the first constraint"
 SMALL_SUMS = "the numbers of a statement, without their signs, add up to at most 2^126 - 1: take smaller units"
 LIMITS = "there are at most 1048576 variables, 4194304 constraints, 1048575 cubes and 16777216 terms"
+OBJECTIVE_FIRST = "put the one objective in front of all constraints"
+END_CLAUSES = "end each clause and each cube with 0"
+UNLESS_OPEN = ", unless a clause lacks its 0"
 CUBE_LINE = "a cube is a line of its own: a, its literals and 0"
 
 # What a text begins as or is compressed by: the format that the command line tells, the text, and what is said of its file.
 BEGUN = [
     ("opb", b"c a comment\np cnf 2 1\n1 2 0\n", "begins as DIMACS CNF: --format cnf reads it"),
     ("cnf", b"p inccnf\n1 2 0\na 1 0\n", "begins as iCNF: --format icnf reads it"),
+    ("opb", b"p   cnf\t2 1\n1 2 0\n", "begins as DIMACS CNF: --format cnf reads it"),
+    ("icnf", b"# a comment\np cnf 2 1\n1 2 0\n", "begins as DIMACS CNF: --format cnf reads it"),
     ("icnf", b"* #variable= 1 #constraint= 1\n1 x1 >= 1 ;\n", "begins as OPB: --format opb reads it"),
+    ("cnf", b"*  #variable=1\n1 x1 >= 1 ;\n", "begins as OPB: --format opb reads it"),
+    ("cnf", b"min: 1 x1 ;\n", "begins as OPB: --format opb reads it"),
+    ("cnf", b"* a comment\n1 x1 >= 1 ;\n", "begins as OPB: --format opb reads it"),
+    ("icnf", b"-x1 +x2<=0;\n", "begins as OPB: --format opb reads it"),
     ("opb", b"\x1f\x8b\x08\x00", "is compressed by gzip: gunzip it first"),
     ("cnf", b"\xfd7zXZ\x00\x00\x04", "is compressed by xz: unxz it first"),
     ("opb", b"BZh91AY&SY", "is compressed by bzip2: bunzip2 it first"),
@@ -59,7 +75,26 @@ PLACED = [
     ("opb", b"1 x1 =< 1 ;\n", "line 1, column 6: '=<': write <="),
     ("opb", b"1 x1 == 1 ;\n", "line 1, column 6: '==': write ="),
     ("opb", b"x1 + x2 >= 1 ;\n", f"line 1, column 1: 'x1': {WEIGH}"),
-    ("opb", b"min: -x1 ;\n", f"line 1, column 6: '-x1': {WEIGH}"),
+    ("opb", b"x1 + x2 >= 1\n", f"line 1, column 1: 'x1': {WEIGH}"),
+    ("opb", b"1 x1 +x2 >= 1 ;\n", f"line 1, column 6: '+x2': {WEIGH}"),
+    ("opb", b"1 +x1 >= 1 ;\n", f"line 1, column 3: '+x1': {SIGN}"),
+    ("opb", b"min: -x1 ;\n", f"line 1, column 6: '-x1': {NEGATE}"),
+    ("opb", b"-x1 >= 0 ;\n", f"line 1, column 1: '-x1': {NEGATE}"),
+    ("opb", b"1 -x1 >= 0 ;\n", f"line 1, column 3: '-x1': {NEGATE}"),
+    ("opb", b"1 x1 -x2 >= 0 ;\n", f"line 1, column 6: '-x2': {NEGATE}"),
+    ("opb", b"1 !x1 >= 0 ;\n", f"line 1, column 3: '!x1': {NEGATE}"),
+    ("opb", b"# a comment\n1 x1 >= 1 ;\n", f"line 1, column 1: '#': {STARRED}"),
+    ("opb", b"1 x1 >= 1 ; #2\n", f"line 1, column 13: '#2': {STARRED}"),
+    ("opb", b"// a comment\n1 x1 >= 1 ;\n", f"line 1, column 1: '//': {STARRED}"),
+    ("opb", b"% a comment\n1 x1 >= 1 ;\n", f"line 1, column 1: '%': {STARRED}"),
+    ("opb", b"c a comment\n1 x1 >= 1 ;\n", f"line 1, column 1: 'c': {STARRED}"),
+    ("opb", b"1 x1 1 x2 != 1 ;\n", f"line 1, column 11: '!=': {CHOOSE}"),
+    ("opb", b"1 x1!=1 ;\n", f"line 1, column 5: '!=': {CHOOSE}"),
+    ("opb", b"1 x1 <> 1 ;\n", f"line 1, column 6: '<>': {CHOOSE}"),
+    ("opb", b"1 <= x1 + x2 <= 2 ;\n", f"line 1, column 3: '<=': {TURN}"),
+    ("opb", b"1 x1 >= 0 <= 2 ;\n", f"line 1, column 11: '<=': {TURN}"),
+    ("opb", b"1 x1 >= = 2 ;\n", f"line 1, column 9: '=': {TURN}"),
+    ("opb", b"1 2 0\n", f"line 1, column 3: '2': {RENAME}"),
     ("opb", b"1 x1 + 1 x2 >= 1 ;\n", f"line 1, column 6: '+': {SIGN}"),
     ("opb", b"1 x1 >= - 1 ;\n", f"line 1, column 9: '-': {SIGN}"),
     ("opb", b"2*x1 >= 1 ;\n", f"line 1, column 1: '2*x1': {PART}"),
@@ -70,34 +105,50 @@ PLACED = [
     ("opb", b"1 x1 >= 0.5 ;\n", f"line 1, column 9: '0.5': {MAKE_WHOLE}"),
     ("opb", b"1 apple >= 1 ;\n", f"line 1, column 3: 'apple': {RENAME}"),
     ("opb", b"1 x1 >= x2 ;\n", f"line 1, column 9: 'x2': {MOVE_LEFT}"),
+    ("opb", b"1 x1 >= -x2 ;\n", f"line 1, column 9: '-x2': {MOVE_LEFT}"),
     ("opb", b"1 x1 >= 1 x2 ;\n", f"line 1, column 11: 'x2': {MOVE_LEFT}"),
     ("opb", b"1 x1 1 x2 ;\n", f"line 1, column 11: ';': {RELATE}"),
     ("opb", b"1 x1 >= 1\n1 x2 >= 1 ;\n", f"line 2, column 1: '1': {END}"),
     ("opb", b"min: 1 x1\n 2 x2 ; foo >= 1 ;\n", "line 2, column 9: 'foo'"),
-    ("cnf", b"p cnf 2 1\na 1 0\n", "line 2, column 1: 'a'"),
+    ("cnf", b"p cnf 2 1\na 1 0\n", "line 2, column 1: 'a': write cubes as iCNF, whose header is p inccnf, or into a file of their own"),
     ("opb", b"1 x1>=1;2 ~x2=;\n", f"line 1, column 15: ';': {RELATE}"),
     ("opb", b"1 x1 >= 1", "line 1: end each statement with ;"),
-    ("cnf", b"p cnf 2 1\n1 2\n", "line 2: end each clause and each cube with 0"),
-    ("opb", b"1 x1 >= 1 ;\nmin: 1 x1 ;\n", "line 2: put the one objective in front of all constraints"),
+    ("opb", b"min: 1 x1\n", "line 1: end each statement with ;"),
+    ("opb", b"* ;\n\nmin: \n", "line 3: end each statement with ;"),
+    ("cnf", b"p cnf 2 1\n1 2\n", f"line 2: {END_CLAUSES}"),
+    ("icnf", b"p inccnf\n1 2\na 1 0\n", f"line 2: {END_CLAUSES}"),
+    ("icnf", b"p inccnf\n1 2 0\na 1\na -1 0\n", f"line 3: {END_CLAUSES}"),
+    ("icnf", b"p inccnf\n1 2 0\na 1 0 2 0\n", f"line 3: {CUBE_LINE}"),
+    ("icnf", b"p inccnf\n1 2 0\na1 2 0\n", f"line 3, column 1: 'a1': {CUBE_LINE}"),
+    ("opb", b"1 x1 >= 1 ;\nmin: 1 x1 ;\n", f"line 2: {OBJECTIVE_FIRST}"),
+    ("opb", b"1 x1 >= 1 ;\nmin: \n", f"line 2: {OBJECTIVE_FIRST}"),
+    ("opb", b"1 x1 >= 1 ; min:\n* ;\n 1 x1", f"line 1: {OBJECTIVE_FIRST}"),
+    ("opb", b"min: ; 1 x1\n >= 1", "line 1: end each statement with ;"),
     ("opb", b"1 x1 >= 1 ;\n85070591730234615865843651857942052863 x1 >= 1 ;", f"line 2: {SMALL_SUMS}"),
     ("opb", b"* #variable= 1048577 #constraint= 0\n", f"line 1: {LIMITS}"),
     ("cnf", b"1 2 0\n", "line 1: write p cnf VARIABLES CLAUSES before all clauses"),
     ("icnf", b"1 2 0\n", "line 1: write p inccnf before all clauses"),
+    ("cnf", b"# a comment\np cnf 2 1\n1 2 0\n", f"line 1, column 1: '#': {LETTERED}"),
+    ("cnf", b"p cnf 2 1\n//2\n1 2 0\n", f"line 2, column 1: '//2': {LETTERED}"),
+    ("cnf", b"p cnf 2 1\n1 2 0 c a comment\n", f"line 2, column 7: 'c': {LETTERED}"),
     ("icnf", b"p inccnf\na 1 0\n1 2 0\n", "line 3: put all clauses before the first cube"),
     ("opb", b"1 x1 x2 >= 1 ;", f"line 1, column 6: 'x2': {NO_PRODUCT}"),
     ("opb", b"min: 1 x1; 1 x1>=1;\n2 x1 3 ~x2\n* x3 x3\n  ~x1 >= 1 ;\n", f"line 4, column 3: '~x1': {NO_PRODUCT}"),
     ("opb", b"1 x1 >= 1 ;\n1 x1 1 x2\n* x0\n2 ~x01048577>=1;\n", f"line 4, column 3: '~x01048577': {TO_MOST}"),
     ("opb", b"1 x1048576 1 x00 >= 1 ;", f"line 1, column 14: 'x00': {TO_MOST}"),
     ("opb", b"1 x99999999999999999999999999 >= 1 ;", f"line 1, column 3: 'x99999999999999999999999999': {TO_MOST}"),
-    ("cnf", b"c 9\np cnf 2 2\n1 2 0\n-1\nc 9\n-3 0\n", "line 6, column 1: '-3': variables are numbered from 1 to 2"),
+    ("cnf", b"c 9\np cnf 2 2\n1 2 0\n-1\nc 9\n-3 0\n", "line 6, column 1: '-3': variables are numbered from 1 to 2, as the header says"),
     ("icnf", b"p inccnf\n9 2 0\na 1 -1048577 0\n", f"line 3, column 5: '-1048577': {TO_MOST}"),
-    ("cnf", b"c 0 0\np cnf 2 3\n1 2 0 -1 00\n%\n0\n", "line 3: the header says that the number of clauses is 3, but it is 2"),
-    ("cnf", b"p cnf 2 1\n1 0\n2 0\n", "line 3: the header says that the number of clauses is 1, but it is 2"),
-    ("cnf", b"p cnf 2 1\n1 2 0\n1 2\n", "line 3: the header says that the number of clauses is 1, but it is 2"),
-    ("cnf", b"p cnf 2 0\n1\n", "line 2: the header says that the number of clauses is 0, but it is 1"),
-    ("cnf", b"p cnf 2 2\n1 2 0\n-1\n+2 0\n", "line 4, column 1: '+2'"),
-    ("icnf", b"p inccnf\n1 2 0\na 1 x 0\n", "line 3, column 5: 'x'"),
-    ("cnf", b"p cnf 1 1\n-0 0\n", "line 2, column 1: '-0'"),
+    ("cnf", b"c 0 0\np cnf 2 3\n1 2 0 -1 00\n%\n0\n", f"line 3: the header says that the number of clauses is 3, but it is 2: write 2 there{UNLESS_OPEN}"),
+    ("cnf", b"p cnf 2 2\n1 2\n-1 0\n", f"line 3: the header says that the number of clauses is 2, but it is 1: write 1 there{UNLESS_OPEN}"),
+    ("cnf", b"p cnf 2 1\n1 0\n2 0\n", "line 3: the header says that the number of clauses is 1, but it is 2: write 2 there"),
+    ("cnf", b"p cnf 2 1\n1 2 0\n1 2\n", "line 3: the header says that the number of clauses is 1, but it is 2: write 2 there"),
+    ("cnf", b"p cnf 2 0\n1\n", "line 2: the header says that the number of clauses is 0, but it is 1: write 1 there"),
+    ("cnf", b"p cnf 2 2\n1 2 0\n-1\n+2 0\n", f"line 4, column 1: '+2': {NUMBER}"),
+    ("cnf", b"p cnf 2 1\n1 x2 0\n", f"line 2, column 3: 'x2': {NUMBER}"),
+    ("cnf", b"p cnf 2 1\n1 ~2 0\n", f"line 2, column 3: '~2': {NUMBER}"),
+    ("icnf", b"p inccnf\n1 2 0\na 1 x 0\n", f"line 3, column 5: 'x': {NUMBER}"),
+    ("cnf", b"p cnf 1 1\n-0 0\n", f"line 2, column 1: '-0': {ZERO}"),
     ("opb", b"1 \x1b[2J >= 1 ;", "line 1, column 3: '\\x1b[2J'"),
     (
         "opb",

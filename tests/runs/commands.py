@@ -21,7 +21,9 @@ sys.dont_write_bytecode = True
 sys.path.insert(0, str(Path(__file__).resolve().parents[1]))
 from lib import PROGRAMS, built, name_of, ran, reason, side_by_side, version
 from lib.formats import Refused, read
-from lib.hinted_texts import BEGUN, CUBE_LINE, IS_MARKED, IS_WCNF, MINIMISE, NO_PRODUCT, NO_SOFT, PART, PLACED, TO_MOST
+from lib.hinted_texts import (
+    BEGUN, CUBE_LINE, IS_MARKED, IS_WCNF, LETTERED, MINIMISE, NO_PRODUCT, NO_SOFT, NUMBER, PART, PLACED, TO_MOST, ZERO,
+)  # fmt: skip
 from lib.reports import ALL_REFUSED, TIE, digest, index_of, part, run_again
 
 FULL = "/dev/full"  # takes no byte
@@ -88,8 +90,11 @@ FILES = {
     "own_cubes.icnf": OWN_CUBES,
     "good.cubes": "a 1 0\n",
     "word.cubes": "a 1 0\na 1 x2 0\n",
+    "zero.cubes": "a 1 0\na 1 -0\na x2 0\n",
+    "marked.cubes": "a 1 0\n# a comment\n",
+    "headed.cubes": "\np inccnf\na 1 0\n",
     "clause.cubes": "a 1 0\n1 2 0\n",
-    "open.cubes": "a 1 0\na 1 2\n",
+    "open.cubes": "a 1 0\na 1 2\na x2 0\n",
     "second_over.cubes": "a 1 0\na 4 0\n",
     "nine.cubes": "a 2 0\n" * 9,
     "hundred.cubes": "a 2 0\n" * 100,
@@ -297,7 +302,10 @@ PBCUBE = [
     hinted("packed.bz2", "Unfinished", "packed.bz2 is compressed by bzip2: bunzip2 it first"),
     *hinted_rows(),
     hinted_on_cubes("second_over.cubes", "BadVariable", "line 2, column 3: '4': variables are numbered from 1 to 3"),
-    hinted_on_cubes("word.cubes", "Syntax", "line 2, column 5: 'x2'"),
+    hinted_on_cubes("word.cubes", "Syntax", f"line 2, column 5: 'x2': {NUMBER}"),
+    hinted_on_cubes("zero.cubes", "Unfinished", f"line 2, column 5: '-0': {ZERO}"),
+    hinted_on_cubes("marked.cubes", "Syntax", f"line 2, column 1: '#': {LETTERED}"),
+    hinted_on_cubes("headed.cubes", "Syntax", f"line 2, column 1: 'p': {CUBE_LINE}"),
     hinted_on_cubes("clause.cubes", "Syntax", f"line 2: {CUBE_LINE}"),
     hinted_on_cubes("open.cubes", "Unfinished", f"line 2: {CUBE_LINE}"),
     Row(

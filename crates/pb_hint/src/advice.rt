@@ -1,4 +1,5 @@
 //! What to write in place of a word.
+use crate::rules::Rule;
 use thiserror::Error;
 
 /// What to write in place of a word that was refused.
@@ -19,9 +20,15 @@ pub enum Advice {
     /// A variable has a number out of range.
     #[error("variables are numbered from 1 to {0}")]
     Renumber(u64),
+    /// A variable has a number over the one that the header tells.
+    #[error("variables are numbered from 1 to {0}, as the header says")]
+    RenumberAsTold(u64),
     /// A literal has no number before it.
     #[error("write a number before each literal, as 1 x1")]
     Weigh,
+    /// A literal has a sign in place of a number.
+    #[error("write 1 ~x1 for the negation of x1, or -1 x1 for a negative coefficient")]
+    Negate,
     /// A sign stands alone.
     #[error("write the sign with a number, without a space, as -1 x1")]
     Sign,
@@ -40,6 +47,12 @@ pub enum Advice {
     /// It is strict the other way round.
     #[error("write <= and the greatest number allowed, as <= 1 for < 2")]
     AtMost,
+    /// The relation excludes one number.
+    #[error("no != is read: write two constraints with a new variable, which chooses a sum below the number or above it")]
+    Choose,
+    /// The relation stands behind a number, or a second one follows.
+    #[error("write the sum on the left and one number on the right, and two relations as two constraints")]
+    Turn,
     /// A literal stands on the right side.
     #[error("one number alone stands on the right: write all literals on the left")]
     MoveLeft,
@@ -55,4 +68,19 @@ pub enum Advice {
     /// A comment stands behind a statement.
     #[error("write a comment on a line of its own")]
     Separate,
+    /// A comment begins as one of another format, or stands behind a clause.
+    #[error("begin a comment with {0}, on a line of its own")]
+    Comment(&'static str),
+    /// A literal of a clause is no number.
+    #[error("write a literal as the number of its variable, as 2, or -2 for its negation")]
+    Number,
+    /// A zero has a sign.
+    #[error("write 0 at the end, since variables are numbered from 1")]
+    Zero,
+    /// A cube stands among the clauses of a format without cubes.
+    #[error("write cubes as iCNF, whose header is p inccnf, or into a file of their own")]
+    Cube,
+    /// The line does not keep to this rule.
+    #[error("{0}")]
+    Keep(Rule),
 }

@@ -2,6 +2,8 @@
 ghost use Rattle.std.specs.Prelude.{◌≡◌};
 ghost use Rattle.pb_hint.specs.Beginnings.{is_of};
 
+use crate::opb::ends_word;
+use crate::spelling::is_part_of_term;
 use bstr::ByteSlice;
 use pb_read::Format;
 use thiserror::Error;
@@ -39,7 +41,7 @@ pub enum Beginning {
     /// Its first line that is no comment is the header of iCNF.
     #[error("begins as iCNF: --format icnf reads it")]
     Icnf,
-    /// It has a header or an objective of OPB.
+    /// Its first line that is no comment is a constraint or the objective of OPB, or it has a header of OPB.
     #[error("begins as OPB: --format opb reads it")]
     Opb,
 }
@@ -76,7 +78,7 @@ pub fn begins_as(text: &[u8]) -> Option<Beginning> {
             return Some(begins);
         }
         if !line.is_empty() && !is_comment(line) {
-            return foreign_section(text, line);
+            return first_statement(text, line);
         }
     }
     None
@@ -84,19 +86,29 @@ pub fn begins_as(text: &[u8]) -> Option<Beginning> {
 
 /// Whether a line is a comment of some format.
 fn is_comment(line: &[u8]) -> bool {
-    line.starts_with(b"c") || line.starts_with(b"*") || line.starts_with(b"\\")
+    matches!(line.first(), Some(b'c' | b'*' | b'#' | b'\\'))
 }
 
-/// Which format that is not read has this line as its first one. LP ends no statement with a mark, as OPB does.
-fn foreign_section(text: &[u8], line: &[u8]) -> Option<Beginning> {
+/// Which format has this line as its first one, though it is no header. LP ends no statement with a mark, as OPB does.
+fn first_statement(text: &[u8], line: &[u8]) -> Option<Beginning> {
     let word = line.fields().next()?;
     if is_among(word, &OBJECTIVES) && text.find_byte(b';').is_none() {
         Some(Beginning::Lp)
     } else if is_among(word, &["name", "rows", "objsense"]) {
         Some(Beginning::Mps)
+    } else if is_constraint(line) {
+        Some(Beginning::Opb)
     } else {
         None
     }
+}
+
+/// Whether a line has a literal of OPB, and a relation or the end of a statement.
+fn is_constraint(line: &[u8]) -> bool {
+    line.find_byteset(b";><=").is_some()
+        && line
+            .split(|byte| ends_word(*byte))
+            .any(|word| is_part_of_term(word))
 }
 
 /// The words that begin an objective of LP.
@@ -137,15 +149,22 @@ fn is_marked(text: &[u8]) -> bool {
 
 /// What a line is the header of.
 fn header(line: &[u8]) -> Option<Beginning> {
-    if line.starts_with(b"p cnf ") {
-        Some(Beginning::Cnf)
-    } else if line.starts_with(b"p inccnf") {
-        Some(Beginning::Icnf)
-    } else if line.starts_with(b"p wcnf ") || line.starts_with(b"h ") {
-        Some(Beginning::Wcnf)
-    } else if line.starts_with(b"min:") || line.starts_with(b"* #variable=") {
-        Some(Beginning::Opb)
-    } else {
-        None
+    let mut words = line.fields();
+    let is_headed = words.next() == Some(b"p".as_slice());
+    match words.next() {
+        Some(b"cnf") if is_headed => Some(Beginning::Cnf),
+        Some(b"inccnf") if is_headed => Some(Beginning::Icnf),
+        Some(b"wcnf") if is_headed => Some(Beginning::Wcnf),
+        _ if line.starts_with(b"h ") => Some(Beginning::Wcnf),
+        _ if line.starts_with(b"min:") || is_opb_header(line) => Some(Beginning::Opb),
+        _ => None,
+    }
+}
+
+/// Whether a line is the header of OPB.
+fn is_opb_header(line: &[u8]) -> bool {
+    match line.strip_prefix(b"*") {
+        Some(rest) => rest.trim_start().starts_with(b"#variable="),
+        None => false,
     }
 }

@@ -1,7 +1,10 @@
 //! Finding the first word of a formula or of cubes that cannot stand there.
 //! Source: [DIMACS], [ICNF]
+use crate::advice::Advice;
 use crate::opb::are_digits;
 use crate::places::moved;
+use crate::rules::Rule;
+use crate::spelling::begins_comment;
 use bstr::ByteSlice;
 use std::ops::Range;
 
@@ -52,6 +55,22 @@ fn may_stand(line: &[u8], bounds: Range<usize>, may_be_mark: bool) -> bool {
     match word.strip_prefix(b"-") {
         Some(digits) => are_digits(digits) && digits.iter().any(|digit| *digit != b'0'),
         None => are_digits(word) || (may_be_mark && word == b"a".as_slice()),
+    }
+}
+
+/// What to write in place of such a word. Where there are cubes, a word of letters is taken for the `a` of a cube.
+pub fn advice_on(word: &[u8], has_cubes: bool) -> Advice {
+    let is_name = word.first().is_some_and(|byte| byte.is_ascii_alphabetic());
+    if begins_comment(word) {
+        Advice::Comment("c")
+    } else if word.strip_prefix(b"-").is_some_and(are_digits) {
+        Advice::Zero
+    } else if has_cubes && is_name && !word.starts_with(b"x") {
+        Advice::Keep(Rule::CubeLine)
+    } else if word == b"a".as_slice() {
+        Advice::Cube
+    } else {
+        Advice::Number
     }
 }
 

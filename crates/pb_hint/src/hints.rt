@@ -8,6 +8,7 @@ use crate::beginnings::{Beginning, begins_as};
 use crate::places::{Place, locate, moved, start_of_line};
 use crate::rules::Rule;
 use crate::{dimacs, opb, products, variables};
+use bstr::ByteSlice;
 use pb_inst::MAX_VARS;
 use pb_read::{Format, ReadFault, ReadKind};
 use std::ops::Range;
@@ -86,20 +87,40 @@ fn word_at_fault(format: Format, text: &[u8], fault: ReadFault) -> Option<Culpri
     let rest = text.get(start..)?;
     let (bounds, advice) = match fault.kind {
         ReadKind::Syntax | ReadKind::Unfinished if format.is_clausal() => {
-            (dimacs::misplaced(rest, format == Format::Icnf)?, None)
+            misplaced_in_lists(rest, format == Format::Icnf)?
         }
         // What a token of OPB may be depends on those before it, which may stand on earlier lines.
         ReadKind::Syntax | ReadKind::Unfinished => return token_at_fault(text),
         ReadKind::NonLinear => (products::second_literal(rest)?, Some(Advice::Linearise)),
         ReadKind::BadVariable => {
-            let greatest = greatest(format, text)?;
-            let bounds = variables::misnumbered(format, rest, greatest)?;
-            (bounds, Some(Advice::Renumber(greatest)))
+            let (greatest, advice) = greatest(format, text)?;
+            (
+                variables::misnumbered(format, rest, greatest)?,
+                Some(advice),
+            )
         }
+        ReadKind::BadHeader | ReadKind::TooManyClauses => stray_comment(rest)?,
         _ => return None,
     };
     let bounds = moved(bounds, start);
     Some(Culprit { bounds, advice })
+}
+
+/// The first word of clauses or cubes that cannot stand where it does.
+fn misplaced_in_lists(text: &[u8], has_cubes: bool) -> Option<(Range<usize>, Option<Advice>)> {
+    let bounds = dimacs::misplaced(text, has_cubes)?;
+    let word = text.get(bounds.start..bounds.end)?;
+    let advice = dimacs::advice_on(word, has_cubes);
+    Some((bounds, Some(advice)))
+}
+
+/// Such a word where it begins a comment.
+fn stray_comment(text: &[u8]) -> Option<(Range<usize>, Option<Advice>)> {
+    let (bounds, advice) = misplaced_in_lists(text, false)?;
+    match advice {
+        Some(Advice::Comment(_)) => Some((bounds, advice)),
+        _ => None,
+    }
 }
 
 /// The first token of OPB that cannot stand where it does.
@@ -116,7 +137,7 @@ fn word_in_cubes(text: &[u8], vars: u32, fault: ReadFault) -> Option<Culprit> {
     let start = start_of_line(text, fault.line);
     let rest = text.get(start..)?;
     let (bounds, advice) = match fault.kind {
-        ReadKind::Syntax => (dimacs::misplaced(rest, true)?, None),
+        ReadKind::Syntax | ReadKind::Unfinished => misplaced_in_lists(rest.lines().next()?, true)?,
         ReadKind::BadVariable => {
             let greatest = u64::from(vars);
             let bounds = variables::misnumbered(Format::Icnf, rest, greatest)?;
@@ -132,7 +153,9 @@ fn word_in_cubes(text: &[u8], vars: u32, fault: ReadFault) -> Option<Culprit> {
 fn broken_rule(format: Format, text: &[u8], kind: ReadKind) -> Option<Rule> {
     match kind {
         ReadKind::Unfinished if format.is_clausal() => Some(Rule::EndClauses),
+        ReadKind::Unfinished if opb::ends_in_late_objective(text) => Some(Rule::ObjectiveFirst),
         ReadKind::Unfinished => Some(Rule::EndStatements),
+        ReadKind::Syntax if format == Format::Icnf => Some(Rule::CubeLine),
         ReadKind::LateObjective => Some(Rule::ObjectiveFirst),
         ReadKind::TooLarge => Some(Rule::SmallSums),
         ReadKind::TooMany => Some(Rule::Limits),
@@ -140,13 +163,13 @@ fn broken_rule(format: Format, text: &[u8], kind: ReadKind) -> Option<Rule> {
         ReadKind::BadHeader => Some(Rule::CnfHeader),
         ReadKind::TooFewClauses => {
             let told = variables::clauses_told(text)?;
-            Some(Rule::ClauseCount(told, dimacs::clauses(text)))
+            Some(Rule::FewerClauses(told, dimacs::clauses(text)))
         }
         ReadKind::TooManyClauses => {
             let told = variables::clauses_told(text)?;
             // The last clause may have no end.
             let least = told.saturating_add(1);
-            Some(Rule::ClauseCount(told, dimacs::clauses(text).max(least)))
+            Some(Rule::MoreClauses(told, dimacs::clauses(text).max(least)))
         }
         ReadKind::ClauseAfterCube => Some(Rule::ClausesFirst),
         _ => None,
@@ -162,10 +185,16 @@ fn broken_rule_of_cubes(kind: ReadKind) -> Option<Rule> {
     }
 }
 
-/// The greatest number that a variable may have.
-fn greatest(format: Format, text: &[u8]) -> Option<u64> {
+/// The greatest number that a variable may have, and what to write in place of one out of range.
+fn greatest(format: Format, text: &[u8]) -> Option<(u64, Advice)> {
     match format {
-        Format::Cnf => variables::told(text),
-        Format::Opb | Format::Icnf => Some(u64::from(MAX_VARS)),
+        Format::Cnf => {
+            let told = variables::told(text)?;
+            Some((told, Advice::RenumberAsTold(told)))
+        }
+        Format::Opb | Format::Icnf => {
+            let greatest = u64::from(MAX_VARS);
+            Some((greatest, Advice::Renumber(greatest)))
+        }
     }
 }

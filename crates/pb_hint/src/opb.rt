@@ -2,7 +2,7 @@
 //! Source: [OPB]
 use crate::advice::Advice;
 use crate::places::moved;
-use crate::spelling::{advice_on_spelling, is_part_of_term};
+use crate::spelling::{advice_on_spelling, begins_comment, is_negated, is_part_of_term};
 use bstr::ByteSlice;
 use std::ops::Range;
 
@@ -36,26 +36,45 @@ impl StrayToken {
         if let Some(advice) = advice_on_spelling(word) {
             return Some(advice);
         }
-        let is_literal = is_literal(word);
+        if is_relation(word) {
+            return Some(self.advice_on_relation());
+        }
+        if is_part_of_term(word) || is_negated(word) {
+            return Some(self.advice_on_literal(word));
+        }
         match self.expected {
             Expected::Start if word.starts_with(b"*") => Some(Advice::Separate),
+            Expected::Start if begins_comment(word) => Some(Advice::Comment("*")),
             Expected::Literal { .. } if word == b"*".as_slice() => Some(Advice::Part),
             Expected::AfterLiteral { .. } if word == b"*".as_slice() => Some(Advice::Linearise),
-            Expected::Start | Expected::ObjectiveNumber if is_part_of_term(word) => {
-                Some(Advice::Weigh)
-            }
             Expected::AfterLiteral { objective: false } | Expected::Bound
                 if word == b";".as_slice() => { Some(Advice::Relate) }
-            Expected::ObjectiveNumber
-            | Expected::Literal { objective: true }
-            | Expected::AfterLiteral { objective: true }
-                if is_relation(word) => { Some(Advice::EndObjective) }
-            Expected::Bound | Expected::End if is_literal => Some(Advice::MoveLeft),
             Expected::End if is_number(word) || word == b"min:".as_slice() => Some(Advice::End),
+            Expected::Literal { .. } if is_number(word) => Some(Advice::Rename),
             Expected::Literal { .. } | Expected::AfterLiteral { .. } if is_name(word) => {
                 Some(Advice::Rename)
             }
             _ => None,
+        }
+    }
+
+    /// What to write in place of the token, which is a relation.
+    fn advice_on_relation(&self) -> Advice {
+        match self.expected {
+            Expected::ObjectiveNumber
+            | Expected::Literal { objective: true }
+            | Expected::AfterLiteral { objective: true } => Advice::EndObjective,
+            _ => Advice::Turn,
+        }
+    }
+
+    /// What to write in place of this word, which is the token: a literal, with a sign or without.
+    fn advice_on_literal(&self, word: &[u8]) -> Advice {
+        match self.expected {
+            Expected::Bound | Expected::End => Advice::MoveLeft,
+            _ if is_negated(word) => Advice::Negate,
+            Expected::Literal { .. } => Advice::Sign,
+            _ => Advice::Weigh,
         }
     }
 }
@@ -77,6 +96,28 @@ pub fn misplaced(text: &[u8]) -> Option<StrayToken> {
         start = start.saturating_add(line.len());
     }
     None
+}
+
+/// Whether the text ends within an objective that is not its first statement.
+pub fn ends_in_late_objective(text: &[u8]) -> bool {
+    let mut is_late = false;
+    let mut is_objective = None; // whether the statement under way is one
+    for line in text.lines() {
+        if line.trim_start().starts_with(b"*") {
+            continue;
+        }
+        let mut rest = line;
+        if let Some(end) = line.rfind_byte(b';') {
+            rest = line.get(end.saturating_add(1)..).unwrap_or_default();
+            is_late = true;
+            is_objective = None;
+        }
+        let rest = rest.trim_start();
+        if !rest.is_empty() {
+            is_objective = is_objective.or(Some(rest.starts_with(b"min:")));
+        }
+    }
+    is_late && is_objective == Some(true)
 }
 
 /// What is expected after the tokens of a line, or where on it the first misplaced one stands.
@@ -130,6 +171,10 @@ fn after_mark(line: &[u8], at: usize, expected: Expected) -> Result<Expected, St
             let bounds = last..next;
             return Err(StrayToken { bounds, expected });
         }
+        Some(b'<') if line.get(next) == Some(&b'>') => {
+            let bounds = at..next.saturating_add(1);
+            return Err(StrayToken { bounds, expected });
+        }
         Some(b'>' | b'<') if line.get(next) != Some(&b'=') => {
             let bounds = at..next;
             return Err(StrayToken { bounds, expected });
@@ -162,6 +207,10 @@ fn after_word(
     expected: Expected,
 ) -> Result<Expected, StrayToken> {
     let word = line.get(bounds.start..bounds.end).unwrap_or_default();
+    if word.ends_with(b"!") && line.get(bounds.end) == Some(&b'=') {
+        let bounds = bounds.end.saturating_sub(1)..bounds.end.saturating_add(1);
+        return Err(StrayToken { bounds, expected });
+    }
     match expected {
         Expected::Start if word == b"min:".as_slice() => Ok(Expected::ObjectiveNumber),
         Expected::Start if is_number(word) => Ok(Expected::Literal { objective: false }),

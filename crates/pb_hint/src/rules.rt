@@ -25,9 +25,12 @@ pub enum Rule {
     /// So does iCNF.
     #[error("write p inccnf before all clauses")]
     IcnfHeader,
-    /// The header tells the first of these numbers of clauses, and the text has the second.
-    #[error("the header says that the number of clauses is {0}, but it is {1}")]
-    ClauseCount(u64, u64),
+    /// The header tells the first of these numbers of clauses, and the text has the second, which is greater.
+    #[error("the header says that the number of clauses is {0}, but it is {1}: write {1} there")]
+    MoreClauses(u64, u64),
+    /// The second number is less.
+    #[error("the header says that the number of clauses is {0}, but it is {1}: write {1} there, unless a clause lacks its 0")]
+    FewerClauses(u64, u64),
     /// Clauses come before cubes.
     #[error("put all clauses before the first cube")]
     ClausesFirst,

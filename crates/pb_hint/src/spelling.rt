@@ -32,6 +32,7 @@ fn advice_on_mark(word: &[u8]) -> Option<Advice> {
         b"=>" => Some(Advice::Write(">=")),
         b"=<" => Some(Advice::Write("<=")),
         b"==" => Some(Advice::Write("=")),
+        b"!=" | b"<>" => Some(Advice::Choose),
         _ => None,
     }
 }
@@ -56,4 +57,20 @@ fn advice_on_number(word: &[u8]) -> Option<Advice> {
 /// Whether the word is a literal, with a sign or without.
 pub fn is_part_of_term(word: &[u8]) -> bool {
     is_literal(unsigned(word))
+}
+
+/// Whether the word is a literal with a minus sign or an exclamation mark before it.
+pub fn is_negated(word: &[u8]) -> bool {
+    match word {
+        [b'-' | b'!', literal @ ..] => is_literal(literal),
+        _ => false,
+    }
+}
+
+/// Whether the word begins a comment, in some format or language.
+pub fn begins_comment(word: &[u8]) -> bool {
+    word == b"c".as_slice()
+        || word.starts_with(b"#")
+        || word.starts_with(b"%")
+        || word.starts_with(b"//")
 }
