@@ -5,6 +5,7 @@ pub mod dividing;
 mod failures;
 mod faults;
 mod formats;
+mod help;
 pub mod joining;
 mod last_fault;
 pub mod matched;
@@ -18,6 +19,7 @@ mod words;
 pub use failures::tell_failure;
 pub use faults::{Untold, end_at_line, tell_fault};
 pub use formats::format_of;
+pub use help::{FORMAT_HELP, NODES_HELP};
 pub use last_fault::{LastFault, Noting};
 pub use options::{
     MAX_NODES, cubes_option, file_operand, format_option, named, nodes_option, split_option,

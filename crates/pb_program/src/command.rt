@@ -4,12 +4,12 @@ ghost use Rattle.clap.specs.Words.{app_of};
 ghost use Rattle.pb_program.specs.Line.{pbcube};
 
 use crate::help::{
-    ABOUT, CUBES_HELP, EXAMPLES_AND_STATUSES, FILE_HELP, FORMAT_HELP, LONG_ABOUT, NODES_HELP,
-    SPLIT_HELP, WORKERS_HELP,
+    ABOUT, CUBES_HELP, EXAMPLES_AND_STATUSES, FILE_HELP, LONG_ABOUT, SPLIT_HELP, WORKERS_HELP,
 };
 use clap::Command;
 use pb_line::{
-    cubes_option, file_operand, format_option, named, nodes_option, split_option, workers_option,
+    FORMAT_HELP, NODES_HELP, cubes_option, file_operand, format_option, named, nodes_option,
+    split_option, workers_option,
 };
 use std::alloc::{AllocError, Global};
 

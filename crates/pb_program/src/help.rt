@@ -10,9 +10,6 @@ least cost. If there are several, it is the lexicographically first one (x1 firs
 0 before 1). The program writes the cost and the assignment, or that the instance
 is infeasible, or what is wrong with the input.";
 
-/// What help says of `--format`.
-pub const FORMAT_HELP: &str = "Format of FILE: opb, cnf or icnf";
-
 /// What help says of `--workers`.
 pub const WORKERS_HELP: &str = "Number of threads that share the pieces, 1 to 64";
 
@@ -22,10 +19,6 @@ pub const SPLIT_HELP: &str = "Divide the work by the K most frequent variables, 
 /// What help says of `--cubes`.
 pub const CUBES_HELP: &str =
     "File of cubes that divide the work, with lines `a LITERALS 0`; none by default";
-
-/// What help says of `--nodes`.
-pub const NODES_HELP: &str =
-    "Stop each piece after B decisions, 0 to 1000000000; no limit by default";
 
 /// What help says of FILE.
 pub const FILE_HELP: &str = "File of the instance; /dev/stdin reads standard input";

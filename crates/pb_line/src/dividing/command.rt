@@ -3,9 +3,8 @@ ghost use Rattle.std.specs.Prelude.{◌≡◌, false, IfOk};
 ghost use Rattle.clap.specs.Words.{app_of, rule_of};
 ghost use Rattle.pb_line.specs.Dividing.{pbcube_pieces, out};
 
-use crate::dividing::help::{
-    ABOUT, CUBES_HELP, EXAMPLES_AND_STATUSES, FILE_HELP, FORMAT_HELP, LONG_ABOUT, SPLIT_HELP,
-};
+use crate::dividing::help::{ABOUT, EXAMPLES_AND_STATUSES, LONG_ABOUT};
+use crate::help::{CUBES_HELP, FILE_HELP, FORMAT_HELP, SPLIT_HELP};
 use crate::options::{cubes_option, file_operand, format_option, named, split_option};
 use clap::{Arg, Command};
 use std::alloc::{AllocError, Global};

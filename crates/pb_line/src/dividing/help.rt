@@ -10,19 +10,6 @@ an instance of its own: one for each cube, and one for the assignments that lie 
 no cube. Each piece can be solved on any core. The first of the pieces' least
 assignments is the least assignment of the instance.";
 
-/// What help says of `--format`.
-pub const FORMAT_HELP: &str = "Format of FILE: opb, cnf or icnf";
-
-/// What help says of `--split`.
-pub const SPLIT_HELP: &str = "Divide by the K most frequent variables, 0 to 12";
-
-/// What help says of `--cubes`.
-pub const CUBES_HELP: &str =
-    "File of cubes that divide the instance, with lines `a LITERALS 0`; none by default";
-
-/// What help says of FILE.
-pub const FILE_HELP: &str = "File of the instance";
-
 /// The end of `--help`: the files, examples and exit statuses.
 pub const EXAMPLES_AND_STATUSES: &str = "\
 Each piece is a file DIR/NUMBER.opb, or DIR/NUMBER.cnf if FILE is in CNF or iCNF.

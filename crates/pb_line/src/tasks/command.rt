@@ -3,13 +3,13 @@ ghost use Rattle.std.specs.Prelude.{◌≡◌, false, IfOk};
 ghost use Rattle.clap.specs.Words.{app_of, rule_of};
 ghost use Rattle.pb_line.specs.Tasks.{exchange, pbcube_task, task, tasks};
 
+use crate::help::{CUBES_HELP, FILE_HELP, FORMAT_HELP, NODES_HELP, SPLIT_HELP};
 use crate::options::{
     cubes_option, file_operand, format_option, named, nodes_option, split_option, workers_option,
 };
 use crate::tasks::args::MAX_TASKS;
 use crate::tasks::help::{
-    ABOUT, CUBES_HELP, EXAMPLES_AND_STATUSES, EXCHANGE_HELP, FILE_HELP, FORMAT_HELP, LONG_ABOUT,
-    NODES_HELP, SPLIT_HELP, TASK_HELP, TASKS_HELP, WORKERS_HELP,
+    ABOUT, EXAMPLES_AND_STATUSES, EXCHANGE_HELP, LONG_ABOUT, TASK_HELP, TASKS_HELP, WORKERS_HELP,
 };
 use clap::builder::ValueParser;
 use clap::{Arg, Command};

@@ -11,22 +11,8 @@ divided by T. So T machines can search all pieces, each its own share. The repor
 says which pieces are done, and has the best assignment known. pbcube_join makes
 one report, the answer on the instance, from the reports of all tasks.";
 
-/// What help says of `--format`.
-pub const FORMAT_HELP: &str = "Format of FILE: opb, cnf or icnf";
-
 /// What help says of `--workers`.
 pub const WORKERS_HELP: &str = "Number of threads that share the task, 1 to 64";
-
-/// What help says of `--split`.
-pub const SPLIT_HELP: &str = "Divide by the K most frequent variables, 0 to 12";
-
-/// What help says of `--cubes`.
-pub const CUBES_HELP: &str =
-    "File of cubes that divide the instance, with lines `a LITERALS 0`; none by default";
-
-/// What help says of `--nodes`.
-pub const NODES_HELP: &str =
-    "Stop each piece after B decisions, 0 to 1000000000; no limit by default";
 
 /// What help says of `--task`.
 pub const TASK_HELP: &str = "Number of this task, from 0 to T - 1";
@@ -37,9 +23,6 @@ pub const TASKS_HELP: &str = "Number of tasks among which the pieces are dealt i
 /// What help says of `--exchange`.
 pub const EXCHANGE_HELP: &str =
     "Folder through which the tasks exchange their best assignments; none by default";
-
-/// What help says of FILE.
-pub const FILE_HELP: &str = "File of the instance";
 
 /// The end of `--help`: the report, examples and exit statuses.
 pub const EXAMPLES_AND_STATUSES: &str = "\
