@@ -223,6 +223,11 @@ def hinted(words, kind, hint):
     return Row(words, f"c refused: {kind} at line 1\n{UNSUPPORTED}", f"pbcube: {hint}\n")
 
 
+def refused_with_hint(name, words, refusal, hint):
+    """A row of a run of this program, which tells a refusal of an input and then a hint."""
+    return Row(words, err=f"{name}: {refusal}\n{name}: {hint}\n", status=1)
+
+
 def hinted_on_cubes(name, kind, hint):
     """A row of a run that refuses the second line of this file of cubes, and tells this hint."""
     return Row(f"--cubes {name} tie.opb", f"c refused cubes: {kind} at line 2\n{UNSUPPORTED}", f"pbcube: {name}: {hint}\n")
@@ -250,7 +255,13 @@ def told_version(name, why=f": {NO_ROOM}"):
 
 
 ONE_PIECE = "pbcube: one worker searches the one piece: --split divides the work among several\n"
-PRODUCT = hinted("product.opb", "NonLinear", f"line 1, column 6: 'x2': {NO_PRODUCT}")
+# hints that several programs tell
+PRODUCT_HINT = f"line 1, column 6: 'x2': {NO_PRODUCT}"
+SECOND_OVER_HINT = "second_over.cubes: line 2, column 3: '4': variables are numbered from 1 to 3"
+LATE_CLAUSE_HINT = "line 12: the header says that the number of clauses is 0, but it is 1: write 1 there"
+IS_OPB_HINT = "tie.opb begins as OPB: --format opb reads it"
+FEW_HINT = "tie.opb has 3 variables, too few for --split 4"
+PRODUCT = hinted("product.opb", "NonLinear", PRODUCT_HINT)
 SHORT_HELP = """\
 Finds the first optimal solution of a pseudo-Boolean instance
 
@@ -301,7 +312,7 @@ PBCUBE = [
     hinted("packed.xz", "Unfinished", "packed.xz is compressed by xz: unxz it first"),
     hinted("packed.bz2", "Unfinished", "packed.bz2 is compressed by bzip2: bunzip2 it first"),
     *hinted_rows(),
-    hinted_on_cubes("second_over.cubes", "BadVariable", "line 2, column 3: '4': variables are numbered from 1 to 3"),
+    Row("--cubes second_over.cubes tie.opb", f"c refused cubes: BadVariable at line 2\n{UNSUPPORTED}", f"pbcube: {SECOND_OVER_HINT}\n"),
     hinted_on_cubes("word.cubes", "Syntax", f"line 2, column 5: 'x2': {NUMBER}"),
     hinted_on_cubes("zero.cubes", "Unfinished", f"line 2, column 5: '-0': {ZERO}"),
     hinted_on_cubes("marked.cubes", "Syntax", f"line 2, column 1: '#': {LETTERED}"),
@@ -428,19 +439,17 @@ PIECES = [
     pieces_row("--format icnf five.icnf", "own", 3),
     Row("--out untold tie.opb", err=f"pbcube_pieces: cannot write: {NO_ROOM}\n", status=1, out_to=FULL, files={"untold/0.opb": TIE}),
     Row("--out pieces none.opb", err=f"pbcube_pieces: cannot read none.opb: {MISSING}\n", status=1),
-    Row("--out pieces product.opb", err="pbcube_pieces: product.opb: NonLinear at line 1\n", status=1),
-    Row("--format cnf --out pieces late_clause.cnf", err="pbcube_pieces: late_clause.cnf: TooManyClauses at line 12\n", status=1),
-    Row(
-        "--cubes second_over.cubes --out pieces tie.opb",
-        err="pbcube_pieces: second_over.cubes: BadVariable at line 2\n",
-        status=1,
+    *(
+        refused_with_hint("pbcube_pieces", f"{words} --out pieces {name}", refusal, hint)
+        for words, name, refusal, hint in (
+            ("", "product.opb", "product.opb: NonLinear at line 1", PRODUCT_HINT),
+            ("--format cnf", "late_clause.cnf", "late_clause.cnf: TooManyClauses at line 12", LATE_CLAUSE_HINT),
+            ("--cubes second_over.cubes", "tie.opb", "second_over.cubes: BadVariable at line 2", SECOND_OVER_HINT),
+            ("--cubes word.cubes", "tie.opb", "word.cubes: Syntax at line 2", f"word.cubes: line 2, column 5: 'x2': {NUMBER}"),
+            ("--split 4", "tie.opb", "the split is over more variables than there are", FEW_HINT),
+            ("--format cnf", "tie.opb", "tie.opb: BadHeader at line 1", IS_OPB_HINT),
+        )
     ),
-    Row(
-        "--split 4 --out pieces tie.opb",
-        err="pbcube_pieces: the split is over more variables than there are\n",
-        status=1,
-    ),
-    Row("--format cnf --out pieces tie.opb", err="pbcube_pieces: tie.opb: BadHeader at line 1\n", status=1),
     # folders and files that cannot be made or written
     Row("--out product.opb tie.opb", err=f"pbcube_pieces: cannot use product.opb: {reason(errno.EEXIST)}\n", status=1),
     Row("--out with_index tie.opb", err="pbcube_pieces: with_index holds an index already\n", status=1),
@@ -540,10 +549,16 @@ TASK = [
         10,
     ),
     # refused texts, and files that are not there or cannot be read
-    Row("--task 0 --tasks 1 product.opb", f"c refused: NonLinear at line 1\n{UNSUPPORTED}"),
-    Row("--cubes second_over.cubes --task 0 --tasks 1 tie.opb", f"c refused cubes: BadVariable at line 2\n{UNSUPPORTED}"),
-    Row("--split 4 --task 0 --tasks 1 tie.opb", f"c refused split: BadSplit\n{UNSUPPORTED}"),
-    Row("--format cnf --task 0 --tasks 1 tie.opb", f"c refused: BadHeader at line 1\n{UNSUPPORTED}"),
+    *(
+        Row(f"{words} --task 0 --tasks 1 {name}", f"c refused{refusal}\n{UNSUPPORTED}", f"pbcube_task: {hint}\n")
+        for words, name, refusal, hint in (
+            ("", "product.opb", ": NonLinear at line 1", PRODUCT_HINT),
+            ("--cubes second_over.cubes", "tie.opb", " cubes: BadVariable at line 2", SECOND_OVER_HINT),
+            ("--split 4", "tie.opb", " split: BadSplit", FEW_HINT),
+            ("--format cnf", "tie.opb", ": BadHeader at line 1", IS_OPB_HINT),
+        )
+    ),
+    Row("--task 0 --tasks 1 product.opb", err=f"pbcube_task: cannot write: {NO_ROOM}\n", status=1, out_to=FULL),
     Row("--task 0 --tasks 1 none.opb", err=f"pbcube_task: cannot read none.opb: {MISSING}\n", status=1),
     Row("--task 0 --tasks 1 broken.opb", err=f"pbcube_task: cannot read broken.opb: {FOLDER}\n", status=1),
     Row("--cubes none.cubes --task 0 --tasks 1 tie.opb", err=f"pbcube_task: cannot read none.cubes: {MISSING}\n", status=1),
@@ -744,13 +759,19 @@ JOIN = [
     rejected(f"--tasks 1 tie.opb {SOCKET}", f"{SOCKET}: cannot be read: {reason(errno.ENXIO)}"),
     rejected("--tasks 1 tie.opb none", f"cannot read none: {MISSING}"),
     rejected("--tasks 1 none.opb", f"cannot read none.opb: {MISSING}"),
-    rejected("--tasks 1 product.opb", "product.opb: NonLinear at line 1"),
+    *(
+        refused_with_hint("pbcube_join", words, refusal, hint)
+        for words, refusal, hint in (
+            ("--tasks 1 product.opb", "product.opb: NonLinear at line 1", PRODUCT_HINT),
+            ("--pieces 3 product.opb", "product.opb: NonLinear at line 1", PRODUCT_HINT),
+            ("--format cnf --pieces 3 tie.opb", "tie.opb: BadHeader at line 1", IS_OPB_HINT),
+        )
+    ),
     Row("--tasks 2 tie.opb parts", err=f"pbcube_join: cannot write: {NO_ROOM}\n", status=1, out_to=FULL),
     Row("--tasks 1 tie.opb", "s UNKNOWN\n", err_to=FULL),
     refused("--tasks 0 tie.opb", "0 is not in 1..=4294967295"),
     refused("--tasks 4294967296 tie.opb", "4294967296 is not in 1..=4294967295"),
     refused("--tasks 1 --pieces 1 tie.opb", "--pieces and --tasks cannot be used together"),
-    rejected("--pieces 3 product.opb", "product.opb: NonLinear at line 1"),
     Row("--pieces 1 tie.opb", err=f"pbcube_join: cannot write: {NO_ROOM}\n", status=1, out_to=FULL),
     Row("--help", err=f"pbcube_join: cannot write: {NO_ROOM}\n", status=1, out_to=FULL),
     *closed("--pieces 3 tie.opb 2 out/0.out piece-001.out", "--tasks 2 tie.opb parts", "--help"),

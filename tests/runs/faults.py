@@ -68,11 +68,16 @@ class Case:
         return [word for word in self.words.split() if "." in word]
 
     def without_hint(self):
-        """How a run ends that refuses its texts and cannot read the input again for a hint."""
-        return Ended(self.ordinary.out, "", self.ordinary.status)
+        """How a run ends that refuses its texts and cannot read the input again for a hint, or has no memory for one."""
+        refusal = self.ordinary.err.splitlines(True)[:1] if self.is_refused_with_status() else []
+        return Ended(self.ordinary.out, "".join(refusal), self.ordinary.status)
+
+    def is_refused_with_status(self):
+        """Whether the standard error has both the refusal and the hint."""
+        return self.ordinary.status == 1 and self.ordinary.err.count("\n") == 2
 
     def is_refused(self):
-        return self.ordinary.out.endswith(UNSUPPORTED)
+        return self.ordinary.out.endswith(UNSUPPORTED) or self.is_refused_with_status()
 
 
 def solved(words, out, status):
@@ -106,9 +111,9 @@ CASES = [
 # command lines of each program, and their statuses: what is written is taken from a run without a fault
 COMMAND_LINES = {
     "pbcube": {"--help": 0, "--split 13 tie.opb": 2},
-    "pbcube_pieces": {"--help": 0, "tie.opb": 2, "--out pieces product.opb": 1},
-    "pbcube_task": {"--help": 0, "--task 1 --tasks 1 tie.opb": 2, "--workers 2 --split 1 --task 0 --tasks 2 tie.opb": 10},
-    "pbcube_join": {"--help": 0, "--pieces 0 tie.opb": 2, "--pieces 1 tie.opb": 0, "--pieces 1 tie.opb tie-0.out": 30, "tie.opb cut": 30, "--tasks 1 tie.opb parts": 30},
+    "pbcube_pieces": {"--help": 0, "tie.opb": 2, "--out pieces product.opb": 1, "--out pieces --split 4 tie.opb": 1},
+    "pbcube_task": {"--help": 0, "--task 1 --tasks 1 tie.opb": 2, "--task 0 --tasks 1 product.opb": 0, "--workers 2 --split 1 --task 0 --tasks 2 tie.opb": 10},
+    "pbcube_join": {"--help": 0, "--pieces 0 tie.opb": 2, "--pieces 1 tie.opb": 0, "--pieces 1 tie.opb tie-0.out": 30, "tie.opb cut": 30, "--tasks 1 tie.opb parts": 30, "--pieces 1 product.opb": 1},
 }
 
 

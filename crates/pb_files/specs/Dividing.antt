@@ -77,5 +77,5 @@ ReadsRefused reads format file cubes_name variables old new TooManyCubes =
 -- where the fault is a refusal, this holds of it
 abbrev pub IfRefused : DivisionFault → (Refusal → Type 0) → Type 0
 IfRefused (CannotRead name reason) Holds = ⊤
-IfRefused (Refused name refusal) Holds = Holds refusal
+IfRefused (Refused name refusal hint) Holds = Holds refusal
 IfRefused Memory Holds = ⊤

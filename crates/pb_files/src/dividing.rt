@@ -8,6 +8,7 @@ ghost use Rattle.pb_files.specs.Dividing.{AreOfSplit, AreTooManyToSplit, IfRefus
 
 use crate::dividing_fault::DivisionFault;
 use crate::folders::Folders;
+use crate::hints::{hint_on_cube_file, hint_on_division, hint_on_instance};
 use crate::prepared::Prepared;
 use pb_cubes::{CubeFault, Pieces, split};
 use pb_inst::{Cube, Instance};
@@ -57,7 +58,7 @@ pub fn prepare<'a, F: Folders>(
     } = read_given(alloc, folders, format, file, cubes)?;
     let mut of_split = cubes_of_split(alloc, file, &instance, split)?;
     all.append(&mut of_split)?;
-    let pieces = pieces_of(file, instance.vars(), all)?;
+    let pieces = pieces_of(alloc, file, instance.vars(), split, all)?;
     Ok(Prepared {
         instance,
         pieces,
@@ -82,7 +83,10 @@ fn read_given<'a, F: Folders>(
     let (instance, mut all) = match read(alloc, format, &text) {
         Ok(found) => found,
         Err(fault) if fault.kind == ReadKind::Memory => return Err(DivisionFault::Memory),
-        Err(fault) => return Err(DivisionFault::Refused(file, Refusal::Input(fault))),
+        Err(fault) => {
+            let hint = hint_on_instance(alloc, file, format, &text, fault);
+            return Err(DivisionFault::Refused(file, Refusal::Input(fault), hint));
+        }
     };
     let CubeFile {
         cubes: mut of_file,
@@ -133,7 +137,10 @@ fn cubes_of_file<'a, F: Folders>(
             digest: Some(Sha256::digest(text.as_slice())),
         }),
         Err(fault) if fault.kind == ReadKind::Memory => Err(DivisionFault::Memory),
-        Err(fault) => Err(DivisionFault::Refused(name, Refusal::Cubes(fault))),
+        Err(fault) => {
+            let hint = hint_on_cube_file(alloc, name, &text, vars, fault);
+            Err(DivisionFault::Refused(name, Refusal::Cubes(fault), hint))
+        }
     }
 }
 
@@ -155,18 +162,31 @@ fn cubes_of_split<'a>(
     match split(alloc, instance, variables) {
         Ok(cubes) => Ok(cubes),
         Err(CubeFault::Memory) => Err(DivisionFault::Memory),
-        Err(_) => Err(DivisionFault::Refused(file, Refusal::Split)),
+        Err(_) => {
+            let hint = hint_on_division(alloc, file, instance.vars(), variables);
+            Err(DivisionFault::Refused(file, Refusal::Split, hint))
+        }
     }
 }
 
-/// The pieces of these cubes. Their variables are within range already, so there can only be too many of them.
-fn pieces_of<'a>(file: &'a str, vars: u32, cubes: Vec<Cube>) -> Result<Pieces, DivisionFault<'a>>
+/// The pieces of these cubes, the last of which are those of the split. Their variables are within range already, so there can
+/// only be too many of them.
+fn pieces_of<'a>(
+    alloc: Global,
+    file: &'a str,
+    vars: u32,
+    split: u32,
+    cubes: Vec<Cube>,
+) -> Result<Pieces, DivisionFault<'a>>
     requires { AreWithin vars cubes.items }
     ensures pieces { IfOk result (λ pieces. pieces ≡ record { vars = vars; cubes = cubes.items }) }
     ensures refused { IfErr result (λ fault. IfRefused fault (λ refusal. (refusal ≡ Refusal.TooManyCubes) × (MAX_CUBES < length cubes.items))) }
 {
     match Pieces::new(vars, cubes) {
         Ok(pieces) => Ok(pieces),
-        Err(_) => Err(DivisionFault::Refused(file, Refusal::TooManyCubes)),
+        Err(_) => {
+            let hint = hint_on_division(alloc, file, vars, split);
+            Err(DivisionFault::Refused(file, Refusal::TooManyCubes, hint))
+        }
     }
 }

@@ -7,6 +7,7 @@ mod dividing;
 mod dividing_fault;
 mod files;
 mod folders;
+mod hints;
 mod index;
 mod lines;
 mod listing;

@@ -7,7 +7,7 @@ use std::alloc::AllocError;
 use std::io;
 use thiserror::Error;
 
-/// What keeps pieces from being written, with the name of the file where it was met.
+/// What keeps pieces from being written, with the name of the file where it was met, and for inputs with what may help.
 #[derive(Debug, Drop, Error)]
 pub enum PiecesFault<'a> {
     /// The file cannot be opened or read, for this reason.
@@ -15,13 +15,13 @@ pub enum PiecesFault<'a> {
     CannotRead(&'a str, io::Error),
     /// The file is refused.
     #[error("{0}: {1}")]
-    Refused(&'a str, ReadFault),
+    Refused(&'a str, ReadFault, Option<String>),
     /// The split is over more variables than the instance has.
     #[error("the split is over more variables than there are")]
-    BadSplit,
+    BadSplit(Option<String>),
     /// All cubes together are more than there may be.
     #[error("there are too many cubes")]
-    TooManyCubes,
+    TooManyCubes(Option<String>),
     /// The folder cannot be made or looked into, for this reason.
     #[error("cannot use {0}: {1}")]
     CannotUse(&'a str, io::Error),
@@ -37,6 +37,18 @@ pub enum PiecesFault<'a> {
     /// Memory was refused.
     #[error("out of memory")]
     Memory,
+}
+
+impl PiecesFault<'_> {
+    /// What may help with the input, if there is such a hint.
+    pub fn hint(&self) -> Option<&str> {
+        match self {
+            PiecesFault::Refused(_, _, hint)
+            | PiecesFault::BadSplit(hint)
+            | PiecesFault::TooManyCubes(hint) => hint.as_deref(),
+            _ => None,
+        }
+    }
 }
 
 impl From<AllocError> for PiecesFault<'_> {

@@ -4,12 +4,13 @@ ghost use Rattle.pb_files.specs.Reading.{IsReportOf, ReadsInstance, ReadsReports
 ghost use Rattle.pb_files.specs.Texts.{texts};
 
 use crate::files::Files;
+use crate::hints::hint_on_instance;
 use crate::listing::piece_number;
 use crate::quote::Quote;
 use crate::reports_fault::{Refusal, ReportsFault};
 use crate::whole::Whole;
 use pb_join::PieceReport;
-use pb_read::{Format, ReadFault, ReadKind, read};
+use pb_read::{Format, ReadKind, read};
 use pb_report::{ReportFault, ReportKind, read_report};
 use sha2::{Digest, Sha256};
 use std::alloc::Global;
@@ -43,7 +44,11 @@ pub fn read_instance<'a, F: Files>(
                 digest: Sha256::digest(text.as_slice()),
             })
         }
-        Err(fault) => Err(refusal(file, fault)),
+        Err(fault) if fault.kind == ReadKind::Memory => Err(ReportsFault::Memory),
+        Err(fault) => {
+            let hint = hint_on_instance(alloc, file, format, &text, fault);
+            Err(ReportsFault::Refused(file, fault, hint))
+        }
     }
 }
 
@@ -53,15 +58,6 @@ pub fn unreadable<'a>(name: &'a str, error: &io::Error) -> ReportsFault<'a> {
         ReportsFault::Memory
     } else {
         ReportsFault::CannotRead(name, *error)
-    }
-}
-
-/// Why the instance in the file of this name was not taken.
-fn refusal<'a>(file: &'a str, fault: ReadFault) -> ReportsFault<'a> {
-    if fault.kind == ReadKind::Memory {
-        ReportsFault::Memory
-    } else {
-        ReportsFault::Refused(file, fault)
     }
 }
 

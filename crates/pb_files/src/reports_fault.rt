@@ -63,9 +63,9 @@ pub enum ReportsFault<'a> {
     /// The instance cannot be opened or read, or the folder of reports, for this reason.
     #[error("cannot read {0}: {1}")]
     CannotRead(&'a str, io::Error),
-    /// The instance is refused.
+    /// The instance is refused. Behind its fault stands what may help, if there is such a hint.
     #[error("{0}: {1}")]
-    Refused(&'a str, ReadFault),
+    Refused(&'a str, ReadFault, Option<String>),
     /// The file of a report or an index is refused.
     #[error("{0}: {1}")]
     Report(String, Refusal),
@@ -78,6 +78,16 @@ pub enum ReportsFault<'a> {
     /// The report cannot be written.
     #[error("cannot write")]
     CannotWrite,
+}
+
+impl ReportsFault<'_> {
+    /// What may help with the instance, if there is such a hint.
+    pub fn hint(&self) -> Option<&str> {
+        match self {
+            ReportsFault::Refused(_, _, hint) => hint.as_deref(),
+            _ => None,
+        }
+    }
 }
 
 impl From<AllocError> for ReportsFault<'_> {

@@ -21,3 +21,11 @@ pub fn tell_failure<F: Display + Drop, E: Write>(
         None => writeln!(err, "{program}: {failure}"),
     };
 }
+
+/// Writes one line to the standard error that may help with an input that was refused, if there is such a hint. Faults of the
+/// standard error are ignored.
+pub fn tell_hint<H: Display + Drop, E: Write>(program: &str, hint: Option<H>, err: &mut E) {
+    if let Some(hint) = hint {
+        let _ = writeln!(err, "{program}: {hint}");
+    }
+}

@@ -21,7 +21,7 @@ use pb_files::{
 use pb_inst::Instance;
 use pb_join::{JoinFault, Joined, PieceState, join};
 use pb_line::joining::{Line, line};
-use pb_line::{LastFault, end_at_line, tell_failure};
+use pb_line::{LastFault, end_at_line, tell_failure, tell_hint};
 use pb_read::Format;
 use pb_report::{Device, Status};
 use std::alloc::Global;
@@ -185,7 +185,7 @@ fn end_without_run<W: Write, E: Write>(fault: &Error, out: &mut Device<W>, err: 
 }
 
 /// Writes one line to the standard error, with the reason where the output failed, unless whoever reads the output wants no
-/// more of it.
+/// more of it. Where the instance is refused, a second line has what may help.
 fn end_at_fault<E: Write>(fault: &ReportsFault<'_>, of_output: Option<io::Error>, err: &mut E) -> u8
     ensures { result ≡ 1 }
 {
@@ -194,5 +194,6 @@ fn end_at_fault<E: Write>(fault: &ReportsFault<'_>, of_output: Option<io::Error>
         _ => None,
     };
     tell_failure("pbcube_join", fault, reason, err);
+    tell_hint("pbcube_join", fault.hint(), err);
     1
 }

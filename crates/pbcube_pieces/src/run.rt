@@ -11,7 +11,7 @@ ghost use Rattle.pbcube_pieces.specs.Writing.{Divides, DividesAsAsked};
 use clap::Error;
 use pb_files::{Folders, PiecesFault, prepare, write_pieces};
 use pb_line::dividing::{Line, line};
-use pb_line::{end_at_line, tell_failure};
+use pb_line::{end_at_line, tell_failure, tell_hint};
 use std::alloc::Global;
 use std::io::{self, Write};
 
@@ -95,10 +95,11 @@ fn end_unwritten<E: Write>(reason: io::Error, err: &mut E) -> u8
     1
 }
 
-/// Writes one line to the standard error.
+/// Writes one line to the standard error, and one more with what may help, if there is such a hint.
 fn end_at_fault<E: Write>(fault: &PiecesFault<'_>, err: &mut E) -> u8
     ensures { result ≡ 1 }
 {
     tell_failure("pbcube_pieces", fault, None, err);
+    tell_hint("pbcube_pieces", fault.hint(), err);
     1
 }

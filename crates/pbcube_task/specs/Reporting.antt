@@ -52,7 +52,7 @@ pub record ReportsNoMemory (before after : Option (List ℕ)) (ended : Status) :
 -- why an instance was not divided is reported, unless a file could not be read
 abbrev pub ReportsFault : DivisionFault → Option (List ℕ) → Option (List ℕ) → Status → Type 0
 ReportsFault (CannotRead name reason) before after ended = ⊥
-ReportsFault (Refused name refusal) before after ended = WritesRefusal refusal before after ended
+ReportsFault (Refused name refusal hint) before after ended = WritesRefusal refusal before after ended
 ReportsFault Memory before after ended = ReportsNoMemory before after ended
 
 -- the files of the line are read, and what is refused of them is reported

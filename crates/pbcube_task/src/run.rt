@@ -13,7 +13,7 @@ use crate::searching::search;
 use clap::Error;
 use pb_files::{DivisionFault, Folders, prepare};
 use pb_line::tasks::{Line, line};
-use pb_line::{LastFault, end_at_line, tell_failure};
+use pb_line::{LastFault, end_at_line, tell_failure, tell_hint};
 use pb_notes::Notes;
 use pb_report::report_refusal;
 use pb_solve::{Device, Status, report_memory};
@@ -99,7 +99,7 @@ fn run_task<
     );
     let prepared = match divided {
         Ok(prepared) => prepared,
-        Err(fault) => return report_undivided(out, fault),
+        Err(fault) => return report_undivided(out, fault, err),
     };
     let status = match search(rt, alloc, line, &prepared, places, err) {
         Ok(answer) => report_part(out, line, &prepared, &answer)?,
@@ -108,17 +108,22 @@ fn run_task<
     Ok(status)
 }
 
-/// Reports why an instance was not divided, unless a file could not be read.
-fn report_undivided<'a, W: Write>(
+/// Reports why an instance was not divided, unless a file could not be read. The standard error then has what may help.
+fn report_undivided<'a, W: Write, E: Write>(
     out: &mut Device<W>,
     fault: DivisionFault<'a>,
+    err: &mut E,
 ) -> Result<Status, ProgramFault<'a>>
     requires { out.old.failed ≡ false }
     ensures { IfOk result (ReportsFault fault.entry (W.contents out.old.held) (W.contents out.new.held)) }
 {
     match fault {
         DivisionFault::CannotRead(name, reason) => Err(ProgramFault::CannotRead(name, reason)),
-        DivisionFault::Refused(_, refusal) => Ok(report_refusal(out, refusal)?),
+        DivisionFault::Refused(_, refusal, hint) => {
+            let status = report_refusal(out, refusal)?;
+            tell_hint("pbcube_task", hint, err);
+            Ok(status)
+        }
         DivisionFault::Memory => Ok(report_memory(out)?),
     }
 }
