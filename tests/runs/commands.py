@@ -193,6 +193,11 @@ def refused(words, *parts):
     return Row(words, err=("error: ", *parts), status=2)
 
 
+def refused_below(words, range_told):
+    """A row of a run of pbcube that refuses a negative number, and names the range before clap tells how to pass such a word."""
+    return Row(words, err=(f"pbcube: {range_told}\nerror: ", f"'{words.split()[1]}'"), status=2)
+
+
 def helped(words, *parts):
     return Row(words, out=parts)
 
@@ -374,10 +379,12 @@ PBCUBE = [
     refused("--workers 65 tie.opb", "65 is not in 1..=64"),
     refused("--workers two tie.opb", "'two'"),
     refused("--split 13 tie.opb", "13 is not in 0..=12"),
-    refused("--split -1 tie.opb", "'-1'", "\npbcube: --split takes a number from 0 to 12\n"),
+    refused_below("--split -1 tie.opb", "--split takes a number from 0 to 12"),
     refused("--nodes 1000000001 tie.opb", "1000000001 is not in 0..=1000000000"),
-    refused("--nodes -1 tie.opb", "'-1'", "\npbcube: --nodes takes a number from 0 to 1000000000\n"),
-    refused("--workers -4 tie.opb", "'-4'", "\npbcube: --workers takes a number from 1 to 64\n"),
+    refused_below("--nodes -1 tie.opb", "--nodes takes a number from 0 to 1000000000"),
+    refused_below("--workers -4 tie.opb", "--workers takes a number from 1 to 64"),
+    refused("--split 99 tie.opb", "99 is not in 0..=12"),
+    refused("-1 tie.opb", "'-1'"),
     refused("--nodes x tie.opb", "'x'"),
     refused("--split 1 --split 2 tie.opb", "multiple times"),
     refused("--format wbo tie.opb", "opb, cnf and icnf"),

@@ -4,7 +4,7 @@ ghost use Rattle.pb_c.specs.Copied.{copied_into};
 
 use crate::copying::copy_out;
 use crate::literals::format_of;
-use pb_hint::{Hint, hint_on};
+use pb_hint::{HintLine, hint_on};
 use pb_read::{Format, read};
 use std::alloc::Global;
 use std::io::Write;
@@ -28,9 +28,7 @@ pub extern "C" fn pb_c_hint(alloc: Global, format: i32, text: &[u8], room: &mut 
 fn written_hint(alloc: Global, format: Format, text: &[u8]) -> Option<Vec<u8>> {
     let fault = read(alloc, format, text).err()?;
     let mut written = Vec::new(alloc);
-    match hint_on(format, text, fault)? {
-        Hint::Begins(beginning) => write!(written, "the text {beginning}").ok()?,
-        hint => write!(written, "{hint}").ok()?,
-    }
+    let line = HintLine::of_instance("the text", hint_on(format, text, fault)?);
+    write!(written, "{line}").ok()?;
     Some(written)
 }

@@ -1,12 +1,14 @@
 //! Hints on standard error.
 use crate::args::Line;
 use crate::files::Rewind;
-use pb_hint::{Hint, hint_on, hint_on_cubes};
-use pb_inst::{MAX_CUBES, MAX_SPLIT, MAX_WORKERS};
-use pb_line::MAX_NODES;
+use clap::Error;
+use clap::error::ErrorKind;
+use pb_hint::{HintLine, hint_on, hint_on_cubes};
+use pb_inst::{MAX_SPLIT, MAX_WORKERS};
+use pb_line::{MAX_NODES, tell_hint};
 use pb_read::{Format, ReadFault, read, read_cubes};
 use std::alloc::Global;
-use std::io::{self, Read, Write};
+use std::io::{Read, Write};
 
 /// Writes one line to the standard error where several workers have one piece. The cubes of an iCNF text are not known yet.
 pub fn tell_of_one_piece<E: Write>(line: &Line<'_>, err: &mut E) {
@@ -20,10 +22,10 @@ pub fn tell_of_one_piece<E: Write>(line: &Line<'_>, err: &mut E) {
     }
 }
 
-/// Writes one line to the standard error where the words were refused and an option has a negative number, which clap takes to be
-/// an option of its own.
-pub fn tell_of_negative<E: Write>(status: u8, words: &[&str], err: &mut E) {
-    if status != 2 {
+/// Writes one line to the standard error where an option has a negative number, which clap takes to be an option of its own and
+/// refuses as an unknown one.
+pub fn tell_of_negative<E: Write>(fault: &Error, words: &[&str], err: &mut E) {
+    if fault.kind() != ErrorKind::UnknownArgument {
         return;
     }
     let mut option = "";
@@ -76,23 +78,20 @@ pub fn diagnose<I: Read + Rewind, E: Write>(
     };
     let vars = match read(alloc, line.options.format, &text) {
         Ok((instance, _)) => instance.vars(),
-        Err(fault) => {
-            let _ = tell_hint(line, &text, fault, err);
-            return;
-        }
+        Err(fault) => return tell_of_instance(line, &text, fault, err),
     };
     if let (Some(name), Some(cubes)) = (line.cubes, cubes) {
         match read_again(alloc, cubes) {
             Some(text) => {
                 if let Err(fault) = read_cubes(alloc, &text, vars) {
-                    let _ = tell_hint_on_cubes(name, &text, vars, fault, err);
-                    return;
+                    return tell_of_cubes(name, &text, vars, fault, err);
                 }
             }
             None => return,
         }
     }
-    let _ = tell_of_division(line, vars, err);
+    let of_division = HintLine::of_division(line.file, vars, line.options.split);
+    tell_hint("pbcube", Some(of_division), err);
 }
 
 /// All that the input has, from its start.
@@ -105,45 +104,17 @@ fn read_again<I: Read + Rewind>(alloc: Global, input: &mut I) -> Option<Vec<u8>>
     Some(text)
 }
 
-fn tell_hint<E: Write>(
-    line: &Line<'_>,
-    text: &[u8],
-    fault: ReadFault,
-    err: &mut E,
-) -> io::Result<()> {
-    match hint_on(line.options.format, text, fault) {
-        Some(Hint::Begins(beginning)) => writeln!(err, "pbcube: {} {beginning}", line.file),
-        Some(hint) => writeln!(err, "pbcube: {hint}"),
-        None => Ok(()),
+/// Writes the hint on the instance, if there is one.
+fn tell_of_instance<E: Write>(line: &Line<'_>, text: &[u8], fault: ReadFault, err: &mut E) {
+    if let Some(hint) = hint_on(line.options.format, text, fault) {
+        let of_instance = HintLine::of_instance(line.file, hint);
+        tell_hint("pbcube", Some(of_instance), err);
     }
 }
 
-fn tell_hint_on_cubes<E: Write>(
-    name: &str,
-    text: &[u8],
-    vars: u32,
-    fault: ReadFault,
-    err: &mut E,
-) -> io::Result<()> {
-    match hint_on_cubes(text, vars, fault) {
-        Some(hint) => writeln!(err, "pbcube: {name}: {hint}"),
-        None => Ok(()),
-    }
-}
-
-/// Tells why the cubes and the split of the line, each of which can be read, do not divide an instance of `vars` variables.
-fn tell_of_division<E: Write>(line: &Line<'_>, vars: u32, err: &mut E) -> io::Result<()> {
-    let (file, split) = (line.file, line.options.split);
-    let noun = if vars == 1 { "variable" } else { "variables" };
-    if split > vars {
-        writeln!(
-            err,
-            "pbcube: {file} has {vars} {noun}, too few for --split {split}"
-        )
-    } else {
-        writeln!(
-            err,
-            "pbcube: there are at most {MAX_CUBES} cubes, with those of --split"
-        )
+/// Writes the hint on the cubes in the file of this name, if there is one.
+fn tell_of_cubes<E: Write>(name: &str, text: &[u8], vars: u32, fault: ReadFault, err: &mut E) {
+    if let Some(hint) = hint_on_cubes(text, vars, fault) {
+        tell_hint("pbcube", Some(HintLine::OfCubes(name, hint)), err);
     }
 }

@@ -42,9 +42,8 @@ pub fn program<'a, R: Threads + Sync, F: Files, W: Write, E: Write>(
     let line = match line(alloc, words) {
         Ok(line) => line,
         Err(fault) => {
-            let status = end_without_run(&fault, out, err);
-            tell_of_negative(status, words, err);
-            return status;
+            tell_of_negative(&fault, words, err);
+            return end_without_run(&fault, out, err);
         }
     };
     let (mut input, mut cubes) = match fetch_files(&line, files) {
