@@ -486,7 +486,7 @@ def digest_of(name):
 
 
 NOTE = f"pbcube note of instance {digest_of('tie.opb')}\ncost 3\nvalues 010\n"
-WITHOUT_NOTES = "pbcube_task: cannot use tie.opb, so no notes are exchanged: "
+WITHOUT_NOTES = "pbcube_task: cannot use tie.opb, so this task exchanges no assignments: "
 TASK = [
     Row("--task 0 --tasks 1 tie.opb", part("0 of 1", FILES["tie.opb"], "1 split 0 cubes none", " 0") + ATTAINED, status=10),
     Row("--split 1 --task 1 --tasks 2 tie.opb", part("1 of 2", FILES["tie.opb"], "3 split 1 cubes none", " 1") + ATTAINED, status=10),

@@ -71,7 +71,9 @@ impl Notes for TaskNotes<'_> {
     fn tell(&self, fault: &io::Error) {
         if self.may_tell() {
             let name = &self.name;
-            let _ = eprintln!(self.rt; "pbcube_task: cannot exchange notes in {name}: {fault}");
+            let _ = eprintln!(self.rt;
+                "pbcube_task: cannot exchange assignments in {name}: {fault}"
+            );
         }
     }
 }

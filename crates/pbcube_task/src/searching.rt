@@ -65,7 +65,7 @@ fn place_of<N, P: Places<N>, E: Write>(
         Err(fault) => {
             let _ = writeln!(
                 err,
-                "pbcube_task: cannot use {folder}, so no notes are exchanged: {fault}"
+                "pbcube_task: cannot use {folder}, so this task exchanges no assignments: {fault}"
             );
             Ok(None)
         }
