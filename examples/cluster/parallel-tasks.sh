@@ -20,7 +20,7 @@ cd "$folder"
 digest=$(sha256sum < "$file" | cut -d ' ' -f 1)
 for report in *.report; do
   [ -s "$report" ] || continue
-  if [[ $(head -n 1 "$report") == 'c refused split'* ]]; then
+  if [[ $(head -n 1 "$report") == 'c refused'* ]]; then
     rm -f "$report" # and not of a division, so the folder can serve another one
     continue
   fi
@@ -37,11 +37,11 @@ missing() { # the tasks that have no report, or an empty one, or one in which a 
   done
 }
 
-# With the statuses 0 and 10 what begins like a part is one, and a refused split is one for the join, which tells it where all tasks
+# With the statuses 0 and 10 what begins like a part is one, and what is refused is for the join, which tells it where all tasks
 # refuse it. It gets the report's name only once it is whole; until then its name is another one in each process, so that the same
 # task may run twice at a time. What else a task writes is shown.
 printf -v words '%q ' --format "$format" --split "$split" --tasks "$tasks" --exchange notes "$file"
 search="part={}.\$(uname -n).\$\$.part; pbcube_task --task {} $words > \$part; case \$? in 0 | 10) "
-search+='if grep -q -e "^c part " -e "^c refused split" $part; then mv $part {}.report; else cat $part >&2; exit 1; fi ;; *) exit 1 ;; esac'
+search+='if grep -q -e "^c part " -e "^s UNSUPPORTED" $part; then mv $part {}.report; else cat $part >&2; exit 1; fi ;; *) exit 1 ;; esac'
 missing | parallel --workdir "$folder" "${hosts[@]}" --joblog +joblog "$search" || true
 exec pbcube_join "$file" --format "$format" --tasks "$tasks" "$folder"

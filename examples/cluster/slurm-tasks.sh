@@ -34,11 +34,12 @@ if [ "$(cat division)" != "$division" ]; then
 fi
 ! grep -qsx 'c cut' "$task.report" || exit 0
 
-# With the statuses 0 and 10 what begins like a part is one. It gets the report's name only once it is whole; until then its name
-# is another one in each process, so that the same task may run twice at a time. What else a task writes is told.
+# With the statuses 0 and 10 what begins like a part is one, and what is refused is for the join, which tells it where all tasks
+# refuse it. It gets the report's name only once it is whole; until then its name is another one in each process, so that the same
+# task may run twice at a time. What else a task writes is told.
 pbcube_task --format "$format" --split "$split" --workers "${SLURM_CPUS_PER_TASK:-1}" --task "$task" --tasks "$tasks" \
   --exchange notes "$file" > "$part" || status=$?
-if [[ $status =~ ^(0|10)$ ]] && grep -q '^c part ' "$part"; then
+if [[ $status =~ ^(0|10)$ ]] && grep -q -e '^c part ' -e '^s UNSUPPORTED' "$part"; then
   mv "$part" "$task.report"
 else
   echo "slurm-tasks.sh: task $task ended with status $status" >&2

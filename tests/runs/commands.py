@@ -62,9 +62,13 @@ PARTS = {
     "refused_number.part": f"c refused cubes: TooMany\n{UNSUPPORTED}",
     "refused_line.part": f"c refused cubes: TooMany at line 1048576\n{UNSUPPORTED}",
     "refused_input.part": f"c refused: NonLinear at line 1\n{UNSUPPORTED}",
+    "refused_second.part": f"c refused: NonLinear at line 2\n{UNSUPPORTED}",
     "refused_torn.part": "c refused split: BadSplit\n",
+    "empty.part": "",
     "refused_other.part": f"c refused split: bad\n{UNSUPPORTED}",
     "no_memory.part": f"c refused: Memory\n{UNKNOWN}",
+    "bad_header.part": f"c refused: BadHeader at line 1\n{UNSUPPORTED}",
+    "spaced.part": part("1 of 2", TIE, IN_THREE, " 1").replace("c part", "c  part") + ATTAINED,
     "no_pieces.part": part("1 of 2", TIE, "0 split 1 cubes none", "") + "s UNKNOWN\n",
     "divided.part": part("1 of 2", TIE, "3 split 2 cubes none", " 1") + ATTAINED,
     "claims.part": part("1 of 2", TIE, IN_THREE, " 1") + SECOND,
@@ -120,6 +124,7 @@ FILES = {
     "failed-1.out": "Killed\a\n",
     "silent-1.out": "c a solver\nc reads\n",
     "empty-1.out": "",
+    "blank-1.out": "\n",
     "long-1.out": f"c {99 * 'x'}\n",
     "wrong-1.out": "o 2\ns OPTIMUM FOUND\nv -x1 x2 -x3\n",
     "report.out": "s UNSATISFIABLE\n",
@@ -593,6 +598,11 @@ def states(pieces, cut=()):
     return "".join(f"pbcube_join: piece {number} {it}\n" for number, it in said.items()) + run_again("pieces", pieces)
 
 
+def run_refused(name):
+    """The line on a report of pieces whose run refused its input."""
+    return f"pbcube_join: {name}: its run refused its input\n"
+
+
 def again(*tasks):
     """What is said of tasks that have to be run again."""
     return run_again("tasks", tasks)
@@ -614,17 +624,30 @@ def of_task(task, done, claim, cut="", tasks=2, division=IN_THREE, text=TIE):
     return part(f"{task} of {tasks}", text, division, done, cut) + claim
 
 
+# what is said of a task without a part
+REFUSED, NOTHING = "its run refused its input", "the task searched nothing"
 FIRST_PART = of_task(0, " 0 2", FIRST_ATTAINED)
 # an instance, the numbers of some pieces with their reports, and what these make, or the place of the one that is rejected, and why
 OF_THREE_PIECES = [
     ("tie.opb", [(0, FIRST), (2, NONE)], FIRST_ATTAINED, states([1]), 10),
     ("tie.opb", [(0, FIRST), (1, WORSE), (2, NONE)], FIRST_ATTAINED, states([1], [1]), 10),
-    ("tie.opb", [(0, UNKNOWN), (1, UNSUPPORTED), (2, NONE)], UNKNOWN, states([0, 1], [0, 1])),
+    ("tie.opb", [(0, UNKNOWN), (1, UNSUPPORTED), (2, NONE)], UNKNOWN, run_refused("of_pieces/2/1-1.out") + states([0, 1], [0, 1])),
+    ("tie.opb", [(0, FIRST), (1, ""), (2, NONE)], FIRST_ATTAINED, states([1]), 10),
+    # the second report of a piece counts where the first is empty
+    ("tie.opb", [(1, ""), (0, FIRST), (1, SECOND), (2, NONE)], SECOND, "", 30),
+    ("tie.opb", [(0, ""), (0, ""), (5, "")], UNKNOWN, states([0, 1, 2])),
+    ("tie.opb", [(1, ""), (0, FIRST), (0, FIRST)], 2, "there are two reports of this piece"),
     ("tie.opb", [], UNKNOWN, states([0, 1, 2])),
     ("tie.opb", [(0, NONE), (1, NONE), (2, NONE)], NONE, "", 20),
     ("free.opb", [(0, NONE), (1, FEASIBLE), (2, NONE)], FEASIBLE, "", 10),
     ("tie.opb", [(0, FIRST), (1, SECOND), (0, FIRST)], 2, "there are two reports of this piece"),
     ("tie.opb", [(3, FIRST)], 0, "no piece has this number"),
+    *(
+        ("tie.opb", [(0, FIRST), (1, of_task(1, " 1", claim, tasks=7))], 1, "it is the report of a task: give --tasks 7")
+        for claim in (ATTAINED, "")
+    ),
+    # that of a task on a piece alone
+    ("free.opb", [(0, of_task(0, " 0", FEASIBLE, tasks=1, text=TIE))], FEASIBLE, states([1, 2]), 10),
     ("tie.opb", [(0, "s OPTIMUM FOUND\nv -x1 -x2 x3\n")], 0, "the assignment is infeasible"),
     ("tie.opb", [(2, NONE), (0, FIRST.replace("o 3", "o 2"))], 1, "the o line is not the cost of the assignment"),
     ("pair.opb", [(0, SECOND)], 0, "BadVariable at line 3"),
@@ -638,6 +661,10 @@ OF_TWO_TASKS = [
     # piece 0 is named by no report
     ("tie.opb", [of_task(0, " 2", UNKNOWN), of_task(1, "", UNKNOWN)], UNKNOWN, again(0, 1)),
     ("tie.opb", [], UNKNOWN, again(0, 1)),
+    ("tie.opb", ["", of_task(1, " 1", ATTAINED)], ATTAINED, again(0), 10),
+    ("tie.opb", ["", "", of_task(1, " 1", ATTAINED), of_task(0, " 0 2", FIRST_ATTAINED)], SECOND, "", 30),
+    ("tie.opb", ["", FIRST_PART, FIRST_PART], 2, "there are two reports of this task"),
+    ("tie.opb", ["", ""], UNKNOWN, again(0, 1)),
     ("tie.opb", [of_task(0, " 0 2", UNKNOWN), of_task(1, " 1", UNKNOWN)], NONE, "", 20),
     ("free.opb", [of_task(0, " 0 2", UNKNOWN, text=FREE), of_task(1, " 1", FEASIBLE, text=FREE)], FEASIBLE, "", 10),
     ("tie.opb", [of_task(0, " 0 2", FIRST_ATTAINED, text=FREE)], 0, "the part is of another instance"),
@@ -711,12 +738,16 @@ JOIN = [
     rejected("tie.opb unread", f"unread/index: cannot be read: {FOLDER}"),
     rejected("tie.opb reports", "the number of pieces is told neither by --pieces nor by an index"),
     rejected("tie.opb", "the number of pieces is told neither by --pieces nor by an index"),
+    rejected("tie.opb parts", "parts/first.report: it is the report of a task: give --tasks 2"),
+    rejected(f"tie.opb {SOCKET} empty.part out/0.out few.part", "few.part: it is the report of a task: give --tasks 5"),
+    rejected("tie.opb edited.part", "the number of pieces is told neither by --pieces nor by an index"),
     # reports that are rejected
     rejected("--pieces 3 tie.opb out/0.out again-0.out", "again-0.out: there are two reports of this piece"),
     rejected("--pieces 3 tie.opb torn-1.out", "torn-1.out: Unfinished at line 3"),
     rejected("--pieces 3 tie.opb failed-1.out", "failed-1.out: Syntax at line 1: its first line is 'Killed\\x07'"),
     rejected("--pieces 3 tie.opb silent-1.out", "silent-1.out: NoStatus at line 2: its first line is 'c a solver'"),
-    rejected("--pieces 3 tie.opb empty-1.out", "empty-1.out: NoStatus at line 1"),
+    Row("--pieces 3 tie.opb empty-1.out", "s UNKNOWN\n", states([0, 1, 2])),
+    rejected("--pieces 3 tie.opb blank-1.out", "blank-1.out: NoStatus at line 1"),
     rejected("--pieces 3 tie.opb long-1.out", f"long-1.out: NoStatus at line 1: its first line is 'c {58 * 'x'}'"),
     rejected("--pieces 3 tie.opb wrong-1.out", "wrong-1.out: the o line is not the cost of the assignment"),
     rejected("--pieces 3 tie.opb report.out", "report.out: the name has no number of a piece before its last dot"),
@@ -740,20 +771,40 @@ JOIN = [
         Row(f"--tasks {len(names.split())} tie.opb {names}", PARTS[names.split()[0]], ALL_REFUSED)
         for names in ("refused.part refused.part", "refused_cubes.part", "refused_number.part", "refused_line.part")
     ),
+    *(
+        Row(f"--tasks {len(names.split())} product.opb {names}", PARTS["refused_input.part"], ALL_REFUSED)
+        for names in ("refused_input.part", "refused_input.part refused_input.part")
+    ),
+    Row("--tasks 1 --format cnf tie.opb bad_header.part", PARTS["bad_header.part"], ALL_REFUSED),
+    Row("--tasks 1 product.opb refused_input.part", err=f"pbcube_join: cannot write: {NO_ROOM}\n", status=1, out_to=FULL),
+    *(
+        rejected(f"--tasks {tasks} product.opb {names}", "product.opb: NonLinear at line 1")
+        for tasks, names in (
+            (2, "refused_input.part"),
+            (1, "refused_input.part refused_input.part"),
+            (2, "refused_input.part refused_second.part"),
+            (2, "refused_second.part refused_second.part"),
+            (2, "refused_input.part empty.part"),
+            (2, f"refused_input.part {SOCKET}"),
+            (1, "refused.part"),
+            (1, "none"),
+        )
+    ),
     Row("--tasks 1 tie.opb refused.part", err=f"pbcube_join: cannot write: {NO_ROOM}\n", status=1, out_to=FULL),
     *(
-        rejected(f"--tasks {tasks} tie.opb {names}", f"{refused}.part: the task searched nothing: 'c refused{why}'")
-        for tasks, names, refused, why in (
-            (3, "refused.part refused.part", "refused", " split: BadSplit"),
-            (1, "refused.part refused.part", "refused", " split: BadSplit"),
-            (2, "refused.part refused_cubes.part", "refused", " split: BadSplit"),
-            (2, "refused.part parts/first.report", "refused", " split: BadSplit"),
-            (2, "parts/first.report refused.part", "refused", " split: BadSplit"),
-            (2, f"refused.part {SOCKET}", "refused", " split: BadSplit"),
-            (1, "refused_torn.part", "refused_torn", " split: BadSplit"),
-            (1, "refused_other.part", "refused_other", " split: bad"),
-            (1, "no_memory.part", "no_memory", ": Memory"),
-            (1, "refused_input.part", "refused_input", ": NonLinear at line 1"),  # the instance has no such fault
+        rejected(f"--tasks {tasks} tie.opb {names}", f"{refused}.part: {what}: 'c refused{why}'")
+        for what, tasks, names, refused, why in (
+            (REFUSED, 3, "refused.part refused.part", "refused", " split: BadSplit"),
+            (REFUSED, 1, "refused.part refused.part", "refused", " split: BadSplit"),
+            (REFUSED, 2, "refused.part refused_cubes.part", "refused", " split: BadSplit"),
+            (REFUSED, 2, "refused.part parts/first.report", "refused", " split: BadSplit"),
+            (REFUSED, 2, "parts/first.report refused.part", "refused", " split: BadSplit"),
+            (REFUSED, 2, f"refused.part {SOCKET}", "refused", " split: BadSplit"),
+            (REFUSED, 2, "refused.part empty.part", "refused", " split: BadSplit"),
+            (NOTHING, 1, "refused_torn.part", "refused_torn", " split: BadSplit"),
+            (NOTHING, 1, "refused_other.part", "refused_other", " split: bad"),
+            (NOTHING, 1, "no_memory.part", "no_memory", ": Memory"),
+            (REFUSED, 1, "refused_input.part", "refused_input", ": NonLinear at line 1"),  # the instance has no such fault
         )
     ),
     rejected("--tasks 2 tie.opb no_pieces.part", "no_pieces.part: the part is of no pieces"),
@@ -762,7 +813,11 @@ JOIN = [
     rejected("--tasks 2 tie.opb claims.part", "claims.part: a part has no such answer"),
     rejected("--tasks 2 tie.opb torn.part", "torn.part: Unfinished at line 7"),
     rejected("--tasks 2 tie.opb others.part", "others.part: OtherTask at line 3"),
-    rejected("--tasks 1 tie.opb out/0.out", "out/0.out: Heading at line 1"),
+    rejected("--tasks 1 tie.opb out/0.out", "out/0.out: it is the report of a piece: leave --tasks out"),
+    rejected("--tasks 3 tie.opb cut", "cut/0.report: it is the report of a piece: leave --tasks out"),
+    rejected("--tasks 2 tie.opb parts/first.report piece-001.out", "piece-001.out: it is the report of a piece: leave --tasks out"),
+    rejected("--tasks 2 tie.opb spaced.part", "spaced.part: Heading at line 1"),
+    rejected("--tasks 2 tie.opb failed-1.out", "failed-1.out: Heading at line 1"),
     rejected(f"--tasks 1 tie.opb {SOCKET}", f"{SOCKET}: cannot be read: {reason(errno.ENXIO)}"),
     rejected("--tasks 1 tie.opb none", f"cannot read none: {MISSING}"),
     rejected("--tasks 1 none.opb", f"cannot read none.opb: {MISSING}"),

@@ -44,6 +44,7 @@ FILES = {
     # a folder with its index
     "cut/0.report": "o 3\ns OPTIMUM FOUND\nv -x1 x2 -x3\n",
     "cut/index": index_of(TIE, "opb", 3, 1),
+    "refused/0.report": "c refused: NonLinear at line 1\ns UNSUPPORTED\n",
     "parts/0.report": part("0 of 1", TIE, "1 split 0 cubes none", " 0") + "o 3\ns SATISFIABLE\nv -x1 x2 -x3\n",
 }
 
@@ -113,7 +114,7 @@ COMMAND_LINES = {
     "pbcube": {"--help": 0, "--split 13 tie.opb": 2},
     "pbcube_pieces": {"--help": 0, "tie.opb": 2, "--out pieces product.opb": 1, "--out pieces --split 4 tie.opb": 1},
     "pbcube_task": {"--help": 0, "--task 1 --tasks 1 tie.opb": 2, "--task 0 --tasks 1 product.opb": 0, "--workers 2 --split 1 --task 0 --tasks 2 tie.opb": 10},
-    "pbcube_join": {"--help": 0, "--pieces 0 tie.opb": 2, "--pieces 1 tie.opb": 0, "--pieces 1 tie.opb tie-0.out": 30, "tie.opb cut": 30, "--tasks 1 tie.opb parts": 30, "--pieces 1 product.opb": 1},
+    "pbcube_join": {"--help": 0, "--pieces 0 tie.opb": 2, "--pieces 1 tie.opb": 0, "--pieces 1 tie.opb tie-0.out": 30, "tie.opb cut": 30, "--tasks 1 tie.opb parts": 30, "tie.opb parts": 1, "--tasks 1 product.opb refused": 0, "--pieces 1 product.opb": 1},
 }
 
 

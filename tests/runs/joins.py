@@ -7,7 +7,7 @@ those of one run.
 It takes the programs that the merge gate built. The instances are the examples and fifty random ones, cut by splits, by cubes
 and by both, and dealt among two of one, two, three and five tasks. Then a report is left out, unknown, given twice, cut short or
 changed, or is one of another instance or another division: a join must say so and claim no more than is so. Where every task refuses
-what is to divide the instance, it must write this refusal.
+the text, or what is to divide the instance, it must write this refusal.
 """
 import random
 import shutil
@@ -102,9 +102,11 @@ def spoiled(name, joined, reports):
     """What is wrong with joins of reports that were lost, doubled or changed."""
     chosen = random.Random(name).choice(reports)
     text = chosen.read_text()
-    said = run(*joined, *(it for it in reports if it != chosen))
-    chosen.write_text("s UNKNOWN\n")
-    for said in (said, run(*joined, *reports)):
+    lost = [run(*joined, *(it for it in reports if it != chosen))]
+    for told in ("", "s UNKNOWN\n"):
+        chosen.write_text(told)
+        lost.append(run(*joined, *reports))
+    for said in lost:
         is_named = said.err.count("\n") == 2 and said.err.endswith(run_again("pieces", [int(chosen.stem)]))
         if "OPTIMUM" in said.out or "UNSATISFIABLE" in said.out or not is_named or said.status not in (0, 10):
             yield f"{name}: without {chosen.name}: {said}"
@@ -153,19 +155,20 @@ def of_tasks(file, kind, words, tasks, whole, folder):
 
 
 def refused_by_all(file, kind, variables, room):
-    """What is wrong with joins where every task refuses what is to divide the instance."""
-    beyond = room / "beyond"
+    """What is wrong with joins where every task refuses the text, or what is to divide the instance."""
+    beyond, faulty = room / "beyond", room / f"faulty{file.suffix}"
     beyond.write_text(f"a {variables + 1} 0\n")
-    too_many = [["--split", 12]] if variables < 12 else []
-    for words in ["--cubes", beyond], *too_many:
-        whole = run("pbcube", file, "--format", kind, *words)
-        folder = room / f"refused{words[0]}"
-        reports = tasks_ran(file, kind, words, 2, folder)
-        joined = ("pbcube_join", file, "--format", kind, "--tasks")
-        if (said := run(*joined, 2, folder)) != Ended(whole.out, ALL_REFUSED, whole.status):
-            yield f"{file.name} {words}: join: {said}"
+    faulty.write_text(f"{file.read_text()}x\n")
+    too_many = [(file, ["--split", 12])] if variables < 12 else []
+    for number, (text, words) in enumerate([(file, ["--cubes", beyond]), (faulty, ["--split", 1]), *too_many]):
+        whole = run("pbcube", text, "--format", kind, *words)
+        folder = room / f"refused{number}"
+        reports = tasks_ran(text, kind, words, 2, folder)
+        joined = ("pbcube_join", text, "--format", kind, "--tasks")
+        if (said := run(*joined, 2, folder)) != Ended(whole.out, ALL_REFUSED, whole.status) or "c refused" not in whole.out:
+            yield f"{text.name} {words}: join: {said}"
         for tasks, operands in ((2, reports[:1]), (3, reports)):
-            refuses(said := run(*joined, tasks, *operands)) or (yield f"{file.name} {words}: {tasks} tasks: {said}")
+            refuses(said := run(*joined, tasks, *operands)) or (yield f"{text.name} {words}: {tasks} tasks: {said}")
 
 
 def lost_task(name, joined, reports, whole):
@@ -173,6 +176,8 @@ def lost_task(name, joined, reports, whole):
     pieces = int(reports[0].read_text().splitlines()[1].split()[2])
     for task, report in enumerate(reports):
         said = run(*joined, *(it for it in reports if it != report))
+        if said != run(*joined, *(it if it != report else "/dev/null" for it in reports)):
+            yield f"{name}: {report.name} is empty"
         if len(reports) > 1 and task >= pieces:
             is_right = said == Ended(whole.out, "", whole.status)
         else:

@@ -18,7 +18,7 @@ from pathlib import Path
 sys.dont_write_bytecode = True
 sys.path.insert(0, str(Path(__file__).resolve().parents[1]))
 from lib import PROGRAMS, SECONDS, TOP, Ended, program, ran, run, side_by_side
-from lib.reports import run_again
+from lib.reports import ALL_REFUSED, run_again
 
 CLUSTER = TOP / "examples/cluster"
 DIVIDERS = ("pbcube_pieces", "pbcube_join")
@@ -78,9 +78,9 @@ class Recipes:
         command = ["timeout", str(SECONDS), CLUSTER / script, *map(str, words)]
         return ran(command, env=told, timeout=2 * SECONDS)
 
-    def joined(self, folder, *words):
+    def joined(self, folder, *words, file=None, kind="opb"):
         """What the job that joins leaves in the folder: its status, the report and the log."""
-        status = self.ran("slurm-join.sh", self.file, "opb", folder, *words).status
+        status = self.ran("slurm-join.sh", file or self.file, kind, folder, *words).status
         return status, (folder / "joined").read_text(), (folder / "joined.log").read_text()
 
 
@@ -176,6 +176,9 @@ class OfTasks(Recipes):
     """Those of tasks that exchange notes."""
 
     SPLIT, TASKS, KILLED = 3, 4, 2
+    # what every task refuses, as one run does: a split that is too great, and a text in another format
+    SMALL = TOP / "examples/tie.opb"
+    REFUSED = [(SMALL, "opb", 8), (SMALL, "cnf", 1)]
 
     def __init__(self, room):
         super().__init__(room, TOP / "examples/hard/knapsack.opb")
@@ -225,15 +228,12 @@ class OfTasks(Recipes):
             yield f"parallel-tasks.sh, all reports are there: {ended}"
 
     def of_other_words(self):
-        """The folder has reports of all tasks. Then a format is wrong, and there are more tasks than pieces."""
+        """The folder has reports of all tasks. Then there are more tasks than pieces."""
         for words in ({"file": self.other}, {"split": self.SPLIT - 1}, {"tasks": self.TASKS + 1}):
             ended = self.parallel(self.room / "parallel", **words)
             if (ended.out, ended.err.count("\n"), ended.status) != ("", 1, 2):
                 yield f"parallel-tasks.sh, {words} in an old folder: {ended}"
-        folder = self.room / "refused"
-        if (ended := self.parallel(folder, kind="cnf")).out or "c refused: BadHeader" not in ended.err or reports_in(folder):
-            yield f"parallel-tasks.sh, another format: {ended} {reports_in(folder)}"
-        yield from self.of_refused_split()
+        yield from self.of_refused_inputs()
         folder = self.room / "one piece"
         ended = self.parallel(folder, split=0)
         if ended.out != self.answer.out or ended.err.count("none of the 1 pieces") != self.TASKS - 1:
@@ -241,14 +241,16 @@ class OfTasks(Recipes):
         if len(reports_in(folder)) != self.TASKS:
             yield f"parallel-tasks.sh, one piece: {reports_in(folder)}"
 
-    def of_refused_split(self):
-        """All tasks refuse a split that is too great, as one run does, and then the folder serves another split."""
-        folder, file = self.room / "great", TOP / "examples/tie.opb"
-        for split in (8, 8, 1):
-            whole = run("pbcube", "--split", split, file)
-            ended = self.parallel(folder, file=file, split=split, tasks=2)
-            if (ended.out, ended.status, "run again" in ended.err) != (whole.out, whole.status, False):
-                yield f"parallel-tasks.sh, split {split} of few variables: {ended} and not {whole}"
+    def of_refused_inputs(self):
+        """Each input twice, and then its folder serves one that is not refused."""
+        accepted = (self.SMALL, "opb", 1)
+        for refused in self.REFUSED:
+            for file, kind, split in (refused, refused, accepted):
+                whole = run("pbcube", "--format", kind, "--split", split, file)
+                ended = self.parallel(self.room / f"refused {refused[1:]}", file, kind, split, 2)
+                told = "" if (file, kind, split) == accepted else ALL_REFUSED
+                if ended != Ended(whole.out, told, whole.status):
+                    yield f"parallel-tasks.sh, {kind}, split {split}: {ended} and not {whole}"
 
     def of_lost_report(self, folder, number, text):
         """What is wrong where the report of one task is not there, or has this text, and the same words are run once more."""
@@ -343,7 +345,7 @@ class OfTasks(Recipes):
     def of_slurm(self):
         folder = self.room / "slurm"
         failing = [(0, "no solver", "opb", "status 127"), (self.KILLED, "a killed task", "opb", "status 137")]
-        failing += [(1, "all", "cnf", "c refused"), (self.TASKS, "all", "opb", "status 2")]
+        failing.append((self.TASKS, "all", "opb", "status 2"))
         for number, path, kind, told in failing:
             if (said := self.slurm(folder, number, path, kind))[0] != 1 or told not in said[1] or reports_in(folder):
                 yield f"slurm-tasks.sh, {path}, {kind}, task {number}: {said} {reports_in(folder)}"
@@ -356,6 +358,7 @@ class OfTasks(Recipes):
             yield f"slurm-tasks.sh, nothing is found: {unknown}"
         if (said := self.joined(folder, self.TASKS))[0] or "OPTIMUM" in said[1] or said[2] != run_again("tasks", [self.KILLED]):
             yield f"slurm-join.sh, a task is missing: {said}"
+        yield from self.of_refused_in_slurm()
         yield from self.of_tasks_again(folder)
         yield from self.of_two_tasks_at_once(folder)
         old = times_of(folder)
@@ -364,6 +367,16 @@ class OfTasks(Recipes):
                 yield f"slurm-tasks.sh, {words} in an old folder: {said}"
         if times_of(folder) != old:
             yield "slurm-tasks.sh, in an old folder: tasks were run again"
+
+    def of_refused_in_slurm(self):
+        for file, kind, split in self.REFUSED:
+            folder = self.room / f"refused {kind}"
+            whole = run("pbcube", "--format", kind, "--split", split, file)
+            for number in (0, 1, 0):
+                if (said := self.slurm(folder, number, kind=kind, file=file, split=split, tasks=2)) != (0, ""):
+                    yield f"slurm-tasks.sh, {kind}, split {split}, task {number}: {said}"
+            if (said := self.joined(folder, 2, file=file, kind=kind)) != (1, whole.out, ALL_REFUSED):
+                yield f"slurm-join.sh, {kind}, split {split}: {said} and not {whole}"
 
     def of_tasks_again(self, folder):
         """In the report of one task a piece was cut. All others are whole."""

@@ -6,11 +6,12 @@ use Rattle.pb_inst.specs.Problem.{Problem}
 use Rattle.pb_inst.specs.declared.limits.TheConstants.{MAX_CUBES, MAX_SPLIT}
 use Rattle.pb_cubes.specs.Split.{IsSplit}
 use Rattle.pb_read.specs.Cubes.{CubeText, cube_refusal}
-use Rattle.pb_read.specs.Format.{Spells, text_refusal}
+use Rattle.pb_read.specs.Format.{Spells}
 use Rattle.pb_read.specs.declared.fault.ReadFault.{ReadFault}
 use Rattle.pb_read.specs.declared.format.Format.{Format}
 use Rattle.pb_report.specs.declared.ends.Refusal.{Refusal}
 use Rattle.pb_report.specs.declared.ends.Refusal.TheVariants.{Input, Cubes, Split, TooManyCubes}
+use Rattle.pb_files.specs.Reading.{ReadsFaulty}
 use Rattle.pb_files.specs.Texts.{Text}
 use Rattle.pb_files.specs.declared.dividing_fault.DivisionFault.{DivisionFault}
 use Rattle.pb_files.specs.declared.dividing_fault.DivisionFault.TheVariants.{CannotRead, Refused, Memory}
@@ -62,7 +63,7 @@ AreTooManyToSplit variables p = (MAX_SPLIT < variables) ⊎ (p.vars < variables)
 -- instance's has none; or the split over `variables` variables, where the cubes' has none; or, where the split can be made, the
 -- number of all cubes.
 abbrev pub ReadsRefused : {F : Type 0} → (F → Text → List ℕ → F → Type 0) → Format → Text → Option Text → ℕ → F → F → Refusal → Type 0
-ReadsRefused reads format file cubes_name variables old new (Input fault) = (text : List ℕ) × reads old file text new × (text_refusal format text ≡ Some fault)
+ReadsRefused reads format file cubes_name variables old new (Input fault) = ReadsFaulty reads format file fault old new
 ReadsRefused {F} reads format file cubes_name variables old new (Cubes fault) =
     (text : List ℕ) × (p : Problem) × (own : List (List Literal)) × (between : F)
     × reads old file text between × Spells format text p own × ReadsFaultyCubes reads cubes_name p.vars fault between new

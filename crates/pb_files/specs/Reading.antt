@@ -1,5 +1,5 @@
 -- What is read, and from which files.
-use Rattle.std.specs.Prelude.{◌≡◌, ◌≢◌, ℕ, ◌-◌, List, [], ◌∷◌, ◌++◌, length, drop, filter, codes, nat_eq, Bool, Option, None, Some, IfSome, IsNone, IsPermutation, IsSomeAnd, Ok}
+use Rattle.std.specs.Prelude.{◌≡◌, ◌≢◌, ⊤, ℕ, ◌-◌, List, [], ◌∷◌, ◌++◌, length, drop, filter, codes, nat_eq, option_to_list, Bool, Option, None, Some, IfSome, IsNone, IsPermutation, IsSomeAnd, Ok}
 use Rattle.std.specs.Char.{is_ascii_digit}
 use Rattle.std.specs.List.{ends_with, suffix_len}
 use Rattle.std.specs.Path.{path_file_stem}
@@ -9,9 +9,12 @@ use Rattle.hex.specs.Hex.{encode_lower}
 use Rattle.sha2.specs.Sha256.{sha256}
 use Rattle.pb_files.specs.Texts.{Text}
 use Rattle.pb_files.specs.Writing.{index_lines}
+use Rattle.pb_files.specs.declared.reports_fault.ReportsFault.{ReportsFault}
+use Rattle.pb_files.specs.declared.reports_fault.ReportsFault.TheVariants.{Refused}
 use Rattle.pb_inst.specs.Literal.{Literal}
 use Rattle.pb_inst.specs.Problem.{Problem}
-use Rattle.pb_read.specs.Format.{Spells}
+use Rattle.pb_read.specs.Format.{Spells, text_refusal}
+use Rattle.pb_read.specs.declared.fault.ReadFault.{ReadFault}
 use Rattle.pb_read.specs.declared.format.Format.{Format}
 use Rattle.pb_report.specs.Report.{Claims}
 use Rattle.pb_parts.specs.Parts.{IsPartReport}
@@ -31,13 +34,18 @@ pub record IsReportOf (format : Format) (vars : ℕ) (name text : Text) (report 
   pub number : IsNumberOf name report.number
   pub claim : Claims format vars text report.claim
 
--- the files of these names are read one after the other, and each of them has the report at its place, which a file of this name
--- and this text has
+-- the text has this report, or is empty and has none
+abbrev pub HasIfAny : {R : Type 0} → (Text → R → Type 0) → Text → Option R → Type 0
+HasIfAny Has text None = text ≡ []
+HasIfAny Has text (Some report) = (text ≢ []) × Has text report
+
+-- The files of these names are read one after the other, and these are their reports. An empty file has no report, and each other
+-- one has one, which a file of this name and this text has.
 abbrev pub ReadsEach : {F : Type 0} {R : Type 0} → (F → Text → List ℕ → F → Type 0) → (Text → Text → R → Type 0) → List Text → List R → F → F → Type 0
-ReadsEach reads Has [] [] old new = new ≡ old
-ReadsEach {F} reads Has (name ∷ names) (report ∷ reports) old new =
-    (text : List ℕ) × (between : F) × reads old name text between × Has name text report × ReadsEach reads Has names reports between new
-ReadsEach reads Has _ _ old new = ⊥
+ReadsEach reads Has [] reports old new = (reports ≡ []) × (new ≡ old)
+ReadsEach {F} {R} reads Has (name ∷ names) reports old new =
+    (text : List ℕ) × (found : Option R) × (rest : List R) × (between : F) × reads old name text between
+    × HasIfAny (Has name) text found × (reports ≡ option_to_list found ++ rest) × ReadsEach reads Has names rest between new
 
 -- the reports of pieces are those of these files
 abbrev pub ReadsReports : {F : Type 0} → (F → Text → List ℕ → F → Type 0) → Format → ℕ → List Text → List PieceReport → F → F → Type 0
@@ -45,7 +53,7 @@ ReadsReports reads format vars = ReadsEach reads (IsReportOf format vars)
 
 -- the reports of parts are those of these files, whatever the names are
 abbrev pub ReadsParts : {F : Type 0} → (F → Text → List ℕ → F → Type 0) → Format → ℕ → List Text → List PartReport → F → F → Type 0
-ReadsParts reads format vars = ReadsEach reads (λ name text part. IsPartReport format vars text part)
+ReadsParts reads format vars = ReadsEach reads (λ name. IsPartReport format vars)
 
 abbrev pub is_report_name : Text → Bool
 is_report_name name = ends_with nat_eq name (codes ".report")
@@ -75,6 +83,15 @@ pub record ReadsInstance {F : Type 0} (reads : F → Text → List ℕ → F →
   pub cubes : List (List Literal)
   pub spelled : Spells format text p cubes
   pub digest_is : digest ≡ sha256 text
+
+-- the file of this name is read, and its text has this fault, and so spells no instance
+abbrev pub ReadsFaulty : {F : Type 0} → (F → Text → List ℕ → F → Type 0) → Format → Text → ReadFault → F → F → Type 0
+ReadsFaulty reads format name fault old new = (text : List ℕ) × reads old name text new × (text_refusal format text ≡ Some fault)
+
+-- where the text of the instance has a fault, this holds of it
+abbrev pub IfFaulty : ReportsFault → (ReadFault → Type 0) → Type 0
+IfFaulty (Refused name fault hint) Holds = Holds fault
+IfFaulty _ Holds = ⊤
 
 -- the files of these names are read one after the other, and each of them has this text
 abbrev pub ReadsSame : {F : Type 0} → (F → Text → List ℕ → F → Type 0) → Text → List Text → F → F → Type 0

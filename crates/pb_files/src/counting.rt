@@ -7,7 +7,7 @@ ghost use Rattle.pb_files.specs.Writing.{index_lines};
 
 use crate::files::Files;
 use crate::index::index_of;
-use crate::lines::{line_at, tells_other_digest};
+use crate::lines::{line_at, tasks_told, tells_other_digest};
 use crate::reports::{Unread, fault_at, read_file};
 use crate::reports_fault::{IndexFault, Refusal, ReportsFault};
 use crate::whole::Whole;
@@ -16,13 +16,14 @@ use pb_read::Format;
 use std::alloc::Global;
 
 /// The number of the instance's pieces: the one that is asked for, if any, and that of these indexes, each of which has to be the
-/// index of the instance. Where neither gives a number, the fault is `NoNumber`.
+/// index of the instance. Where neither gives a number, the fault is `NoNumber`, or that one of these reports is of a task.
 pub fn count_pieces<'a, F: Files>(
     alloc: Global,
     format: Format,
     whole: &Whole,
     asked: Option<u32>,
     indexes: Vec<String>,
+    reports: &[String],
     files: &mut F,
 ) -> Result<u32, ReportsFault<'a>>
     requires { IfSome asked (λ n. 1 ≤ n) }
@@ -38,8 +39,30 @@ pub fn count_pieces<'a, F: Files>(
     }
     match pieces {
         Some(pieces) => Ok(pieces),
-        None => Err(ReportsFault::NoNumber),
+        None => Err(without_number(&whole.digest, reports, files)),
     }
+}
+
+/// Why there is no number of pieces: the first of these reports that is of a task, or else that nothing tells the number.
+fn without_number<'a, F: Files>(
+    digest: &[u8; 32],
+    reports: &[String],
+    files: &mut F,
+) -> ReportsFault<'a> {
+    for name in reports {
+        let text = match read_file(name, files) {
+            Ok(text) => text,
+            Err(Unread::Memory) => return ReportsFault::Memory,
+            Err(Unread::Refused(_)) => continue,
+        };
+        if let Some(tasks) = tasks_told(&text, digest) {
+            return match name.clone() {
+                Ok(name) => ReportsFault::Report(name, Refusal::OfTask(tasks)),
+                Err(_) => ReportsFault::Memory,
+            };
+        }
+    }
+    ReportsFault::NoNumber
 }
 
 /// The number of pieces that the index of this name tells. It has to be the one that is known, if any.

@@ -29,7 +29,7 @@ pub use dividing_fault::DivisionFault;
 pub use files::Files;
 pub use folders::Folders;
 pub use listing::{Named, named_files};
-pub use parts::{PartReports, TaskReports, read_tasks};
+pub use parts::{PartReports, TaskReports, all_refuse_text, read_tasks};
 pub use pieces::write_pieces;
 pub use pieces_fault::PiecesFault;
 pub use prepared::Prepared;

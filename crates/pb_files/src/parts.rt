@@ -1,23 +1,23 @@
 //! Reading the reports of tasks from their files.
 ghost use Rattle.std.specs.Prelude.{◌≡◌, ◌<◌, ℕ, List, drop, length, map, string_bytes, IfOk, IsTrue};
 ghost use Rattle.pb_files.specs.Reading.{ReadsSame};
-ghost use Rattle.pb_files.specs.Tasks.{AreFitTasks, IsReportOfTask, ReadsTasks};
+ghost use Rattle.pb_files.specs.Tasks.{AreFitTasks, IsOfDivision, IsReportOfTask, ReadsTasks};
 ghost use Rattle.pb_files.specs.Texts.{texts};
 ghost use Rattle.pb_report.specs.Written.{refusal_report};
 
 use crate::files::Files;
-use crate::lines::{line_at, tells_other_digest};
+use crate::lines::{has_line_of_heading, line_at, tells_other_digest};
 use crate::quote::Quote;
 use crate::refusals::{read_refusal, refusal_text};
-use crate::reports::{Unread, fault_at, read_file};
+use crate::reports::{Unread, fault_at, keep, read_file, tells_status};
 use crate::reports_fault::{Refusal, ReportsFault};
 use pb_join::PartRejection;
 use pb_parts::{PartFault, PartKind, PartReport, read_part};
-use pb_read::Format;
+use pb_read::{Format, ReadFault};
 use pb_report::Refusal as InputRefusal;
 use std::alloc::Global;
 
-/// Reports of parts, and the names of their files, in the same order.
+/// Reports of parts, and the names of the files that have them, in the same order.
 #[derive(Drop)]
 pub struct PartReports {
     pub names: Vec<String>,
@@ -29,20 +29,21 @@ pub struct PartReports {
 pub enum TaskReports {
     /// Reports of parts, of some tasks or all.
     Parts(PartReports),
-    /// A report of each task, and all of them refuse this.
+    /// A report of each task, and all of them refuse this, which is to divide the instance.
     Refused(InputRefusal),
 }
 
 /// What the report of one task is.
 #[derive(Drop)]
 pub enum TaskReport {
-    /// The report of a part.
-    Part(PartReport),
+    /// The report of a part, or none where the file is empty.
+    Part(Option<PartReport>),
     /// A refusal of this, and its first line.
     Refused(InputRefusal, Quote),
 }
 
-/// The reports of `tasks` tasks from the files of these names, of an instance of `vars` variables with this digest.
+/// The reports of `tasks` tasks from the files of these names, of an instance of `vars` variables with this digest. An empty file
+/// has none.
 pub fn read_tasks<'a, F: Files>(
     alloc: Global,
     format: Format,
@@ -55,10 +56,11 @@ pub fn read_tasks<'a, F: Files>(
     ensures fit { IfOk result AreFitTasks }
     ensures read { IfOk result (λ read. ReadsTasks F.reads format vars tasks (texts names) read files.old files.new) }
 {
+    let mut with_part = Vec::new(alloc);
     let mut parts = Vec::new(alloc);
     for place in 0..names.len() {
         match read_one(alloc, format, vars, digest, &names[place], files) {
-            Ok(TaskReport::Part(part)) => parts.push(part)?,
+            Ok(TaskReport::Part(part)) => keep(&names[place], part, &mut with_part, &mut parts)?,
             Ok(TaskReport::Refused(refusal, quote)) => {
                 if place == 0 && others_refuse(alloc, refusal, tasks, &names, files)? {
                     return Ok(TaskReports::Refused(refusal));
@@ -69,11 +71,14 @@ pub fn read_tasks<'a, F: Files>(
             Err(why) => return Err(fault_at(names, place, why)),
         }
     }
-    Ok(TaskReports::Parts(PartReports { names, parts }))
+    Ok(TaskReports::Parts(PartReports {
+        names: with_part,
+        parts,
+    }))
 }
 
-/// Whether there are as many names as tasks, and the files of all but the first refuse this. The instance itself is not refused, as
-/// it was read. Fails only where memory runs out.
+/// Whether there are as many names as tasks, and the files of all but the first refuse this. It has to be a refusal to divide the
+/// instance, since the instance was read. Fails only where memory runs out.
 fn others_refuse<'a, F: Files>(
     alloc: Global,
     refusal: InputRefusal,
@@ -82,6 +87,7 @@ fn others_refuse<'a, F: Files>(
     files: &mut F,
 ) -> Result<bool, ReportsFault<'a>>
     requires { 0 < length names.now }
+    ensures of_division { IfOk result (λ all. IsTrue all → IsOfDivision refusal) }
     ensures counted { IfOk result (λ all. IsTrue all → length names.now ≡ tasks) }
     ensures read { IfOk result (λ all. IsTrue all → ReadsSame F.reads (refusal_report refusal) (map string_bytes (drop 1 names.now)) files.old files.new) }
 {
@@ -89,23 +95,39 @@ fn others_refuse<'a, F: Files>(
     if is_of_instance || names.len() != tasks as usize {
         return Ok(false);
     }
-    match all_refuse(alloc, refusal, &names[1..], files) {
-        Ok(all) => Ok(all),
-        Err(Unread::Memory) => Err(ReportsFault::Memory),
-        Err(Unread::Refused(_)) => Ok(false),
-    }
+    all_refuse(alloc, refusal, &names[1..], files)
 }
 
-/// Whether the files of these names are reports that refuse this.
-fn all_refuse<F: Files>(
+/// Whether there are as many names as tasks, and the files of all these names refuse the text of the instance for this fault. Fails
+/// only where memory runs out.
+pub fn all_refuse_text<'a, F: Files>(
+    alloc: Global,
+    fault: ReadFault,
+    tasks: u32,
+    names: &[String],
+    files: &mut F,
+) -> Result<bool, ReportsFault<'a>>
+    ensures counted { IfOk result (λ all. IsTrue all → length names.now ≡ tasks) }
+    ensures read { IfOk result (λ all. IsTrue all → ReadsSame F.reads (refusal_report (InputRefusal.Input fault)) (map string_bytes names.now) files.old files.new) }
+{
+    if names.len() != tasks as usize {
+        return Ok(false);
+    }
+    all_refuse(alloc, InputRefusal::Input(fault), names, files)
+}
+
+/// Whether the files of these names are reports that refuse this. Fails only where memory runs out.
+fn all_refuse<'a, F: Files>(
     alloc: Global,
     refusal: InputRefusal,
     names: &[String],
     files: &mut F,
-) -> Result<bool, Unread>
+) -> Result<bool, ReportsFault<'a>>
     ensures { IfOk result (λ all. IsTrue all → ReadsSame F.reads (refusal_report refusal) (map string_bytes names.now) files.old files.new) }
 {
-    let report = refusal_text(alloc, refusal)?;
+    let Ok(report) = refusal_text(alloc, refusal) else {
+        return Err(ReportsFault::Memory);
+    };
     for name in names {
         let is_same = has_text(name, report.as_slice(), files)?;
         if !is_same {
@@ -115,12 +137,15 @@ fn all_refuse<F: Files>(
     Ok(true)
 }
 
-/// Whether the file of this name has this text.
-fn has_text<F: Files>(name: &str, text: &[u8], files: &mut F) -> Result<bool, Unread>
+/// Whether the file of this name can be read and has this text. Fails only where memory runs out.
+fn has_text<'a, F: Files>(name: &str, text: &[u8], files: &mut F) -> Result<bool, ReportsFault<'a>>
     ensures { IfOk result (λ same. IsTrue same → F.reads files.old name.now text.now files.new) }
 {
-    let found = read_file(name, files)?;
-    Ok(*found.as_slice() == *text)
+    match read_file(name, files) {
+        Ok(found) => Ok(*found.as_slice() == *text),
+        Err(Unread::Memory) => Err(ReportsFault::Memory),
+        Err(Unread::Refused(_)) => Ok(false),
+    }
 }
 
 /// The report of a task from the file of this name.
@@ -135,11 +160,14 @@ fn read_one<F: Files>(
     ensures { IfOk result (λ report. (text : List ℕ) × F.reads files.old name.now text files.new × IsReportOfTask format vars text report) }
 {
     let text = read_file(name, files)?;
+    if text.is_empty() {
+        return Ok(TaskReport::Part(None));
+    }
     if let Some(refusal) = read_refusal(alloc, &text)? {
         return Ok(TaskReport::Refused(refusal, Quote::of_first_line(&text)));
     }
     match read_part(alloc, format, vars, &text) {
-        Ok(part) => Ok(TaskReport::Part(part)),
+        Ok(part) => Ok(TaskReport::Part(Some(part))),
         Err(fault) if fault.kind == PartKind::Memory => Err(Unread::Memory),
         Err(fault) => Err(Unread::Refused(refusal_of(fault, &text, digest))),
     }
@@ -150,7 +178,9 @@ fn refusal_of(fault: PartFault, text: &[u8], digest: &[u8; 32]) -> Refusal {
     if tells_other_digest(line_at(text, 0), b"c part ", digest) {
         Refusal::RejectedPart(PartRejection::OtherInstance)
     } else if text.starts_with(b"c refused") {
-        Refusal::RefusedTask(Quote::of_first_line(text))
+        Refusal::SearchedNothing(Quote::of_first_line(text))
+    } else if tells_status(text) && !has_line_of_heading(text) {
+        Refusal::OfPiece
     } else {
         Refusal::FaultyPart(fault)
     }

@@ -1,10 +1,11 @@
 //! Reading the instance and the reports from their files.
-ghost use Rattle.std.specs.Prelude.{◌≡◌, ◌<◌, ℕ, List, length, IfOk};
-ghost use Rattle.pb_files.specs.Reading.{IsReportOf, ReadsInstance, ReadsReports};
+ghost use Rattle.std.specs.Prelude.{◌≡◌, ◌<◌, ◌++◌, ℕ, List, length, option_to_list, IfErr, IfOk, OnOk};
+ghost use Rattle.pb_files.specs.Reading.{HasIfAny, IfFaulty, IsReportOf, ReadsFaulty, ReadsInstance, ReadsReports};
 ghost use Rattle.pb_files.specs.Texts.{texts};
 
 use crate::files::Files;
 use crate::hints::hint_on_instance;
+use crate::lines::tasks_told;
 use crate::listing::piece_number;
 use crate::quote::Quote;
 use crate::reports_fault::{Refusal, ReportsFault};
@@ -16,7 +17,7 @@ use sha2::{Digest, Sha256};
 use std::alloc::Global;
 use std::io::{self, ErrorKind};
 
-/// Reports, and the names of their files, in the same order.
+/// Reports, and the names of the files that have them, in the same order.
 #[derive(Drop)]
 pub struct Reports {
     pub names: Vec<String>,
@@ -30,7 +31,8 @@ pub fn read_instance<'a, F: Files>(
     file: &'a str,
     files: &mut F,
 ) -> Result<Whole, ReportsFault<'a>>
-    ensures { IfOk result (λ whole. ReadsInstance F.reads format file.now whole.instance whole.digest files.old files.new) }
+    ensures read { IfOk result (λ whole. ReadsInstance F.reads format file.now whole.instance whole.digest files.old files.new) }
+    ensures faulty { IfErr result (λ fault. IfFaulty fault (λ why. ReadsFaulty F.reads format file.now why files.old files.new)) }
 {
     let text = match files.read(file) {
         Ok(text) => text,
@@ -53,7 +55,9 @@ pub fn read_instance<'a, F: Files>(
 }
 
 /// Why the file or folder of this name was not read.
-pub fn unreadable<'a>(name: &'a str, error: &io::Error) -> ReportsFault<'a> {
+pub fn unreadable<'a>(name: &'a str, error: &io::Error) -> ReportsFault<'a>
+    ensures { IfFaulty result (λ why. ⊥) }
+{
     if error.kind() == ErrorKind::OutOfMemory {
         ReportsFault::Memory
     } else {
@@ -61,25 +65,47 @@ pub fn unreadable<'a>(name: &'a str, error: &io::Error) -> ReportsFault<'a> {
     }
 }
 
-/// The reports from the files of these names, of an instance of `vars` variables.
+/// The reports from the files of these names, of an instance of `vars` variables with this digest. An empty file has none.
 pub fn read_reports<'a, F: Files>(
     alloc: Global,
     format: Format,
     vars: u32,
+    digest: &[u8; 32],
     names: Vec<String>,
     files: &mut F,
 ) -> Result<Reports, ReportsFault<'a>>
     ensures counted { IfOk result (λ read. length read.names.items ≡ length read.reports.items) }
     ensures read { IfOk result (λ read. ReadsReports F.reads format vars (texts names) read.reports.items files.old files.new) }
 {
+    let mut with_report = Vec::new(alloc);
     let mut reports = Vec::new(alloc);
     for place in 0..names.len() {
-        match read_one(alloc, format, vars, &names[place], files) {
-            Ok(report) => reports.push(report)?,
+        match read_one(alloc, format, vars, digest, &names[place], files) {
+            Ok(report) => keep(&names[place], report, &mut with_report, &mut reports)?,
             Err(why) => return Err(fault_at(names, place, why)),
         }
     }
-    Ok(Reports { names, reports })
+    Ok(Reports {
+        names: with_report,
+        reports,
+    })
+}
+
+/// Takes in one more report, if there is one, and the name of the file that has it.
+pub fn keep<'a, R: Drop>(
+    name: &String,
+    report: Option<R>,
+    names: &mut Vec<String>,
+    reports: &mut Vec<R>,
+) -> Result<(), ReportsFault<'a>>
+    ensures counted { length names.old.items ≡ length reports.old.items → OnOk result (length names.new.items ≡ length reports.new.items) }
+    ensures reports { OnOk result (reports.new.items ≡ reports.old.items ++ option_to_list report) }
+{
+    if let Some(report) = report {
+        names.push(name.clone()?)?;
+        reports.push(report)?;
+    }
+    Ok(())
 }
 
 /// Why the file of the name at this place was not taken.
@@ -93,27 +119,35 @@ pub fn fault_at<'a>(mut names: Vec<String>, place: usize, why: Unread) -> Report
 }
 
 /// Why one file was not taken.
+#[derive(Drop)]
 pub enum Unread {
     Memory,
     Refused(Refusal),
 }
 
-/// The report from the file of this name.
+/// The report from the file of this name, or none where the file is empty.
 fn read_one<F: Files>(
     alloc: Global,
     format: Format,
     vars: u32,
+    digest: &[u8; 32],
     name: &str,
     files: &mut F,
-) -> Result<PieceReport, Unread>
-    ensures { IfOk result (λ report. (text : List ℕ) × F.reads files.old name.now text files.new × IsReportOf format vars name.now text report) }
+) -> Result<Option<PieceReport>, Unread>
+    ensures { IfOk result (λ report. (text : List ℕ) × F.reads files.old name.now text files.new × HasIfAny (IsReportOf format vars name.now) text report) }
 {
     let Some(number) = piece_number(name) else {
         return Err(Unread::Refused(Refusal::NoNumber));
     };
     let text = read_file(name, files)?;
+    if text.is_empty() {
+        return Ok(None);
+    }
+    if let Some(tasks) = tasks_told(&text, digest) {
+        return Err(Unread::Refused(Refusal::OfTask(tasks)));
+    }
     match read_report(alloc, format, vars, &text) {
-        Ok(claim) => Ok(PieceReport { number, claim }),
+        Ok(claim) => Ok(Some(PieceReport { number, claim })),
         Err(fault) if fault.kind == ReportKind::Memory => Err(Unread::Memory),
         Err(fault) => Err(Unread::Refused(refusal_of(fault, &text))),
     }
@@ -130,7 +164,7 @@ fn refusal_of(fault: ReportFault, text: &[u8]) -> Refusal {
 }
 
 /// Whether a line of the text begins as one of a status does.
-fn tells_status(text: &[u8]) -> bool {
+pub fn tells_status(text: &[u8]) -> bool {
     text.split(|byte| *byte == b'\n')
         .any(|line| line.starts_with(b"s "))
 }

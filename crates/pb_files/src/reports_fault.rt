@@ -46,9 +46,18 @@ pub enum Refusal {
     /// Its lines are no report of a part.
     #[error("{0}")]
     FaultyPart(PartFault),
+    /// The run of its task refused its input, with this line.
+    #[error("its run refused its input: {0}")]
+    RefusedTask(Quote),
     /// Its task searched nothing, and tells this instead.
     #[error("the task searched nothing: {0}")]
-    RefusedTask(Quote),
+    SearchedNothing(Quote),
+    /// It is the report of one of this number of tasks, and those of pieces are asked for.
+    #[error("it is the report of a task: give --tasks {0}")]
+    OfTask(u32),
+    /// It is the report of a piece, and those of tasks are asked for.
+    #[error("it is the report of a piece: leave --tasks out")]
+    OfPiece,
     /// No part can have its report.
     #[error("{0}")]
     RejectedPart(PartRejection),

@@ -1,7 +1,9 @@
 -- What the program writes.
-use Rattle.std.specs.Prelude.{◌≡◌, ◌↔◌, ℕ, List, Option, None, Some, IsTrue, true}
+use Rattle.std.specs.Prelude.{◌≡◌, ◌↔◌, ◌⊎◌, ℕ, List, Option, None, Some, IsTrue, true}
 use Rattle.pb_inst.specs.Literal.{Literal}
 use Rattle.pb_inst.specs.Problem.{Problem}
+use Rattle.pb_files.specs.Reading.{ReadsFaulty}
+use Rattle.pb_read.specs.declared.fault.ReadFault.{ReadFault}
 use Rattle.pb_read.specs.declared.format.Format.{Format}
 use Rattle.pb_report.specs.Outcome.{Answers}
 use Rattle.pb_join.specs.declared.joining.Joined.{Joined}
@@ -14,6 +16,7 @@ use Rattle.clap.specs.Words.{Text, matches_of}
 use Rattle.pb_parts.specs.declared.parts.PartReport.{PartReport}
 use Rattle.pb_report.specs.Statuses.{exit_status}
 use Rattle.pb_report.specs.Written.{refusal_report}
+use Rattle.pb_report.specs.declared.ends.Refusal.TheVariants.{Input}
 use Rattle.pb_report.specs.declared.statuses.Status.{Status}
 use Rattle.pb_report.specs.declared.statuses.Status.TheVariants.{Unsupported}
 use Rattle.pb_files.specs.declared.parts.TaskReports.{TaskReports}
@@ -21,7 +24,7 @@ use Rattle.pb_files.specs.declared.parts.TaskReports.TheVariants as read
 use Rattle.std.specs.Io.KnownBytes.{Appends}
 use Rattle.pb_line.specs.declared.joining.args.Line.{Line}
 use Rattle.pb_line.specs.Joining.{IsLineOf, pbcube_join}
-use Rattle.pbcube_join.specs.Reading.{ReadsFor, ReadsTasksFor}
+use Rattle.pbcube_join.specs.Reading.{ReadsFor, ReadsRefusals, ReadsTasksFor}
 use Rattle.pbcube_join.specs.declared.parts.TasksEnd.{TasksEnd}
 use Rattle.pbcube_join.specs.declared.parts.TasksEnd.TheVariants as end
 
@@ -75,11 +78,26 @@ pub record JoinsTasks {F : Type 0} (reads : F → Text → List ℕ → F → Ty
   pub from_files : ReadsTasksFor reads lists line problem digest tasks read before after
   pub tells : TellsOfTasks line.format problem digest tasks read old new end
 
+-- The text of the line's file is read, which has this fault, and then the reports of tasks, which all refuse it. All that was written
+-- is this refusal, as a run on that text writes it.
+pub record RefusesText {F : Type 0} (reads : F → Text → List ℕ → F → Type 0) (lists : F → Text → Option (List Text) → F → Type 0) (line : Line) (tasks : ℕ) (before after : F) (old new : Option (List ℕ)) (end : TasksEnd) : Type 0 where
+  pub fault : ReadFault
+  pub after_instance : F
+  pub faulty : ReadsFaulty reads line.format line.file.now fault before after_instance
+  pub refusals : ReadsRefusals reads lists line tasks fault after_instance after
+  pub ends : end ≡ end.Refused (Input fault)
+  pub writes : Appends old new (refusal_report (Input fault))
+
+-- the instance and the reports of tasks are read and joined, or all tasks refused the text of the instance
+abbrev pub JoinsOrRefuses : {F : Type 0} → (F → Text → List ℕ → F → Type 0) → (F → Text → Option (List Text) → F → Type 0) → Line → ℕ → F → F → Option (List ℕ) → Option (List ℕ) → TasksEnd → Type 0
+JoinsOrRefuses reads lists line tasks before after old new end =
+    JoinsTasks reads lists line tasks before after old new end ⊎ RefusesText reads lists line tasks before after old new end
+
 -- the reports of `tasks` tasks are joined where that number is told, and else the reports of pieces, and the report has this
 -- status
 abbrev pub JoinsLine : {F : Type 0} → (F → Text → List ℕ → F → Type 0) → (F → Text → Option (List Text) → F → Type 0) → Line → Option ℕ → F → F → Option (List ℕ) → Option (List ℕ) → Status → Type 0
 JoinsLine reads lists line None before after old new status = (joined : Joined) × JoinsFiles reads lists line before after old new joined × (status ≡ joined.status)
-JoinsLine reads lists line (Some tasks) before after old new status = (end : TasksEnd) × JoinsTasks reads lists line tasks before after old new end × (status ≡ status_of end)
+JoinsLine reads lists line (Some tasks) before after old new status = (end : TasksEnd) × JoinsOrRefuses reads lists line tasks before after old new end × (status ≡ status_of end)
 
 -- the files of a line that has the values of the words' matches are joined, and the status is that of the report
 pub record JoinsAsAsked {F : Type 0} (reads : F → Text → List ℕ → F → Type 0) (lists : F → Text → Option (List Text) → F → Type 0) (words : List Text) (before after : F) (old new : Option (List ℕ)) (status : ℕ) : Type 0 where

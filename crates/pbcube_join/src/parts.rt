@@ -1,19 +1,23 @@
 //! Joining the reports of tasks.
-ghost use Rattle.std.specs.Prelude.{◌≡◌, ◌≢◌, ◌<◌, ◌⊎◌, ℕ, length, false, true, All, IfOk, IfErr};
+ghost use Rattle.std.specs.Prelude.{◌≡◌, ◌≢◌, ◌<◌, ◌⊎◌, ℕ, length, false, true, All, IfOk, IfErr, IsTrue};
+ghost use Rattle.pb_files.specs.Reading.{ReadsInstance};
 ghost use Rattle.pb_files.specs.Tasks.{AreFitTasks};
 ghost use Rattle.pb_join.specs.declared.parts.faults.PartRejection.{PartRejection as Why};
 ghost use Rattle.pb_parts.specs.Parts.{IsFit};
-ghost use Rattle.pbcube_join.specs.Joining.{JoinsTasks, TellsOfParts, TellsOfTasks, status_of};
+ghost use Rattle.pb_report.specs.Written.{refusal_report};
+ghost use Rattle.pbcube_join.specs.Joining.{JoinsOrRefuses, JoinsTasks, TellsOfParts, TellsOfTasks, status_of};
+ghost use Rattle.pbcube_join.specs.Reading.{ReadsRefusals};
+ghost use Rattle.std.specs.Io.KnownBytes.{Appends};
 
 use crate::again::name_open;
 use pb_files::{
-    Files, PartReports, Refusal, ReportsFault, TaskReports, Whole, named_files, read_instance,
-    read_tasks,
+    Files, PartReports, Refusal, ReportsFault, TaskReports, Whole, all_refuse_text, named_files,
+    read_instance, read_tasks,
 };
 use pb_join::{JoinedParts, PartsFault, join_parts};
 use pb_line::joining::Line;
 use pb_parts::PartReport;
-use pb_read::Format;
+use pb_read::{Format, ReadFault};
 use pb_report::{Device, Refusal as InputRefusal, Status, report_refusal};
 use std::alloc::Global;
 use std::io::Write;
@@ -58,16 +62,61 @@ pub(crate) fn join_tasks<'a, F: Files, W: Write>(
     out: &mut Device<W>,
 ) -> Result<TasksEnd, ReportsFault<'a>>
     requires out { out.old.failed ≡ false }
-    ensures joins { IfOk result (λ end. JoinsTasks F.reads F.lists line.now tasks files.old files.new (W.contents out.old.held) (W.contents out.new.held) end) }
+    ensures joins { IfOk result (JoinsOrRefuses F.reads F.lists line.now tasks files.old files.new (W.contents out.old.held) (W.contents out.new.held)) }
     ensures unwritten { IfErr result (λ fault. fault ≢ ReportsFault.CannotWrite → out.new ≡ out.old) }
     ensures kept { IfErr result (λ fault. (out.new ≡ out.old) ⊎ (out.new.failed ≡ true)) }
 {
-    let whole = read_instance(alloc, line.format, line.file, files)?;
+    match read_instance(alloc, line.format, line.file, files) {
+        Ok(whole) => join_read(alloc, line, tasks, &whole, files, out),
+        Err(ReportsFault::Refused(file, fault, hint)) => {
+            if all_tasks_refuse(alloc, line, tasks, fault, files)? {
+                write_refusal(InputRefusal::Input(fault), out)
+            } else {
+                Err(ReportsFault::Refused(file, fault, hint))
+            }
+        }
+        Err(fault) => Err(fault),
+    }
+}
+
+/// Reads the reports of tasks that the line names, joins them and writes what they make.
+fn join_read<'a, F: Files, W: Write>(
+    alloc: Global,
+    line: &Line<'a>,
+    tasks: u32,
+    whole: &Whole,
+    files: &mut F,
+    out: &mut Device<W>,
+) -> Result<TasksEnd, ReportsFault<'a>>
+    requires out { out.old.failed ≡ false }
+    ensures joins { (before : F) → ReadsInstance F.reads line.now.format line.now.file.now whole.now.instance whole.now.digest before files.old
+        → IfOk result (JoinsTasks F.reads F.lists line.now tasks before files.new (W.contents out.old.held) (W.contents out.new.held)) }
+    ensures unwritten { IfErr result (λ fault. fault ≢ ReportsFault.CannotWrite → out.new ≡ out.old) }
+    ensures kept { IfErr result (λ fault. (out.new ≡ out.old) ⊎ (out.new.failed ≡ true)) }
+{
     let named = named_files(alloc, &line.reports, files)?;
     let reports = named.reports;
     let (format, vars) = (line.format, whole.instance.vars());
     let read = read_tasks(alloc, format, vars, &whole.digest, tasks, reports, files)?;
-    write_tasks(alloc, format, &whole, tasks, read, out)
+    write_tasks(alloc, format, whole, tasks, read, out)
+}
+
+/// Whether the line names as many reports as there are tasks, and each of them can be read and refuses the text of the instance for
+/// this fault. Fails only where memory runs out.
+fn all_tasks_refuse<'a, F: Files>(
+    alloc: Global,
+    line: &Line<'a>,
+    tasks: u32,
+    fault: ReadFault,
+    files: &mut F,
+) -> Result<bool, ReportsFault<'a>>
+    ensures { IfOk result (λ all. IsTrue all → ReadsRefusals F.reads F.lists line.now tasks fault files.old files.new) }
+{
+    match named_files(alloc, &line.reports, files) {
+        Ok(named) => all_refuse_text(alloc, fault, tasks, &named.reports, files),
+        Err(ReportsFault::Memory) => Err(ReportsFault::Memory),
+        Err(_) => Ok(false),
+    }
 }
 
 /// Joins what was read of tasks and writes what it makes.
@@ -90,10 +139,23 @@ fn write_tasks<'a, W: Write>(
             let end = join_part_reports(alloc, format, whole, tasks, read, out)?;
             Ok(TasksEnd::Joined(end))
         }
-        TaskReports::Refused(refusal) => match report_refusal(out, refusal) {
-            Ok(_) => Ok(TasksEnd::Refused(refusal)),
-            Err(_) => Err(ReportsFault::CannotWrite),
-        },
+        TaskReports::Refused(refusal) => write_refusal(refusal, out),
+    }
+}
+
+/// Writes what every task refused, as a run on the whole writes it.
+fn write_refusal<'a, W: Write>(
+    refusal: InputRefusal,
+    out: &mut Device<W>,
+) -> Result<TasksEnd, ReportsFault<'a>>
+    requires out { out.old.failed ≡ false }
+    ensures told { IfOk result (λ end. (end ≡ TasksEnd.Refused refusal) × Appends (W.contents out.old.held) (W.contents out.new.held) (refusal_report refusal)) }
+    ensures unwritten { IfErr result (λ fault. fault ≢ ReportsFault.CannotWrite → out.new ≡ out.old) }
+    ensures kept { IfErr result (λ fault. (out.new ≡ out.old) ⊎ (out.new.failed ≡ true)) }
+{
+    match report_refusal(out, refusal) {
+        Ok(_) => Ok(TasksEnd::Refused(refusal)),
+        Err(_) => Err(ReportsFault::CannotWrite),
     }
 }
 

@@ -16,14 +16,14 @@ use crate::again::name_open;
 use crate::parts::{join_tasks, tell_tasks};
 use clap::Error;
 use pb_files::{
-    Files, Refusal, ReportsFault, count_pieces, named_files, read_instance, read_reports,
+    Files, Named, Refusal, Reports, ReportsFault, Whole, count_pieces, named_files, read_instance,
+    read_reports,
 };
-use pb_inst::Instance;
 use pb_join::{JoinFault, Joined, PieceState, join};
 use pb_line::joining::{Line, line};
 use pb_line::{LastFault, end_at_line, tell_failure, tell_hint};
 use pb_read::Format;
-use pb_report::{Device, Status};
+use pb_report::{Claim, Device, Status};
 use std::alloc::Global;
 use std::io::{self, Write};
 
@@ -84,7 +84,7 @@ fn join_asked<'a, F: Files, W: Write, E: Write>(
             Ok(end.status())
         }
         None => {
-            let joined = join_line(alloc, line, files, out)?;
+            let joined = join_line(alloc, line, files, out, err)?;
             name_pieces(&joined, err);
             Ok(joined.status)
         }
@@ -92,12 +92,13 @@ fn join_asked<'a, F: Files, W: Write, E: Write>(
 }
 
 /// Reads what the line names: the instance, then the indexes, then the reports. Joins the reports and writes what they make.
-/// Where anything is refused nothing is written.
-fn join_line<'a, F: Files, W: Write>(
+/// Where anything is refused nothing is written. Names on the standard error the reports of runs that refused their input.
+fn join_line<'a, F: Files, W: Write, E: Write>(
     alloc: Global,
     line: &Line<'a>,
     files: &mut F,
     out: &mut Device<W>,
+    err: &mut E,
 ) -> Result<Joined, ReportsFault<'a>>
     requires pieces { IfSome line.now.pieces (λ n. 1 ≤ n) }
     requires out { out.old.failed ≡ false }
@@ -109,31 +110,37 @@ fn join_line<'a, F: Files, W: Write>(
     let format = line.format;
     let whole = read_instance(alloc, format, line.file, files)?;
     let named = named_files(alloc, &line.reports, files)?;
-    let pieces = count_pieces(alloc, format, &whole, line.pieces, named.indexes, files)?;
-    let instance = &whole.instance;
-    join_files(alloc, format, instance, pieces, named.reports, files, out)
+    let Named { reports, indexes } = named;
+    let pieces = count_pieces(alloc, format, &whole, line.pieces, indexes, &reports, files)?;
+    join_files(alloc, format, &whole, pieces, reports, files, out, err)
 }
 
-/// Reads the reports from the files of these names, joins them and writes what they make.
-fn join_files<'a, F: Files, W: Write>(
+/// Reads the reports from the files of these names, joins them and writes what they make. Names the reports of runs that refused
+/// their input.
+fn join_files<'a, F: Files, W: Write, E: Write>(
     alloc: Global,
     format: Format,
-    instance: &Instance,
+    whole: &Whole,
     pieces: u32,
     names: Vec<String>,
     files: &mut F,
     out: &mut Device<W>,
+    err: &mut E,
 ) -> Result<Joined, ReportsFault<'a>>
     requires pieces { 1 ≤ pieces }
     requires out { out.old.failed ≡ false }
-    ensures tells { IfOk result (Tells format instance.now pieces (W.contents out.old.held) (W.contents out.new.held)) }
-    ensures joins { IfOk result (λ joined. (reports : List PieceReport) × ReadsReports F.reads format instance.now.vars (texts names) reports files.old files.new × TellsOf format instance.now pieces reports (W.contents out.old.held) (W.contents out.new.held) joined) }
+    ensures tells { IfOk result (Tells format whole.now.instance pieces (W.contents out.old.held) (W.contents out.new.held)) }
+    ensures joins { IfOk result (λ joined. (reports : List PieceReport) × ReadsReports F.reads format whole.now.instance.vars (texts names) reports files.old files.new × TellsOf format whole.now.instance pieces reports (W.contents out.old.held) (W.contents out.new.held) joined) }
     ensures unwritten { IfErr result (λ fault. fault ≢ ReportsFault.CannotWrite → out.new ≡ out.old) }
     ensures kept { IfErr result (λ fault. (out.new ≡ out.old) ⊎ (out.new.failed ≡ true)) }
 {
-    let read = read_reports(alloc, format, instance.vars(), names, files)?;
+    let Whole { instance, digest } = whole;
+    let read = read_reports(alloc, format, instance.vars(), digest, names, files)?;
     match join(alloc, format, instance, pieces, &read.reports, out) {
-        Ok(joined) => Ok(joined),
+        Ok(joined) => {
+            name_refused(&read, err);
+            Ok(joined)
+        }
         Err(fault) => Err(fault_of(fault, read.names)),
     }
 }
@@ -148,6 +155,15 @@ fn fault_of<'a>(fault: JoinFault, mut names: Vec<String>) -> ReportsFault<'a>
         JoinFault::Memory => ReportsFault::Memory,
         JoinFault::Report { place, why } => {
             ReportsFault::Report(names.swap_remove(place), Refusal::Rejected(why))
+        }
+    }
+}
+
+/// Writes one line to the standard error for each of these reports whose run refused its input.
+fn name_refused<E: Write>(read: &Reports, err: &mut E) {
+    for (name, report) in read.names.iter().zip(&read.reports) {
+        if matches!(report.claim, Claim::Unsupported) {
+            let _ = writeln!(err, "pbcube_join: {name}: its run refused its input");
         }
     }
 }

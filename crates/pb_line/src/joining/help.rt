@@ -52,7 +52,7 @@ Exit status:
   20  s UNSATISFIABLE: every piece is done, and none has an assignment
   10  s SATISFIABLE: there is no objective, or a piece is missing or was cut
    0  s UNKNOWN: a piece is missing or was cut, and nothing was found;
-      s UNSUPPORTED: every task refused its cubes or its split;
+      s UNSUPPORTED: every task refused its input;
       also after help and the version
    1  a file cannot be opened or read, an input is refused, nothing gives the
       number of pieces, or memory ran out, and nothing is written to standard

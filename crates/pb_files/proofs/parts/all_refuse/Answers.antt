@@ -15,6 +15,6 @@ loop-name-preserved g c =
     let names = map_more string_bytes c.args.names.now place c.name-item.result c.loop-name-test.true ∙ ap (λ (n : Text). earlier ++ n ∷ []) name in
     let is_same : c.in_ok-is_same.is_same ≡ true = cc in
     let file = c.in_ok-is_same.ensures is_same in
-    let read = subst (λ (t : Text). g.F.Files.reads c.loop-name.files c.deref.result.now t c.has_text.new.files) (c.as_slice.ensures.value ∙ c.in_ok-report.ensures) file in
+    let read = subst (λ (t : Text). g.F.Files.reads c.loop-name.files c.deref.result.now t c.has_text.new.files) (c.as_slice.ensures.value ∙ c.in-Ok.ensures) file in
     let pushed = ReadsSame-push g.F.Files.reads text earlier c.args.files.now c.loop-name.files c.has_text.new.files c.deref.result.now c.loop-name.invariant read in
     subst (λ (l : List Text). ReadsSame g.F.Files.reads text l c.args.files.now c.has_text.new.files) (sym names) pushed

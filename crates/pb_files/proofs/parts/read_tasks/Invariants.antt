@@ -8,6 +8,6 @@ use Rattle.pb_files.proofs.parts.read_tasks.Given as goal
 abbrev pub invariant-loop-place : goal.invariant-loop-place
 invariant-loop-place g l = record {
   fit : All (λ part. IsFit part.heading) l.parts.items;
-  counted : length l.parts.items ≡ l.place;
+  counted : length l.with_part.items ≡ length l.parts.items;
   read : ReadsParts g.F.Files.reads l.format l.vars (map string_bytes (take l.place l.names.items)) l.parts.items l.initial.files l.files;
 }
