@@ -778,7 +778,7 @@ JOIN = [
     Row("--tasks 1 --format cnf tie.opb bad_header.part", PARTS["bad_header.part"], ALL_REFUSED),
     Row("--tasks 1 product.opb refused_input.part", err=f"pbcube_join: cannot write: {NO_ROOM}\n", status=1, out_to=FULL),
     *(
-        rejected(f"--tasks {tasks} product.opb {names}", "product.opb: NonLinear at line 1")
+        refused_with_hint("pbcube_join", f"--tasks {tasks} product.opb {names}", "product.opb: NonLinear at line 1", PRODUCT_HINT)
         for tasks, names in (
             (2, "refused_input.part"),
             (1, "refused_input.part refused_input.part"),

@@ -49,6 +49,11 @@ def log_of(folder, number):
     return file.read_text() if file.exists() else ""
 
 
+def of_task(line):
+    """The line of `pbcube`, as `pbcube_task` writes it."""
+    return line.replace("pbcube:", "pbcube_task:", 1)
+
+
 class Recipes:
     """Recipes that solve one instance, and a folder to run them in."""
 
@@ -248,7 +253,7 @@ class OfTasks(Recipes):
             for file, kind, split in (refused, refused, accepted):
                 whole = run("pbcube", "--format", kind, "--split", split, file)
                 ended = self.parallel(self.room / f"refused {refused[1:]}", file, kind, split, 2)
-                told = "" if (file, kind, split) == accepted else ALL_REFUSED
+                told = "" if (file, kind, split) == accepted else of_task(whole.err) * 2 + ALL_REFUSED
                 if ended != Ended(whole.out, told, whole.status):
                     yield f"parallel-tasks.sh, {kind}, split {split}: {ended} and not {whole}"
 
@@ -369,11 +374,12 @@ class OfTasks(Recipes):
             yield "slurm-tasks.sh, in an old folder: tasks were run again"
 
     def of_refused_in_slurm(self):
+        """Each task helps as one run does, and the join says that every task refused its input."""
         for file, kind, split in self.REFUSED:
             folder = self.room / f"refused {kind}"
             whole = run("pbcube", "--format", kind, "--split", split, file)
             for number in (0, 1, 0):
-                if (said := self.slurm(folder, number, kind=kind, file=file, split=split, tasks=2)) != (0, ""):
+                if (said := self.slurm(folder, number, kind=kind, file=file, split=split, tasks=2)) != (0, of_task(whole.err)):
                     yield f"slurm-tasks.sh, {kind}, split {split}, task {number}: {said}"
             if (said := self.joined(folder, 2, file=file, kind=kind)) != (1, whole.out, ALL_REFUSED):
                 yield f"slurm-join.sh, {kind}, split {split}: {said} and not {whole}"
