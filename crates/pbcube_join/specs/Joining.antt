@@ -80,12 +80,12 @@ pub record JoinsTasks {F : Type 0} (reads : F → Text → List ℕ → F → Ty
 
 -- The text of the line's file is read, which has this fault, and then the reports of tasks, which all refuse it. All that was written
 -- is this refusal, as a run on that text writes it.
-pub record RefusesText {F : Type 0} (reads : F → Text → List ℕ → F → Type 0) (lists : F → Text → Option (List Text) → F → Type 0) (line : Line) (tasks : ℕ) (before after : F) (old new : Option (List ℕ)) (end : TasksEnd) : Type 0 where
+pub record RefusesText {F : Type 0} (reads : F → Text → List ℕ → F → Type 0) (lists : F → Text → Option (List Text) → F → Type 0) (line : Line) (tasks : ℕ) (before after : F) (old new : Option (List ℕ)) (ended : TasksEnd) : Type 0 where
   pub fault : ReadFault
   pub after_instance : F
   pub faulty : ReadsFaulty reads line.format line.file.now fault before after_instance
   pub refusals : ReadsRefusals reads lists line tasks fault after_instance after
-  pub ends : end ≡ end.Refused (Input fault)
+  pub is : ended ≡ end.Refused (Input fault)
   pub writes : Appends old new (refusal_report (Input fault))
 
 -- the instance and the reports of tasks are read and joined, or all tasks refused the text of the instance
