@@ -18,6 +18,8 @@ def statements(text):
             words = []
         elif word != "\n" and word[0] != "%":
             words.append(word)
+    if words:
+        raise NoAnswer(f"line {line}: the last statement does not end with ;")
 
 
 class Statement:

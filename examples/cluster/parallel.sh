@@ -5,7 +5,7 @@
 #
 # HOSTS is a file of `cores/host` lines for --sshloginfile (each host has pbcube on its path); without it the cores here serve.
 # A lost host or a killed solver costs its pieces alone: the same words once more solve the pieces that have no report, and join
-# all. A FOLDER with the pieces of another file or of another split is refused, with status 2.
+# all. A FOLDER with the pieces of another file or of another split, or with reports and no index, is refused, with status 2.
 set -euo pipefail
 [ $# -ge 4 ] && [ $# -le 5 ] || { echo "usage: parallel.sh FILE FORMAT SPLIT FOLDER [HOSTS]" >&2; exit 2; }
 file=$1 format=$2 split=$3 folder=$4 hosts=()
@@ -23,10 +23,12 @@ refuse() {
 if [ -e "$folder/index" ]; then
   # One piece for each cube of the split, one for each that an iCNF file has itself, and the remainder.
   pieces=$((1 + (split > 0 ? 1 << split : 0)))
-  [ "$format" != icnf ] || pieces=$((pieces + $(grep -cE '^[[:space:]]*a([[:space:]]|$)' "$file" || true)))
+  [ "$format" != icnf ] || pieces=$((pieces + $(sed '/^[[:space:]]*%/q' "$file" | grep -cE '^[[:space:]]*a([[:space:]]|$)' || true)))
   [ "$(told sha256)" = "$(sha256sum < "$file" | cut -d ' ' -f 1)" ] || refuse "$folder has the pieces of another file than $file"
   [ "$(told pieces)" = "$pieces" ] || refuse "$folder has $(told pieces) pieces, and this split makes $pieces"
 else
+  # No report is tied to its piece, so one of an earlier cut would be taken for that of a new piece.
+  ! compgen -G "$folder/*.report" > /dev/null || refuse "$folder has reports of pieces that were cut before: take another folder"
   pbcube_pieces "$file" --format "$format" --split "$split" --out "$folder" >&2
 fi
 

@@ -22,6 +22,7 @@ log=task-$SLURM_ARRAY_TASK_ID.log
 exec 2> "$log"
 trap '[ -s "$log" ] || rm -f "$log"' EXIT
 a_task=${2:-1}
+[ -f index ] || { echo "slurm.sh: $1 has no index: pbcube_pieces cuts an instance into it" >&2; exit 2; }
 mapfile -t pieces < <(grep -E '^[0-9]+\.(opb|cnf)$' index)
 first=$((SLURM_ARRAY_TASK_ID * a_task)) solved=true
 if [ "$first" -ge "${#pieces[@]}" ]; then

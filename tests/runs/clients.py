@@ -377,6 +377,11 @@ FLATZINC_FAULTS = {
     "var {1, 3}: x; solve satisfy;": "line 1: x is of type { 1 , 3 }, and pbcube has integers between bounds",
     "var 0..4: x; constraint int_le(y, x); solve satisfy;": "line 1: y stands where there should be an integer or a variable",
     "var int: x;": "line 1: x has no finite lower bound",
+    "var 0..3: x; constraint int_le(2, x": "line 1: the last statement does not end with ;",
+    "var 0..3: x :: output_var\nsolve maximize x;": "the text has no solve statement",
+    "": "the text has no solve statement",
+    "var 0..3: x;\ngarbage; solve satisfy;": "line 2: this is no statement of FlatZinc for linear solvers",
+    "constraint int_le(1); solve satisfy;": "line 1: this is no statement of FlatZinc for linear solvers",
 }
 
 

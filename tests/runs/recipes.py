@@ -108,10 +108,13 @@ class OfPieces(Recipes):
             yield f"parallel.sh, a killed solver: {reports_in(folder)}"
         yield from self.of_lost_reports(words, folder)
         yield from self.of_old_folders(folder)
-        own_cubes = ["parallel.sh", TOP / "examples/colouring.icnf", "icnf", "1", self.room / "own"]
-        for ended in (self.ran(*own_cubes), self.ran(*own_cubes)):
-            if ended.status != 10:
-                yield f"parallel.sh, own cubes: {ended}"
+        early = self.room / "early.icnf"  # a line % ends it
+        early.write_text("p inccnf\n1 2 0\n-1 3 0\na 1 0\na -1 0\n%\na 2 0\n")
+        for file in (TOP / "examples/colouring.icnf", early):
+            own_cubes = ["parallel.sh", file, "icnf", "1", self.room / f"own {file.name}"]
+            for ended in (self.ran(*own_cubes), self.ran(*own_cubes)):
+                if ended.status != 10:
+                    yield f"parallel.sh, own cubes of {file.name}: {ended}"
 
     def of_lost_reports(self, words, folder):
         for lost in ("4.report", "3.report", "0.report"):
@@ -132,6 +135,12 @@ class OfPieces(Recipes):
             ended = self.ran("parallel.sh", file, "opb", split, folder)
             if (ended.out, ended.err.count("\n"), ended.status) != ("", 1, 2):
                 yield f"parallel.sh, {file.name} and split {split} in an old folder: {ended}"
+        left = self.room / "left"
+        left.mkdir()
+        (left / "0.report").write_text(self.answer.out)
+        ended = self.ran("parallel.sh", self.file, "opb", "3", left)
+        if (ended.out, ended.err.count("\n"), ended.status) != ("", 1, 2) or reports_in(left) != ["0.report"]:
+            yield f"parallel.sh, in a folder with a report and no index: {ended}"
 
     def of_slurm(self):
         folder = self.room / "slurm"
@@ -157,6 +166,11 @@ class OfPieces(Recipes):
                 yield f"slurm.sh, task {number}: {said}"
         if (said := self.joined(folder)) != (0, self.answer.out, ""):
             yield f"slurm-join.sh: {said}"
+        bare = self.room / "bare"
+        bare.mkdir()
+        ended = self.ran("slurm.sh", bare, SLURM_ARRAY_TASK_ID="0")
+        if ended.status != 2 or "has no index" not in log_of(bare, 0):
+            yield f"slurm.sh, in a folder without an index: {ended} {log_of(bare, 0)}"
         yield from self.of_slurm_again(folder, task)
 
     def of_slurm_again(self, folder, task):

@@ -292,6 +292,8 @@ class Model:
     def _own(self, literals: Iterable[Literal]) -> List[Literal]:
         if isinstance(literals, Literal):
             raise TypeError(f"literals stand in a list, as [{literals!r}]")
+        if isinstance(literals, Mapping):
+            raise TypeError("literals stand in a list, as [x, ~y], and have no values: ~ negates")
         given = [as_literal(literal) for literal in literals]
         known = self._known()
         for literal in given:
