@@ -67,8 +67,8 @@ impl Round {
         }
     }
 
-    /// What the next dive goes by, where the best cost is `cost`; none where the round is over. A dive looks for something better,
-    /// so where it has no lower limit, its limit is one below the best cost.
+    /// What the next dive goes by; none where the round is over. Where it has no lower limit and a `cost` is given, as that of the
+    /// best assignment, its limit is one below that, so that it looks for something better.
     pub fn next(&self, cost: Option<Number>) -> Option<Course> {
         let below = cost.map(|cost| cost.saturating_sub(1));
         match self.stage {

@@ -67,7 +67,7 @@ fn dive_in_round<C: Coefficient, S: Share>(
         if rest == 0 {
             return is_better;
         }
-        let Some(course) = round.next(best.cost()) else {
+        let Some(course) = round.next(cost_to_limit(best, run.left)) else {
             return is_better;
         };
         rest = rest.min(course.share_of(most));
@@ -195,6 +195,12 @@ fn go_down<C: Coefficient, S: Share>(
 /// before it; without one there is none, since bounds would cost more than they save.
 fn cost_to_beat(best: &Best<'_>, left: Option<u64>) -> Option<Number> {
     if left.is_some() { best.cost() } else { None }
+}
+
+/// The cost that a dive without a limit of its own is to stay below. With a budget there is none, since the bound before each decision
+/// keeps to it already: with such a limit `l152lav` held 4773 after 16,000 decisions in place of 4763, `sets 400` 846 in place of 840.
+fn cost_to_limit(best: &Best<'_>, left: Option<u64>) -> Option<Number> {
+    if left.is_some() { None } else { best.cost() }
 }
 
 /// Hands the trail to the incumbent where it is full. Answers whether that was an improvement.
