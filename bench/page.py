@@ -123,16 +123,22 @@ class Bench:
         first = run(command, limit)
         return first if first.is_stopped else min([first, *(run(command, limit) for _ in range(runs - 1))], key=lambda it: it.seconds)
 
-    def decisions(self, path):
-        """Those of a search in one piece, and its seconds."""
-        told = re.search(r"(\d+) decisions, searched in ([\d.]+)(\w*)s", run([self.layers], asked="search\n", text=path).out)
+    def decisions(self, path, way="search"):
+        """Those of a search in one piece, and its seconds. An `unlimited` one makes those of a run without a budget, and counts them in
+        steps of 256."""
+        told = re.search(r"(\d+) decisions, searched in ([\d.]+)(\w*)s", run([self.layers], asked=way + "\n", text=path).out)
         return int(told[1]), float(told[2]) * {"": 1, "m": 1e-3, "µ": 1e-6, "n": 1e-9}[told[3]]
 
 
 def families(bench):
     yield "instance", "decisions", "seconds"
-    for words, (ended, told) in bench.each(lambda it: (bench.solved(bench.made(it), runs=2), bench.decisions(bench.made(it))), FAMILIES):
-        yield words, told[0], ended
+
+    def measured(words):
+        path = bench.made(words)
+        return bench.solved(path, runs=2), bench.decisions(path, "unlimited")[0]
+
+    for words, (ended, decisions) in bench.each(measured, FAMILIES):
+        yield words, decisions, ended
 
 
 def real(bench):
@@ -154,7 +160,7 @@ def packages(bench):
     yield "packages and seed", "variables", "decisions", "seconds"
     for words in ("packages %d %d" % (size, seed) for size in (1_000, 3_000, 10_000) for seed in (1, 2, 3)):
         path = bench.made(words)
-        yield words, re.search(r"\d+", path.open().readline())[0], bench.decisions(path)[0], bench.solved(path, runs=2)
+        yield words, re.search(r"\d+", path.open().readline())[0], bench.decisions(path, "unlimited")[0], bench.solved(path, runs=2)
 
 
 def pigeons(file, holes):
