@@ -253,6 +253,8 @@ def mistake_facts():
         (lambda: model.solve(start=7), "{x: True}"), (lambda: model.add("x >= 1"), "x + y >= 1"), (lambda: model.clause(x), "[x]"),
         (lambda: model.solve(assuming=~x), "[~x]"), (lambda: model.solve(assuming={x: False}), "[x, ~y]"),
         (lambda: model.at_most(1, {x: 2, y: 3}), "[x, ~y]"), (lambda: model.explain({x: 0}), "[x, ~y]"), (lambda: model.minimise("x"), "model['x']"), (lambda: 2 * x + "y", "model['y']"),
+        (lambda: model.at_least([x], 1), "at_least(1, [x, y])"), (lambda: model.at_most(x, 1), "at_most(1, [x, y])"),
+        (lambda: model.exactly(1.5, [x]), "exactly(1, [x, y])"), (lambda: model.at_least(1, 2), "[x, ~y]"),
         (lambda: x in model, "'x' in model"), (lambda: [*model], "for x in xs"), (lambda: model.variables(model), "for x in xs"),
         (lambda: model.add([x >= 1]), "for rule in rules"), (lambda: model.add(it >= 1 for it in [x, y]), "for rule in rules"),
         (lambda: model.add(x >= 1, "a rule"), "name='budget'"), (lambda: solve(7), "pbcube.solve(text)"),
@@ -275,9 +277,12 @@ def mistake_facts():
         yield f"by its format: {path}", raised(lambda: solve(str(path))).hint.endswith(told)
     yield "its names", "x" in model and "z" not in model and "'z'" in str(raised(lambda: model["z"]))
     yield "which is not there", "'b/a.opb' is not there" in raised(lambda: solve("b/a.opb")).hint
-    named = ((lambda: solve(TEXT, "OPB"), "'opb'"), (lambda: model.fixed(among="all"), "'least'"))
+    named = ((lambda: solve(TEXT, "OPB"), "'opb'"), (lambda: model.fixed(among="all"), "'least'"),
+        (lambda: model.variables("a, b"), "variables('a b')"), (lambda: model.variables("a,b ,c"), "variables('a b c')"),
+    )  # fmt: skip
     for call, said in named:
         yield f"{raised(call)!r}", type(raised(call)) is ValueError and said in str(raised(call))
+    yield "a comma within a name", [it.name for it in Model().variables("x(1,2) x[3,4]")] == ["x(1,2)", "x[3,4]"]
     yield "one in a list before others", x in [x, y] and [y, x][1] is x
     yield "nothing was added", repr(model) == "<Model: 2 variables, 0 constraints, 0 terms, no objective>"
     yield "values in order", model.solve(start=[True, False]).status is model.solve(start=(1, 0)).status is Status.SATISFIABLE

@@ -103,7 +103,8 @@ int pbcube_value(pbcube *solver, uint32_t variable);
 
 /* The short way: solves a text by itself, apart from what the solver was told, and keeps its report, which is what the program
  * pbcube prints of such a file: where memory is refused it may say so ("c refused: Memory"), with the answer PBCUBE_UNKNOWN.
- * pbcube_report writes it as pbcube_cost_text does the cost, up to the next pbcube_run. */
+ * pbcube_report writes it as pbcube_cost_text does the cost, up to the next pbcube_run: with no zero at the end, and its whole
+ * length is answered, which may be more than fit. */
 int pbcube_run(pbcube *solver, int format, const char *text, size_t length, uint64_t decisions);
 size_t pbcube_report(pbcube *solver, char *text, size_t size);
 

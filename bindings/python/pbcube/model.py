@@ -279,21 +279,26 @@ class Model:
 
     def at_least(self, count: int, literals: Iterable[Literal], *, name: Optional[str] = None) -> None:
         """Adds that at least `count` of the literals are true."""
-        self.add(total(self._own(literals)) >= index(count), name=name)
+        number = _number_of_literals(count, "at_least")
+        self.add(total(self._own(literals)) >= number, name=name)
 
     def at_most(self, count: int, literals: Iterable[Literal], *, name: Optional[str] = None) -> None:
         """Adds that at most `count` of the literals are true."""
-        self.add(total(self._own(literals)) <= index(count), name=name)
+        number = _number_of_literals(count, "at_most")
+        self.add(total(self._own(literals)) <= number, name=name)
 
     def exactly(self, count: int, literals: Iterable[Literal], *, name: Optional[str] = None) -> None:
         """Adds that exactly `count` of the literals are true."""
-        self.add(total(self._own(literals)) == index(count), name=name)
+        number = _number_of_literals(count, "exactly")
+        self.add(total(self._own(literals)) == number, name=name)
 
     def _own(self, literals: Iterable[Literal]) -> List[Literal]:
         if isinstance(literals, Literal):
             raise TypeError(f"literals stand in a list, as [{literals!r}]")
         if isinstance(literals, Mapping):
             raise TypeError("literals stand in a list, as [x, ~y], and have no values: ~ negates")
+        if not isinstance(literals, Iterable):
+            raise TypeError(f"no literals: {literals!r}: they stand in a list, as [x, ~y]")
         given = [as_literal(literal) for literal in literals]
         known = self._known()
         for literal in given:
@@ -590,7 +595,7 @@ def _values_in_order(start: Sequence[bool], count: int) -> bytes:
 def _names_of(count: object) -> List[Optional[str]]:
     """A name or none for each of the variables that are asked for."""
     if isinstance(count, str):
-        return [*count.split()]
+        return [*_words_of(count)]
     if isinstance(count, SupportsIndex):
         number = index(count)
         if not 0 <= number <= MOST_VARIABLES:
@@ -599,6 +604,22 @@ def _names_of(count: object) -> List[Optional[str]]:
     if not isinstance(count, Iterable):
         raise TypeError(f"neither a number of variables nor names: {count!r}: write variables(3), or variables('x y z')")
     return [*count]
+
+
+def _words_of(text: str) -> List[str]:
+    """The words of a text that are names. A comma is part of a name only within it, as in x(1,2)."""
+    words = text.split()
+    if any(word.strip(",") != word or ("," in word and all(part.isidentifier() for part in word.split(","))) for word in words):
+        plain = " ".join(text.replace(",", " ").split())
+        raise ValueError(f"no names: {text!r}: in one text they stand without commas, as in variables({plain!r})")
+    return words
+
+
+def _number_of_literals(count: object, call: str) -> int:
+    """How many literals are to be true. It stands before them where the call of that name is made."""
+    if not isinstance(count, SupportsIndex):
+        raise TypeError(f"no whole number of literals: {count!r}: it stands before the literals, as in {call}(1, [x, y])")
+    return index(count)
 
 
 def _check_format(format: str) -> None:

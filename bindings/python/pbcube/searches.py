@@ -68,7 +68,7 @@ def deadline_of(time_limit: Optional[float]) -> Optional[float]:
     except OverflowError:
         seconds = math.inf
     if not 0 <= seconds < math.inf:
-        raise ValueError(refusal)
+        raise ValueError(f"{refusal}: leave it out where there is none")
     return time.monotonic() + min(seconds, _LONGEST)
 
 
