@@ -18,6 +18,12 @@ SECTIONS = {
     "end": r"end",
     "other": r"semi(?:s|-continuous)?|sos[12]?|user\s+cuts|lazy\s+constraints|general\s+constraints?|pwlobj|scenario",
 }
+OTHERS = {  # what the text seems to be instead, by how it begins
+    r"(?:c(?:[ \t].*)?\n\s*)*p\s+cnf\b": "DIMACS CNF: solve it by pbcube --format cnf FILE",
+    r"(?:c(?:[ \t].*)?\n\s*)*p\s+inccnf\b": "iCNF: solve it by pbcube --format icnf FILE",
+    r"\*|(?:(?:min|max)\s*:)?(?:\s*[+-]?\d+(?:\s+~?x\d+\b)+)+\s*(?:;|[<>]?=)": "OPB: solve it by pbcube FILE",
+    r"/[*/]|(?:min|max)\w*\s*:|[^;\n]*;": "lp_solve's: write sections, as Minimize, Subject To and Binaries",
+}
 KEYWORD = re.compile(rf"\s*(?:{'|'.join(f'(?P<{kind}>{words})' for kind, words in SECTIONS.items())})(?=\s|$)(?!\s*:)", re.I)
 TOKEN = re.compile(
     r"(?P<relation>[<>]=?|=[<>]?)|(?P<number>(?:\d+\.?\d*|\.\d+)(?:e[+-]?\d+)?)|(?P<sign>[+-](?!>))|(?P<colon>:)"
@@ -130,8 +136,17 @@ class Section:
                 yield name, self.relation(), self.bound()
 
 
+def check_format(text):
+    """Refuses a text that is empty, or that begins as one of another format does."""
+    bare = "\n".join(line.partition("\\")[0] for line in text.split("\n")).strip()
+    seems = [f"seems to be {other}" for beginning, other in OTHERS.items() if re.match(beginning, bare, re.I | re.A)]
+    if not bare or (seems and not KEYWORD.match(bare)):
+        raise NoAnswer(f"pbcube-lp reads CPLEX's LP format, and this text {seems[0] if bare else 'is empty'}")
+
+
 def sections_of(text):
     """The sections by kind, and the line of each name, which is put there as the sections are taken."""
+    check_format(text)
     lines, kind = {}, "other"
     sections = defaultdict(lambda: Section(lines))
     for number, line in enumerate(text.split("\n"), 1):

@@ -67,6 +67,8 @@ LP_ANSWERS = {  # worked texts, each with its values and its objective
     "Minimize\n obj:\nSubject To\n st: x +\n 2 max = 3\nBounds\n 1 >= max\nGenerals\n x max\nBinary\n x max": ({"x": 1, "max": 1}, None),
     "Min\n obj: 3\nst\n c: 0 x >= 0 d: x <= 1\nBounds\n x = -2": ({"x": -2}, Fraction(3)),
 }
+READ = "pbcube-lp reads CPLEX's LP format, and this text"
+IN_SECTIONS = f"{READ} seems to be lp_solve's: write sections, as Minimize, Subject To and Binaries"
 LP_ROWS = {  # what is told of texts that are refused
     "Minimize\n x\nEnd": "line 2: x is continuous, and pbcube has integers alone",
     "Min\n x\nGenerals\n x\nEnd": "line 2: x has no finite upper bound",
@@ -90,6 +92,15 @@ LP_ROWS = {  # what is told of texts that are refused
     "Min\n x\nGeneral Constraints\n": "line 3: General Constraints cannot be told to pbcube",
     "Min\n x\nMax\n x\nBinary\n x": "line 3: Max cannot be told to pbcube",
     "\n x >= 1\nMin\n x": "line 2: x cannot be told to pbcube",
+    "": f"{READ} is empty",
+    "\\ a comment\n\n": f"{READ} is empty",
+    "* #variable= 1 #constraint= 1\n1 x1 >= 1 ;\n": f"{READ} seems to be OPB: solve it by pbcube FILE",
+    "min: 2 x12 -3 ~x1 x2 ;\n1 x1 >= 1 ;\n": f"{READ} seems to be OPB: solve it by pbcube FILE",
+    "c of clauses\nc\np cnf 1 1\n1 0\n": f"{READ} seems to be DIMACS CNF: solve it by pbcube --format cnf FILE",
+    "p inccnf\n1 0\n": f"{READ} seems to be iCNF: solve it by pbcube --format icnf FILE",
+    "/* of lp_solve */\nmax: 3x+2y;\nc1: x+y<=4;\nint x,y;\n": IN_SECTIONS,
+    "\nmin: ;\n": IN_SECTIONS,
+    "x + y >= 1;\nint x;\n": IN_SECTIONS,
     "Min\n 1e9999 x\nBinary\n x": "line 2: 1e9999 is no number that can be taken exactly",
     f"Min\n x\nst\n x >= {GREATEST_SUM}\nBinary\n x": "line 4: the numbers add up to more than 2^126 - 1 once they are whole",
     f"Min\n {GREATEST_SUM} x + 0.5 y\nBinary\n x y": "the objective: the numbers add up to more than 2^126 - 1 once they are whole",
