@@ -7,27 +7,49 @@
 # FOLDER gets the reports, and FOLDER/notes the notes of the tasks. HOSTS is a file of `cores/host` lines for --sshloginfile (each
 # host has pbcube_task on its path, and sees FILE and FOLDER under these names); without it the cores here serve. More tasks than
 # cores keep all cores busy: a task that has ended leaves its note for those that begin later.
-# A lost host or a killed task costs its share alone: the same words once more run the tasks that have no report, or one in which
-# a piece was cut, and join all. A FOLDER with a report of another file, split or number of tasks is refused, with status 2.
+# A lost host or a killed task costs its share alone: the same words once more run the tasks that have no report, or one that was
+# cut off or in which a piece was cut, and join all. A FOLDER with a report of another file, split or number of tasks is refused,
+# with status 2, as are words that are wrong.
 set -euo pipefail
 [ $# -ge 5 ] && [ $# -le 6 ] || { echo "usage: parallel-tasks.sh FILE FORMAT SPLIT TASKS FOLDER [HOSTS]" >&2; exit 2; }
-file=$(realpath "$1") format=$2 split=$3 tasks=$4 hosts=()
-mkdir -p "$5"
+file=$(realpath -m "$1") format=$2 split=$3 tasks=$4 hosts=()
+
+refuse() {
+  echo "parallel-tasks.sh: $1" >&2
+  exit 2
+}
+
+[ -f "$file" ] && [ -r "$file" ] || refuse "FILE is a file that can be read, and not '$1'"
+[[ $format =~ ^(opb|cnf|icnf)$ ]] || refuse "FORMAT is opb, cnf or icnf, and not '$format'"
+[[ $split =~ ^([0-9]|1[0-2])$ ]] || refuse "SPLIT is a number from 0 to 12, and not '$split'"
+[[ $tasks =~ ^[1-9][0-9]{0,8}$ ]] || refuse "TASKS is a number from 1 to 999999999, and not '$tasks'"
+if [ $# -eq 6 ]; then
+  [ -f "$6" ] && [ -r "$6" ] || refuse "HOSTS is a file that can be read, and not '$6'"
+  hosts=(--sshloginfile "$(realpath "$6")")
+fi
+[[ $(parallel --version 2> /dev/null) == 'GNU parallel'* ]] || refuse "GNU parallel is not on the PATH: install it"
+mkdir -p "$5" 2> /dev/null && [ -w "$5" ] || refuse "FOLDER is a folder that can be written, and not '$5'"
 folder=$(realpath "$5")
-[ $# -lt 6 ] || hosts=(--sshloginfile "$(realpath "$6")")
 cd "$folder"
+
+has_end() { # whether a report has its status, and the values that belong to it up to the end of their line
+  tail -n 1 "$1" | grep -qE '^(v|s UNKNOWN$)' && tail -c 1 "$1" | grep -qx ''
+}
+
+is_cut_off() { # whether it is the beginning of a task's report, or of nothing but zeros
+  [[ 'c part ' == "$(head -c 7 "$1" | tr -d '\0')"* ]] && ! has_end "$1"
+}
 
 digest=$(sha256sum < "$file" | cut -d ' ' -f 1)
 for report in *.report; do
   [ -s "$report" ] || continue
-  if [[ $(head -n 1 "$report") == 'c refused'* ]]; then
-    rm -f "$report" # and not of a division, so the folder can serve another one
+  if is_cut_off "$report" || [[ $(head -n 1 "$report") == 'c refused'* ]]; then
+    rm -f "$report" # what is refused is not of a division, so the folder can serve another one
     continue
   fi
   heading="c part ${report%.report} of $tasks of instance $digest"$'\nc pieces '
   if [[ $(head -n 2 "$report") != "$heading"*" split $split cubes none" ]]; then
-    echo "parallel-tasks.sh: $folder/$report is of another file, split or number of tasks" >&2
-    exit 2
+    refuse "$folder/$report is of another file, split or number of tasks"
   fi
 done
 

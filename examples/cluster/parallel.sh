@@ -5,11 +5,11 @@
 #
 # HOSTS is a file of `cores/host` lines for --sshloginfile (each host has pbcube on its path); without it the cores here serve.
 # A lost host or a killed solver costs its pieces alone: the same words once more solve the pieces that have no report, and join
-# all. A FOLDER with the pieces of another file or of another split, or with reports and no index, is refused, with status 2.
+# all. A FOLDER with the pieces of another file or of another split, or with reports and no index or an index that is newer, is
+# refused, with status 2, as are words that are wrong.
 set -euo pipefail
 [ $# -ge 4 ] && [ $# -le 5 ] || { echo "usage: parallel.sh FILE FORMAT SPLIT FOLDER [HOSTS]" >&2; exit 2; }
-file=$1 format=$2 split=$3 folder=$4 hosts=()
-[ $# -lt 5 ] || hosts=(--sshloginfile "$(realpath "$5")" --transferfile '{}' --return '{.}.report' --cleanup)
+file=$1 format=$2 split=$3 folder=$4 hosts=() where='$PWD' # the folder of a piece, once it runs
 
 told() { # what the index tells under this word
   sed -n "s/^$1 //p" "$folder/index"
@@ -20,12 +20,27 @@ refuse() {
   exit 2
 }
 
+[ -f "$file" ] && [ -r "$file" ] || refuse "FILE is a file that can be read, and not '$1'"
+[[ $format =~ ^(opb|cnf|icnf)$ ]] || refuse "FORMAT is opb, cnf or icnf, and not '$format'"
+[[ $split =~ ^([0-9]|1[0-2])$ ]] || refuse "SPLIT is a number from 0 to 12, and not '$split'"
+[[ ! -e $folder || (-d $folder && -w $folder) ]] || refuse "FOLDER is a folder that can be written, and not '$folder'"
+if [ $# -eq 5 ]; then
+  [ -f "$5" ] && [ -r "$5" ] || refuse "HOSTS is a file that can be read, and not '$5'"
+  hosts=(--sshloginfile "$(realpath "$5")" --transferfile '{}' --return '{.}.report' --cleanup)
+  where='$(uname -n):$PWD'
+fi
+[[ $(parallel --version 2> /dev/null) == 'GNU parallel'* ]] || refuse "GNU parallel is not on the PATH: install it"
+
 if [ -e "$folder/index" ]; then
   # One piece for each cube of the split, one for each that an iCNF file has itself, and the remainder.
   pieces=$((1 + (split > 0 ? 1 << split : 0)))
   [ "$format" != icnf ] || pieces=$((pieces + $(sed '/^[[:space:]]*%/q' "$file" | grep -cE '^[[:space:]]*a([[:space:]]|$)' || true)))
   [ "$(told sha256)" = "$(sha256sum < "$file" | cut -d ' ' -f 1)" ] || refuse "$folder has the pieces of another file than $file"
   [ "$(told pieces)" = "$pieces" ] || refuse "$folder has $(told pieces) pieces, and this split makes $pieces"
+  for report in "$folder"/*.report; do
+    [ ! -s "$report" ] || [ ! "$report" -ot "$folder/index" ] ||
+      refuse "$report is older than the index, so it may be of an earlier cut: remove it, or touch it where it is of this one"
+  done
 else
   # No report is tied to its piece, so one of an earlier cut would be taken for that of a new piece.
   ! compgen -G "$folder/*.report" > /dev/null || refuse "$folder has reports of pieces that were cut before: take another folder"
@@ -38,7 +53,9 @@ missing() { # the pieces that have no report, or an empty one
   done
 }
 
-# The statuses 10, 20 and 30 are answers, and no others are; a report has its name only once it is whole.
-solve='pbcube --format {= s/.*\.// =} {} > {.}.part; case $? in 10 | 20 | 30) mv {.}.part {.}.report ;; *) exit 1 ;; esac'
+# The statuses 10, 20 and 30 are answers, and no others are; a report has its name only once it is whole. What a run with another
+# status has written may tell why.
+solve='pbcube --format {= s/.*\.// =} {} > {.}.part; ended=$?; case $ended in 10 | 20 | 30) mv {.}.part {.}.report ;; *) '
+solve+="[ ! -s {.}.part ] || echo \"parallel.sh: piece {.} ended with status \$ended: look at $where/{.}.part\" >&2; exit 1 ;; esac"
 (cd "$folder" && missing | parallel "${hosts[@]}" --no-run-if-empty --joblog +joblog "$solve") || true
 exec pbcube_join "$file" --format "$format" "$folder"

@@ -7,11 +7,30 @@
 #   sbatch --dependency=afterany:JOB slurm-join.sh FILE FORMAT FOLDER [TASKS]
 #
 # The report is FOLDER/joined, and FOLDER/joined.log names the pieces or tasks that are missing. The job ends with 0 where the
-# report has an assignment or says that there is none, and with 1 where it does not or where the join is refused.
+# report has an assignment or says that there is none. It ends with 2 where the words are wrong, or FOLDER has a report of a piece that
+# is older than its index, and else with 1. What it says on standard error is also in FOLDER/joined.log.
 set -euo pipefail
 [ $# -ge 3 ] && [ $# -le 4 ] || { echo "usage: slurm-join.sh FILE FORMAT FOLDER [TASKS]" >&2; exit 2; }
-file=$1 format=$2 folder=$3 status=0
-pbcube_join "$file" --format "$format" ${4:+--tasks "$4"} "$folder" > "$folder/joined.part" 2> "$folder/joined.log" || status=$?
+file=$1 format=$2 folder=$3 tasks=${4:-1} status=0
+
+refuse() {
+  echo "slurm-join.sh: $1" >&2
+  exit 2
+}
+
+[ -d "$folder" ] && [ -w "$folder" ] || refuse "FOLDER is a folder that can be written, with reports, and not '$folder'"
+rm -f "$folder/joined"
+exec 3>&2 2> "$folder/joined.log"
+trap 'cat "$folder/joined.log" >&3' EXIT
+[ -f "$file" ] && [ -r "$file" ] || refuse "FILE is a file that can be read, and not '$1'"
+[[ $format =~ ^(opb|cnf|icnf)$ ]] || refuse "FORMAT is opb, cnf or icnf, and not '$format'"
+[[ $tasks =~ ^[1-9][0-9]{0,8}$ ]] || refuse "TASKS is a number from 1 to 999999999, and not '$tasks'"
+# No report is tied to its piece, so one of an earlier cut would be taken for that of a new piece.
+for report in "$folder"/*.report; do
+  [ $# -eq 4 ] || [ ! -s "$report" ] || [ ! "$report" -ot "$folder/index" ] ||
+    refuse "$report is older than the index, so it may be of an earlier cut: remove it, or touch it where it is of this one"
+done
+pbcube_join "$file" --format "$format" ${4:+--tasks "$4"} "$folder" > "$folder/joined.part" || status=$?
 mv "$folder/joined.part" "$folder/joined"
 case $status in
   10 | 20 | 30) ;;

@@ -8,17 +8,33 @@
 #   sbatch --dependency=afterany:$job slurm-join.sh FILE opb FOLDER 16
 #
 # All nodes see FILE and FOLDER, which gets the reports, and FOLDER/notes the notes of the tasks. What was lost or killed has no
-# report: the same lines once more run those tasks, and those whose reports have a piece that was cut, and pass over all others.
-# FOLDER/joined.log names them as --array takes them. FOLDER/division tells the file, split and number of tasks: a task of another
-# one ends with status 2. What a task says on standard error is FOLDER/task-NUMBER.log, where it says anything.
+# report: the same lines once more run those tasks, and those whose reports were cut off or have a piece that was cut, and pass over
+# all others. FOLDER/joined.log names them as --array takes them. FOLDER/division tells the file, split and number of tasks: a task
+# of another one ends with status 2, as one with wrong words does. What a task says on standard error is also in
+# FOLDER/task-NUMBER.log, where it says anything.
 set -euo pipefail
 [ $# -eq 5 ] || { echo "usage: slurm-tasks.sh FILE FORMAT SPLIT TASKS FOLDER" >&2; exit 2; }
-file=$(realpath "$1") format=$2 split=$3 tasks=$4 task=$SLURM_ARRAY_TASK_ID status=0
-mkdir -p "$5"
+
+refuse() {
+  echo "slurm-tasks.sh: $1" >&2
+  exit 2
+}
+
+has_end() { # whether a report has its status, and the values that belong to it up to the end of their line
+  tail -n 1 "$1" | grep -qE '^(v|s UNKNOWN$)' && tail -c 1 "$1" | grep -qx ''
+}
+
+[[ ${SLURM_ARRAY_TASK_ID:-} =~ ^[0-9]+$ ]] || refuse "it is run by sbatch --array, which gives it the number of a task"
+file=$(realpath -m "$1") format=$2 split=$3 tasks=$4 task=$SLURM_ARRAY_TASK_ID status=0
+mkdir -p "$5" 2> /dev/null && [ -w "$5" ] || refuse "FOLDER is a folder that can be written, and not '$5'"
 cd "$5"
 log=task-$task.log
-exec 2> "$log"
-trap '[ -s "$log" ] || rm -f "$log"' EXIT
+exec 3>&2 2> "$log"
+trap 'cat "$log" >&3; [ -s "$log" ] || rm -f "$log"' EXIT
+[ -f "$file" ] && [ -r "$file" ] || refuse "FILE is a file that can be read, and not '$1'"
+[[ $format =~ ^(opb|cnf|icnf)$ ]] || refuse "FORMAT is opb, cnf or icnf, and not '$format'"
+[[ $split =~ ^([0-9]|1[0-2])$ ]] || refuse "SPLIT is a number from 0 to 12, and not '$split'"
+[[ $tasks =~ ^[1-9][0-9]{0,8}$ ]] || refuse "TASKS is a number from 1 to 999999999, and not '$tasks'"
 
 # The first task writes which division the folder is for. The file gets its name only once it is whole, and is never overwritten.
 part=$task.$(uname -n).$$.part
@@ -28,11 +44,8 @@ if [ ! -e division ]; then
   mv -n "$part" division || true
   rm -f "$part"
 fi
-if [ "$(cat division)" != "$division" ]; then
-  echo "slurm-tasks.sh: $PWD is of another file, split or number of tasks" >&2
-  exit 2
-fi
-! grep -qsx 'c cut' "$task.report" || exit 0
+[ "$(cat division)" = "$division" ] || refuse "$PWD is of another file, split or number of tasks"
+! grep -qsx 'c cut' "$task.report" || ! has_end "$task.report" || exit 0
 
 # With the statuses 0 and 10 what begins like a part is one, and what is refused is for the join, which tells it where all tasks
 # refuse it. It gets the report's name only once it is whole; until then its name is another one in each process, so that the same

@@ -96,14 +96,18 @@ class OfPieces(Recipes):
         super().__init__(room, TOP / "examples/repairs.opb")
         # it ends by a signal on one piece, and writes a part of a report before
         self.put_path("a killed solver", DIVIDERS, pbcube='case "$*" in *4.opb) echo "o 3"; kill -9 $$ ;; esac')
+        refused = "c refused: Memory\\ns UNKNOWN\\n"
+        self.put_path("no memory", DIVIDERS, pbcube=f'case "$*" in *4.opb) printf "{refused}"; exit 0 ;; esac')
 
     def of_parallel(self):
         folder = self.room / "parallel"
         words = ["parallel.sh", self.file, "opb", "3", folder]
-        for path in ("no solver", "a killed solver"):
+        for path in ("no solver", "a killed solver", "no memory"):
             ended = self.ran(*words, path=path)
             if ended.out == self.answer.out or "has no report" not in ended.err:
                 yield f"parallel.sh, {path}: {ended}"
+            if (f"look at {folder}/4.part\n" in ended.err) != (path != "no solver"):
+                yield f"parallel.sh, {path}, the file to look at: {ended}"
         if reports_in(folder) != [f"{number}.report" for number in range(9) if number != 4]:
             yield f"parallel.sh, a killed solver: {reports_in(folder)}"
         yield from self.of_lost_reports(words, folder)
@@ -141,6 +145,16 @@ class OfPieces(Recipes):
         ended = self.ran("parallel.sh", self.file, "opb", "3", left)
         if (ended.out, ended.err.count("\n"), ended.status) != ("", 1, 2) or reports_in(left) != ["0.report"]:
             yield f"parallel.sh, in a folder with a report and no index: {ended}"
+        run("pbcube_pieces", "--split", 3, "--out", left, self.file)
+        self.put_before_index(left / "0.report")
+        ended = self.ran("parallel.sh", self.file, "opb", "3", left)
+        if (ended.out, ended.status) != ("", 2) or "0.report is older than the index" not in ended.err:
+            yield f"parallel.sh, in a folder with a report of an earlier cut: {ended}"
+
+    def put_before_index(self, report):
+        """Makes the report a second older than the index beside it."""
+        then = report.with_name("index").stat().st_mtime_ns - 10**9
+        os.utime(report, ns=(then, then))
 
     def of_slurm(self):
         folder = self.room / "slurm"
@@ -172,6 +186,17 @@ class OfPieces(Recipes):
         if ended.status != 2 or "has no index" not in log_of(bare, 0):
             yield f"slurm.sh, in a folder without an index: {ended} {log_of(bare, 0)}"
         yield from self.of_slurm_again(folder, task)
+        if (said := task(4, path="no memory"))[0] != 1 or f"status 0: look at {folder}/4.part\n" not in said[1]:
+            yield f"slurm.sh, no memory: {said}"
+        (folder / "0.report").write_text(self.answer.out)
+        self.put_before_index(folder / "0.report")
+        for number in (0, 1):
+            if (said := task(number))[0] != 2 or "0.report is older than the index" not in said[1] or len(reports_in(folder)) != 1:
+                yield f"slurm.sh, a report of an earlier cut, task {number}: {said}"
+        ended = self.ran("slurm-join.sh", self.file, "opb", folder)
+        log = (folder / "joined.log").read_text()
+        if ended.status != 2 or (folder / "joined").exists() or ended.err != log or "0.report is older than the index" not in log:
+            yield f"slurm-join.sh, a report of an earlier cut: {ended} {log!r}"
 
     def of_slurm_again(self, folder, task):
         """Some pieces have lost their reports, and then all. The join names them as an array."""
@@ -243,8 +268,15 @@ class OfTasks(Recipes):
         yield from self.of_lost_report(folder, 1, None)
         yield from self.of_lost_report(folder, 3, "")
         yield from self.of_lost_report(folder, 0, cut)
+        for part in self.parts_of((folder / "1.report").read_text()):
+            yield from self.of_lost_report(folder, 1, part)
         if (ended := self.parallel(folder)) != self.answer:
             yield f"parallel-tasks.sh, all reports are there: {ended}"
+
+    def parts_of(self, report):
+        """What a report is where it was cut off: within its heading, behind that, and within its values. One is zeros."""
+        lines = report.splitlines(keepends=True)
+        return report[:3], report[:30], lines[0], "".join(lines[:2])[:-3], "".join(lines[:-1]), report[:-9], report[:-1], "\0" * 99
 
     def of_other_words(self):
         """The folder has reports of all tasks. Then there are more tasks than pieces."""
@@ -380,6 +412,11 @@ class OfTasks(Recipes):
         yield from self.of_refused_in_slurm()
         yield from self.of_tasks_again(folder)
         yield from self.of_two_tasks_at_once(folder)
+        whole = (folder / "1.report").read_text()
+        for part in self.parts_of(whole):
+            (folder / "1.report").write_text(part)
+            if (said := self.slurm(folder, 1)) != (0, "") or not (told := (folder / "1.report").read_text()).endswith(whole[-9:]):
+                yield f"slurm-tasks.sh, a report is {part!r}: {said} {told!r}"
         old = times_of(folder)
         for words in ({"file": self.other}, {"split": self.SPLIT - 1}, {"tasks": self.TASKS + 1}):
             if (said := self.slurm(folder, 0, **words))[0] != 2 or "of another file, split or number of tasks" not in said[1]:
@@ -432,10 +469,57 @@ def faults_of_words(script):
             yield f"{script.name} with {count} words: {ended}"
 
 
+def wrong_words(room):
+    """Words of each recipe that are refused, each with a part of what is said, and with whether Slurm gives the number of a task."""
+    file, bare, no = TOP / "examples/tie.opb", room / "bare", room / "no/such"
+    bare.mkdir()
+    ends = [("FILE", no, "opb", 1), ("FILE", room, "opb", 1), ("FORMAT", file, "lp", 1), ("SPLIT", file, "opb", "two"), ("SPLIT", file, "opb", 13)]
+    for told, *words in ends:
+        yield "parallel.sh", told, [*words, bare], False
+        yield "parallel-tasks.sh", told, [*words, 2, bare], False
+        yield "slurm-tasks.sh", told, [*words, 2, bare], True
+        if told != "SPLIT":
+            yield "slurm-join.sh", told, [*words[:2], bare], False
+    for tasks in ("four", 0):
+        yield "parallel-tasks.sh", "TASKS", [file, "opb", 1, tasks, bare], False
+        yield "slurm-tasks.sh", "TASKS", [file, "opb", 1, tasks, bare], True
+        yield "slurm-join.sh", "TASKS", [file, "opb", bare, tasks], False
+    yield "parallel.sh", "HOSTS", [file, "opb", 1, bare, no], False
+    yield "parallel-tasks.sh", "HOSTS", [file, "opb", 1, 2, bare, no], False
+    yield "slurm-tasks.sh", "sbatch --array", [file, "opb", 1, 2, bare], False
+    for folder in (no, file):
+        yield "slurm-join.sh", "FOLDER", [file, "opb", folder], False
+        yield "slurm.sh", "FOLDER", [folder], True
+    yield "parallel.sh", "FOLDER", [file, "opb", 1, file], False
+    yield "parallel-tasks.sh", "FOLDER", [file, "opb", 1, 2, file], False
+    yield "slurm-tasks.sh", "FOLDER", [file, "opb", 1, 2, file], True
+    yield "slurm.sh", "PIECES", [bare, "two"], True
+    yield "slurm.sh", "sbatch --array", [bare], False
+
+
+def faults_of_wrong_words(room):
+    """What is wrong where a recipe is run with wrong words, or without GNU parallel: it says one line, and ends with status 2."""
+    room.mkdir()
+    told = {name: text for name, text in os.environ.items() if name != "SLURM_ARRAY_TASK_ID"}
+    cases = [(script, said, words, {**told, **({"SLURM_ARRAY_TASK_ID": "0"} if is_task else {})}) for script, said, words, is_task in wrong_words(room)]
+    (path := room / "path").mkdir()
+    for name in ("bash", "realpath", "mkdir"):
+        (path / name).symlink_to(shutil.which(name))
+    file, folder = TOP / "examples/tie.opb", room / "new"
+    cases.append(("parallel.sh", "GNU parallel", [file, "opb", 1, folder], {"PATH": str(path)}))
+    cases.append(("parallel-tasks.sh", "GNU parallel", [file, "opb", 1, 2, folder], {"PATH": str(path)}))
+    for script, said, words, environment in cases:
+        ended = ran([CLUSTER / script, *map(str, words)], env=environment)
+        is_told = ended.err.startswith(f"{script}: ") and said in ended.err and ended.err.count("\n") == 1
+        if (ended.out, ended.status) != ("", 2) or not is_told:
+            yield f"{script} {words}: {ended}"
+
+
 def main():
     is_here = has_parallel()
     wrong = [said for it in sorted(CLUSTER.iterdir()) for said in faults_of_words(it)]
     with tempfile.TemporaryDirectory(prefix="pbcube-recipes-") as folder:
+        wrong += faults_of_wrong_words(Path(folder) / "words")
         kinds = [OfTasks(Path(folder) / "tasks"), OfPieces(Path(folder) / "pieces")]
         steps = [it.of_slurm for it in kinds] + [it.of_parallel for it in kinds if is_here]
         wrong += [line for lines in side_by_side(lambda step: list(step()), steps) for line in lines]
