@@ -21,7 +21,7 @@ refuse() {
 [ -d "$folder" ] && [ -w "$folder" ] || refuse "FOLDER is a folder that can be written, with reports, and not '$folder'"
 rm -f "$folder/joined"
 exec 3>&2 2> "$folder/joined.log"
-trap 'cat "$folder/joined.log" >&3' EXIT
+trap 'cat "$folder/joined.log" >&3 || true' EXIT
 [ -f "$file" ] && [ -r "$file" ] || refuse "FILE is a file that can be read, and not '$1'"
 [[ $format =~ ^(opb|cnf|icnf)$ ]] || refuse "FORMAT is opb, cnf or icnf, and not '$format'"
 [[ $tasks =~ ^[1-9][0-9]{0,8}$ ]] || refuse "TASKS is a number from 1 to 999999999, and not '$tasks'"

@@ -30,7 +30,7 @@ mkdir -p "$5" 2> /dev/null && [ -w "$5" ] || refuse "FOLDER is a folder that can
 cd "$5"
 log=task-$task.log
 exec 3>&2 2> "$log"
-trap 'cat "$log" >&3; [ -s "$log" ] || rm -f "$log"' EXIT
+trap 'if [ -s "$log" ]; then cat "$log" >&3 || true; else rm -f "$log"; fi' EXIT
 [ -f "$file" ] && [ -r "$file" ] || refuse "FILE is a file that can be read, and not '$1'"
 [[ $format =~ ^(opb|cnf|icnf)$ ]] || refuse "FORMAT is opb, cnf or icnf, and not '$format'"
 [[ $split =~ ^([0-9]|1[0-2])$ ]] || refuse "SPLIT is a number from 0 to 12, and not '$split'"

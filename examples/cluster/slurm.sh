@@ -29,7 +29,7 @@ refuse() {
 cd "$1"
 log=task-$SLURM_ARRAY_TASK_ID.log
 exec 3>&2 2> "$log"
-trap 'cat "$log" >&3; [ -s "$log" ] || rm -f "$log"' EXIT
+trap 'if [ -s "$log" ]; then cat "$log" >&3 || true; else rm -f "$log"; fi' EXIT
 a_task=${2:-1}
 [[ $a_task =~ ^[1-9][0-9]{0,8}$ ]] || refuse "PIECES is a number from 1 to 999999999, and not '$a_task'"
 [ -f index ] || refuse "$1 has no index: pbcube_pieces cuts an instance into it"
