@@ -20,6 +20,12 @@ TURN = "write the sum on the left and one number on the right, and two relations
 MOVE_LEFT = "one number alone stands on the right: write all literals on the left"
 RELATE = "end a constraint with >=, <= or =, and a number"
 END = "end the statement before it with ;"
+UNNAME = "no constraint has a name: leave it out, with its colon"
+BEGIN = "begin a statement with a number, or with min:, and name variables x1, x2 and so on"
+END_ONCE = "one ; ends a statement: leave this one out"
+EXPAND = "no parentheses are read: multiply out, as 2 x1 2 x2 for 2 (x1 + x2)"
+DIGITS = "write a number with digits alone, as 1000 for 1e3 or 1,000"
+MINUS = "write -, the minus sign of ASCII"
 STARRED = "begin a comment with *, on a line of its own"
 LETTERED = "begin a comment with c, on a line of its own"
 NUMBER = "write a literal as the number of its variable, as 2, or -2 for its negation"
@@ -109,7 +115,24 @@ PLACED = [
     ("opb", b"1 x1 >= 1 x2 ;\n", f"line 1, column 11: 'x2': {MOVE_LEFT}"),
     ("opb", b"1 x1 1 x2 ;\n", f"line 1, column 11: ';': {RELATE}"),
     ("opb", b"1 x1 >= 1\n1 x2 >= 1 ;\n", f"line 2, column 1: '1': {END}"),
-    ("opb", b"min: 1 x1\n 2 x2 ; foo >= 1 ;\n", "line 2, column 9: 'foo'"),
+    ("opb", b"1 x1 >= 1\nc2: 1 x2 >= 1 ;\n", f"line 2, column 1: 'c2:': {END}"),
+    ("opb", b"min: 1 x1\nc1: 1 x1 >= 1 ;\n", f"line 2, column 1: 'c1:': {END}"),
+    ("opb", b"c1: +1 x1 >= 1 ;\n", f"line 1, column 1: 'c1:': {UNNAME}"),
+    ("opb", b"min: 1 x1 ;\nat_least:+1 x1 >= 1 ;\n", f"line 2, column 1: 'at_least:': {UNNAME}"),
+    ("opb", b"min: 1 x1\n 2 x2 ; foo >= 1 ;\n", f"line 2, column 9: 'foo': {BEGIN}"),
+    ("opb", b"foo\n", f"line 1, column 1: 'foo': {BEGIN}"),
+    ("opb", b"1 x1 >= 1 ;;\n", f"line 1, column 12: ';': {END_ONCE}"),
+    ("opb", "1 x1 \u2265 1 ;\n".encode(), "line 1, column 6: '\\xe2\\x89\\xa5': write >="),
+    ("opb", "1 x1\u22641 ;\n".encode(), "line 1, column 3: 'x1\\xe2\\x89\\xa41': write <="),
+    ("opb", "1 x1 1 x2 \u2260 1 ;\n".encode(), f"line 1, column 11: '\\xe2\\x89\\xa0': {CHOOSE}"),
+    ("opb", "min: \u22121 x1 ;\n".encode(), f"line 1, column 6: '\\xe2\\x88\\x921': {MINUS}"),
+    ("opb", "1 x1 >= \u20131 ;\n".encode(), f"line 1, column 9: '\\xe2\\x80\\x931': {MINUS}"),
+    ("opb", b"1e3 x1 >= 1 ;\n", f"line 1, column 1: '1e3': {DIGITS}"),
+    ("opb", b"1 x1 >= -1,000 ;\n", f"line 1, column 9: '-1,000': {DIGITS}"),
+    ("opb", b"1 x1 >= 1.5e+3 ;\n", f"line 1, column 9: '1.5e+3': {DIGITS}"),
+    ("opb", b"1 x1 >= 1f3 ;\n", "line 1, column 9: '1f3'"),
+    ("opb", b"2 (x1 + x2) >= 1 ;\n", f"line 1, column 3: '(x1': {EXPAND}"),
+    ("opb", b"1 x1 >= 1 ;\n2(x1 x2) >= 1 ;\n", f"line 2, column 1: '2(x1': {EXPAND}"),
     ("cnf", b"p cnf 2 1\na 1 0\n", "line 2, column 1: 'a': write cubes as iCNF, whose header is p inccnf, or into a file of their own"),
     ("opb", b"1 x1>=1;2 ~x2=;\n", f"line 1, column 15: ';': {RELATE}"),
     ("opb", b"1 x1 >= 1", "line 1: end each statement with ;"),

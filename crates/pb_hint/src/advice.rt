@@ -11,6 +11,21 @@ pub enum Advice {
     /// The objective is to be maximised.
     #[error("write min: of the negated sum")]
     Minimise,
+    /// A constraint has a name.
+    #[error("no constraint has a name: leave it out, with its colon")]
+    Unname,
+    /// No statement begins with such a word.
+    #[error("begin a statement with a number, or with min:, and name variables x1, x2 and so on")]
+    Begin,
+    /// A statement ends twice.
+    #[error("one ; ends a statement: leave this one out")]
+    EndOnce,
+    /// A sum stands in parentheses.
+    #[error("no parentheses are read: multiply out, as 2 x1 2 x2 for 2 (x1 + x2)")]
+    Expand,
+    /// A number has more than a sign and digits.
+    #[error("write a number with digits alone, as 1000 for 1e3 or 1,000")]
+    Digits,
     /// Constraints are soft.
     #[error("no soft constraint is read: give each a variable that satisfies it, with its weight in min:")]
     Harden,

@@ -43,13 +43,15 @@ impl StrayToken {
             return Some(self.advice_on_literal(word));
         }
         match self.expected {
-            Expected::Start if word.starts_with(b"*") => Some(Advice::Separate),
-            Expected::Start if begins_comment(word) => Some(Advice::Comment("*")),
+            Expected::Start => advice_on_beginning(word),
             Expected::Literal { .. } if word == b"*".as_slice() => Some(Advice::Part),
             Expected::AfterLiteral { .. } if word == b"*".as_slice() => Some(Advice::Linearise),
             Expected::AfterLiteral { objective: false } | Expected::Bound
                 if word == b";".as_slice() => { Some(Advice::Relate) }
-            Expected::End if is_number(word) || word == b"min:".as_slice() => Some(Advice::End),
+            Expected::End if is_number(word) => Some(Advice::End),
+            Expected::End | Expected::AfterLiteral { objective: true } if word.ends_with(b":") => {
+                Some(Advice::End)
+            }
             Expected::Literal { .. } if is_number(word) => Some(Advice::Rename),
             Expected::Literal { .. } | Expected::AfterLiteral { .. } if is_name(word) => {
                 Some(Advice::Rename)
@@ -76,6 +78,23 @@ impl StrayToken {
             Expected::Literal { .. } => Advice::Sign,
             _ => Advice::Weigh,
         }
+    }
+}
+
+/// What to write in place of a word with which no statement begins.
+fn advice_on_beginning(word: &[u8]) -> Option<Advice> {
+    if word.starts_with(b"*") {
+        Some(Advice::Separate)
+    } else if begins_comment(word) {
+        Some(Advice::Comment("*"))
+    } else if word == b";".as_slice() {
+        Some(Advice::EndOnce)
+    } else if word.ends_with(b":") {
+        Some(Advice::Unname)
+    } else if is_name(word) {
+        Some(Advice::Begin)
+    } else {
+        None
     }
 }
 

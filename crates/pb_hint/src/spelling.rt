@@ -10,8 +10,14 @@ pub fn advice_on_spelling(word: &[u8]) -> Option<Advice> {
     if let Some(advice) = advice_on_mark(word) {
         return Some(advice);
     }
+    if let Some(advice) = advice_on_unicode(word) {
+        return Some(advice);
+    }
     if word == b"soft:".as_slice() {
         return Some(Advice::Harden);
+    }
+    if word.find_byteset(b"()").is_some() {
+        return Some(Advice::Expand);
     }
     let name = word.strip_suffix(b":").unwrap_or(word);
     if is_among(name, &["min", "minimize", "minimise"]) && word != b"min:".as_slice() {
@@ -37,7 +43,33 @@ fn advice_on_mark(word: &[u8]) -> Option<Advice> {
     }
 }
 
-/// What to write in place of a fraction, or of a number and a literal in one word. The word has no sign before it.
+/// Signs that are not ASCII, in UTF-8.
+const AT_LEAST: &[u8] = b"\xe2\x89\xa5";
+
+const AT_MOST: &[u8] = b"\xe2\x89\xa4";
+
+const UNEQUAL: &[u8] = b"\xe2\x89\xa0";
+
+const MINUS: &[u8] = b"\xe2\x88\x92";
+
+const DASH: &[u8] = b"\xe2\x80\x93";
+
+/// What to write in place of a word with such a sign.
+fn advice_on_unicode(word: &[u8]) -> Option<Advice> {
+    if word.contains_str(AT_LEAST) {
+        Some(Advice::Write(">="))
+    } else if word.contains_str(AT_MOST) {
+        Some(Advice::Write("<="))
+    } else if word.contains_str(UNEQUAL) {
+        Some(Advice::Choose)
+    } else if word.contains_str(MINUS) || word.contains_str(DASH) {
+        Some(Advice::Write("-, the minus sign of ASCII"))
+    } else {
+        None
+    }
+}
+
+/// What to write in place of a number that has more than a sign and digits. The word has no sign before it.
 fn advice_on_number(word: &[u8]) -> Option<Advice> {
     let digits = word.iter().take_while(|byte| byte.is_ascii_digit()).count();
     let rest = word.get(digits..).unwrap_or_default();
@@ -48,10 +80,19 @@ fn advice_on_number(word: &[u8]) -> Option<Advice> {
     if is_literal(factor) || rest == b"*".as_slice() {
         return Some(Advice::Part);
     }
-    match rest.strip_prefix(b".") {
-        Some(fraction) if fraction.is_empty() || are_digits(fraction) => Some(Advice::MakeWhole),
+    match rest {
+        [b'.', fraction @ ..] if fraction.is_empty() || are_digits(fraction) => {
+            Some(Advice::MakeWhole)
+        }
+        [b'e' | b'E' | b',' | b'_' | b'.', more @ ..] if is_of_number(more) => Some(Advice::Digits),
         _ => None,
     }
+}
+
+/// Whether the bytes may stand in a number that is written with an exponent, or with a mark between groups of digits.
+fn is_of_number(bytes: &[u8]) -> bool {
+    bytes.iter().all(|byte| byte.is_ascii_digit()
+        || matches!(byte, b'+' | b'e' | b'E' | b',' | b'_' | b'.'))
 }
 
 /// Whether the word is a literal, with a sign or without.
