@@ -37,6 +37,7 @@ WIDE = "min: ;\n= 0 ;\n-170141183460469231731687303715884 x2 >= -9 ;\n"
 OWN_CUBES = "p inccnf\n1 20 0\na 1 0\n"  # one, of twenty variables
 
 
+ONE_PIECE = "pbcube: one worker searches the one piece: --split divides the work among several\n"
 FIRST = "o 3\ns OPTIMUM FOUND\nv x1 -x2 x3\n"
 SECOND = "o 3\ns OPTIMUM FOUND\nv -x1 x2 -x3\n"
 ATTAINED = "o 3\ns SATISFIABLE\nv -x1 x2 -x3\n"
@@ -68,7 +69,12 @@ PARTS = {
     "refused_other.part": f"c refused split: bad\n{UNSUPPORTED}",
     "no_memory.part": f"c refused: Memory\n{UNKNOWN}",
     "bad_header.part": f"c refused: BadHeader at line 1\n{UNSUPPORTED}",
+    "refused_again.part": f"c refused split: BadSplit\n{UNSUPPORTED}",
     "spaced.part": part("1 of 2", TIE, IN_THREE, " 1").replace("c part", "c  part") + ATTAINED,
+    "told_before.part": "pbcube_task: cannot use notes\n" + part("1 of 2", TIE, IN_THREE, " 1") + ATTAINED,
+    "told_after.part": part("1 of 2", TIE, IN_THREE, " 1") + ATTAINED + "pbcube_task: cannot exchange notes\n",
+    "untold.part": part("1 of 2", TIE, IN_THREE, " 1") + ATTAINED + "c\nopen\n",
+    "short.part": "".join(part("1 of 2", TIE, IN_THREE, " 1").splitlines(keepends=True)[:3]),
     "no_pieces.part": part("1 of 2", TIE, "0 split 1 cubes none", "") + "s UNKNOWN\n",
     "divided.part": part("1 of 2", TIE, "3 split 2 cubes none", " 1") + ATTAINED,
     "claims.part": part("1 of 2", TIE, IN_THREE, " 1") + SECOND,
@@ -127,6 +133,9 @@ FILES = {
     "blank-1.out": "\n",
     "long-1.out": f"c {99 * 'x'}\n",
     "wrong-1.out": "o 2\ns OPTIMUM FOUND\nv -x1 x2 -x3\n",
+    "told-1.out": SECOND + ONE_PIECE,
+    "joined/joined.report": SECOND,
+    "joined/0.report": part("0 of 2", TIE, IN_THREE, " 0 2") + FIRST_ATTAINED,
     "report.out": "s UNSATISFIABLE\n",
     "reports/0.report": FIRST,
     "reports/1.report": SECOND,
@@ -154,6 +163,7 @@ HINTED = {f"hinted/{place}": row for place, row in enumerate([*BEGUN, *PLACED])}
 BYTES = {
     "packed.xz": lzma.compress(TIE.encode()),
     "packed.bz2": bz2.compress(TIE.encode()),
+    "returns.part": (part("1 of 2", TIE, IN_THREE, " 1") + ATTAINED).replace("\n", "\r\n").encode(),
     **{name: text for name, (_, text, _) in HINTED.items()},
 }
 # links and folders that lie where notes and their drafts are written or read
@@ -198,9 +208,9 @@ def refused(words, *parts):
     return Row(words, err=("error: ", *parts), status=2)
 
 
-def refused_below(words, range_told):
-    """A row of a run of pbcube that refuses a negative number, and names the range before clap tells how to pass such a word."""
-    return Row(words, err=(f"pbcube: {range_told}\nerror: ", f"'{words.split()[1]}'"), status=2)
+def refused_number(words, word, range_told, name="pbcube"):
+    """A row of a run of this program that refuses a word in place of a number, and names the range before clap tells of the word."""
+    return Row(words, err=(f"{name}: {range_told}\nerror: ", f"'{word}'"), status=2)
 
 
 def helped(words, *parts):
@@ -264,11 +274,12 @@ def told_version(name, why=f": {NO_ROOM}"):
     return [Row("--version", told), Row("-V", told), Row("--version", err=f"{name}: cannot write{why}\n", status=1, out_to=FULL)]
 
 
-ONE_PIECE = "pbcube: one worker searches the one piece: --split divides the work among several\n"
 # hints that several programs tell
 PRODUCT_HINT = f"line 1, column 6: 'x2': {NO_PRODUCT}"
+PRODUCT_IN_FILE = f"product.opb: {PRODUCT_HINT}"
+IS_STDIN = "/dev/stdin is the name of standard input"
 SECOND_OVER_HINT = "second_over.cubes: line 2, column 3: '4': variables are numbered from 1 to 3"
-LATE_CLAUSE_HINT = "line 12: the header says that the number of clauses is 0, but it is 1: write 1 there"
+LATE_CLAUSE_HINT = "late_clause.cnf: line 12: the header says that the number of clauses is 0, but it is 1: write 1 there"
 IS_OPB_HINT = "tie.opb begins as OPB: --format opb reads it"
 FEW_HINT = "tie.opb has 3 variables, too few for --split 4"
 PRODUCT = hinted("product.opb", "NonLinear", PRODUCT_HINT)
@@ -382,15 +393,18 @@ PBCUBE = [
     refused("'' tie.opb", "'tie.opb'"),
     refused("--workers 0 tie.opb", "0 is not in 1..=64"),
     refused("--workers 65 tie.opb", "65 is not in 1..=64"),
-    refused("--workers two tie.opb", "'two'"),
+    refused_number("--workers two tie.opb", "two", "--workers takes a number from 1 to 64"),
     refused("--split 13 tie.opb", "13 is not in 0..=12"),
-    refused_below("--split -1 tie.opb", "--split takes a number from 0 to 12"),
+    refused_number("--split -1 tie.opb", "-1", "--split takes a number from 0 to 12"),
     refused("--nodes 1000000001 tie.opb", "1000000001 is not in 0..=1000000000"),
-    refused_below("--nodes -1 tie.opb", "--nodes takes a number from 0 to 1000000000"),
-    refused_below("--workers -4 tie.opb", "--workers takes a number from 1 to 64"),
+    *(
+        refused_number(f"--nodes{words} tie.opb", word, "--nodes takes a number from 0 to 1000000000")
+        for words, word in ((" -1", "-1"), ("=-1", "-1"), (" x", "x"), ("=1e3", "1e3"), (f" {10**20}", 10**20))
+    ),
+    refused_number("--workers -4 tie.opb", "-4", "--workers takes a number from 1 to 64"),
+    refused("--nothing --split -1 tie.opb", "'--nothing'"),
     refused("--split 99 tie.opb", "99 is not in 0..=12"),
     refused("-1 tie.opb", "'-1'"),
-    refused("--nodes x tie.opb", "'x'"),
     refused("--split 1 --split 2 tie.opb", "multiple times"),
     refused("--format wbo tie.opb", "opb, cnf and icnf"),
     refused("--format OPB tie.opb", "opb, cnf and icnf"),
@@ -454,7 +468,7 @@ PIECES = [
     *(
         refused_with_hint("pbcube_pieces", f"{words} --out pieces {name}", refusal, hint)
         for words, name, refusal, hint in (
-            ("", "product.opb", "product.opb: NonLinear at line 1", PRODUCT_HINT),
+            ("", "product.opb", "product.opb: NonLinear at line 1", PRODUCT_IN_FILE),
             ("--format cnf", "late_clause.cnf", "late_clause.cnf: TooManyClauses at line 12", LATE_CLAUSE_HINT),
             ("--cubes second_over.cubes", "tie.opb", "second_over.cubes: BadVariable at line 2", SECOND_OVER_HINT),
             ("--cubes word.cubes", "tie.opb", "word.cubes: Syntax at line 2", f"word.cubes: line 2, column 5: 'x2': {NUMBER}"),
@@ -482,6 +496,12 @@ PIECES = [
     *closed("--help"),
     *unopened("pbcube_pieces", "--out pieces"),
     refused("tie.opb", "error: the following required arguments were not provided"),
+    *(
+        refused_number(f"--split{words} --out pieces tie.opb", word, "--split takes a number from 0 to 12", "pbcube_pieces")
+        for words, word in ((" -1", "-1"), ("=-1", "-1"), (" x", "x"))
+    ),
+    refused("--nodes -1 --out pieces tie.opb", "'--nodes'"),
+    refused_with_hint("pbcube_pieces", "--out pieces -", f"cannot read -: {MISSING}", IS_STDIN),
     *told_version("pbcube_pieces"),
 ]
 
@@ -491,7 +511,7 @@ def digest_of(name):
 
 
 NOTE = f"pbcube note of instance {digest_of('tie.opb')}\ncost 3\nvalues 010\n"
-WITHOUT_NOTES = "pbcube_task: cannot use tie.opb, so this task exchanges no assignments: "
+WITHOUT_NOTES = "pbcube_task: cannot use tie.opb, so task 0 exchanges no assignments: "
 TASK = [
     Row("--task 0 --tasks 1 tie.opb", part("0 of 1", FILES["tie.opb"], "1 split 0 cubes none", " 0") + ATTAINED, status=10),
     Row("--split 1 --task 1 --tasks 2 tie.opb", part("1 of 2", FILES["tie.opb"], "3 split 1 cubes none", " 1") + ATTAINED, status=10),
@@ -564,7 +584,7 @@ TASK = [
     *(
         Row(f"{words} --task 0 --tasks 1 {name}", f"c refused{refusal}\n{UNSUPPORTED}", f"pbcube_task: {hint}\n")
         for words, name, refusal, hint in (
-            ("", "product.opb", ": NonLinear at line 1", PRODUCT_HINT),
+            ("", "product.opb", ": NonLinear at line 1", PRODUCT_IN_FILE),
             ("--cubes second_over.cubes", "tie.opb", " cubes: BadVariable at line 2", SECOND_OVER_HINT),
             ("--split 4", "tie.opb", " split: BadSplit", FEW_HINT),
             ("--format cnf", "tie.opb", ": BadHeader at line 1", IS_OPB_HINT),
@@ -588,6 +608,17 @@ TASK = [
     refused("--task 1 --tasks 1 tie.opb", "the number of --task is below that of --tasks"),
     refused("--format wcnf --task 0 --tasks 1 tie.opb", "opb, cnf and icnf"),
     refused("--workers 65 --task 0 --tasks 1 tie.opb", "65 is not in 1..=64"),
+    *(
+        refused_number(f"{words} tie.opb", word, f"{told}", "pbcube_task")
+        for words, word, told in (
+            ("--task -1 --tasks 1", "-1", "--task takes a number from 0 to 4294967295"),
+            ("--task 0 --tasks=x", "x", "--tasks takes a number from 1 to 4294967295"),
+            ("--nodes=-1 --task 0 --tasks 1", "-1", "--nodes takes a number from 0 to 1000000000"),
+            ("--split x --task 0 --tasks 1", "x", "--split takes a number from 0 to 12"),
+            ("--workers -1 --task 0 --tasks 1", "-1", "--workers takes a number from 1 to 64"),
+        )
+    ),
+    refused_with_hint("pbcube_task", "--task 0 --tasks 1 -", f"cannot read -: {MISSING}", IS_STDIN),
     *told_version("pbcube_task"),
 ]
 
@@ -608,10 +639,13 @@ def again(*tasks):
     return run_again("tasks", tasks)
 
 
+UNNUMBERED = "the name has no number of a piece before its last dot: leave out the report of a whole run or of a join"
+
+
 def number_row(name, number):
     words = f"--pieces 12 tie.opb {name}"
     if number is None:
-        return rejected(words, f"{name}: the name has no number of a piece before its last dot")
+        return rejected(words, f"{name}: {UNNUMBERED}")
     return Row(words, "s UNKNOWN\n", states(range(12), [number]))
 
 
@@ -636,11 +670,12 @@ OF_THREE_PIECES = [
     # the second report of a piece counts where the first is empty
     ("tie.opb", [(1, ""), (0, FIRST), (1, SECOND), (2, NONE)], SECOND, "", 30),
     ("tie.opb", [(0, ""), (0, ""), (5, "")], UNKNOWN, states([0, 1, 2])),
-    ("tie.opb", [(1, ""), (0, FIRST), (0, FIRST)], 2, "there are two reports of this piece"),
+    ("tie.opb", [(1, ""), (0, FIRST), (0, FIRST)], 2, "there are two reports of this piece", 1),
     ("tie.opb", [], UNKNOWN, states([0, 1, 2])),
     ("tie.opb", [(0, NONE), (1, NONE), (2, NONE)], NONE, "", 20),
     ("free.opb", [(0, NONE), (1, FEASIBLE), (2, NONE)], FEASIBLE, "", 10),
-    ("tie.opb", [(0, FIRST), (1, SECOND), (0, FIRST)], 2, "there are two reports of this piece"),
+    ("tie.opb", [(0, FIRST), (1, SECOND), (0, FIRST)], 2, "there are two reports of this piece", 0),
+    ("tie.opb", [(0, FIRST), (1, SECOND), (1, SECOND)], 2, "there are two reports of this piece", 1),
     ("tie.opb", [(3, FIRST)], 0, "no piece has this number"),
     *(
         ("tie.opb", [(0, FIRST), (1, of_task(1, " 1", claim, tasks=7))], 1, "it is the report of a task: give --tasks 7")
@@ -663,14 +698,14 @@ OF_TWO_TASKS = [
     ("tie.opb", [], UNKNOWN, again(0, 1)),
     ("tie.opb", ["", of_task(1, " 1", ATTAINED)], ATTAINED, again(0), 10),
     ("tie.opb", ["", "", of_task(1, " 1", ATTAINED), of_task(0, " 0 2", FIRST_ATTAINED)], SECOND, "", 30),
-    ("tie.opb", ["", FIRST_PART, FIRST_PART], 2, "there are two reports of this task"),
+    ("tie.opb", ["", FIRST_PART, FIRST_PART], 2, "there are two reports of this task", 1),
     ("tie.opb", ["", ""], UNKNOWN, again(0, 1)),
     ("tie.opb", [of_task(0, " 0 2", UNKNOWN), of_task(1, " 1", UNKNOWN)], NONE, "", 20),
     ("free.opb", [of_task(0, " 0 2", UNKNOWN, text=FREE), of_task(1, " 1", FEASIBLE, text=FREE)], FEASIBLE, "", 10),
     ("tie.opb", [of_task(0, " 0 2", FIRST_ATTAINED, text=FREE)], 0, "the part is of another instance"),
     ("tie.opb", [of_task(0, " 0", FIRST_ATTAINED, tasks=3)], 0, "the part is of another number of tasks"),
     *(
-        ("tie.opb", [FIRST_PART, of_task(1, " 1", ATTAINED, division=other)], 1, "the first part is of other pieces")
+        ("tie.opb", [FIRST_PART, of_task(1, " 1", ATTAINED, division=other)], 1, "the first part is of other pieces", 0)
         for other in ("4 split 1 cubes none", f"3 split 1 cubes {digest(FREE)}")
     ),
     (
@@ -678,6 +713,7 @@ OF_TWO_TASKS = [
         [of_task(0, " 0", FIRST_ATTAINED), of_task(1, " 1", ATTAINED), of_task(0, " 2", UNKNOWN)],
         2,
         "there are two reports of this task",
+        0,
     ),
     *(("tie.opb", [of_task(0, " 0 2", claim)], 0, "a part has no such answer") for claim in (NONE, UNSUPPORTED)),
     ("tie.opb", [of_task(0, " 0 2", "o 1\ns SATISFIABLE\nv -x1 -x2 x3\n")], 0, "the assignment is infeasible"),
@@ -691,13 +727,15 @@ OF_TWO_TASKS = [
 
 
 def joined(words, folder, cases):
-    """A row for each of these cases, whose reports stand in files of their own."""
+    """A row for each of these cases, whose reports stand in files of their own. Of a report that does not go with an earlier one the
+    place of that is told too."""
     for at, (instance, reports, *end) in enumerate(cases):
         given = {f"{folder}/{at}/{place}-{number}.out": text for place, (number, text) in enumerate(reports)}
         line = " ".join([words, instance, *given])
         if isinstance(end[0], int):
-            place, why = end
-            yield Row(line, err=f"pbcube_join: {[*given][place]}: {why}\n", status=1, given=given)
+            place, why, *other = end
+            told = "".join(f": see {[*given][it]}" for it in other)
+            yield Row(line, err=f"pbcube_join: {[*given][place]}: {why}{told}\n", status=1, given=given)
         else:
             yield Row(line, *end, given=given)
 
@@ -742,7 +780,9 @@ JOIN = [
     rejected(f"tie.opb {SOCKET} empty.part out/0.out few.part", "few.part: it is the report of a task: give --tasks 5"),
     rejected("tie.opb edited.part", "the number of pieces is told neither by --pieces nor by an index"),
     # reports that are rejected
-    rejected("--pieces 3 tie.opb out/0.out again-0.out", "again-0.out: there are two reports of this piece"),
+    rejected("--pieces 3 tie.opb out/0.out again-0.out", "again-0.out: there are two reports of this piece: see out/0.out"),
+    rejected("--pieces 3 tie.opb 2 out/0.out out/0.out", "out/0.out: the file is named twice"),
+    rejected("--pieces 3 tie.opb told-1.out", f"told-1.out: Syntax at line 4: the line is '{ONE_PIECE[:60]}'"),
     rejected("--pieces 3 tie.opb torn-1.out", "torn-1.out: Unfinished at line 3"),
     rejected("--pieces 3 tie.opb failed-1.out", "failed-1.out: Syntax at line 1: its first line is 'Killed\\x07'"),
     rejected("--pieces 3 tie.opb silent-1.out", "silent-1.out: NoStatus at line 2: its first line is 'c a solver'"),
@@ -750,7 +790,7 @@ JOIN = [
     rejected("--pieces 3 tie.opb blank-1.out", "blank-1.out: NoStatus at line 1"),
     rejected("--pieces 3 tie.opb long-1.out", f"long-1.out: NoStatus at line 1: its first line is 'c {58 * 'x'}'"),
     rejected("--pieces 3 tie.opb wrong-1.out", "wrong-1.out: the o line is not the cost of the assignment"),
-    rejected("--pieces 3 tie.opb report.out", "report.out: the name has no number of a piece before its last dot"),
+    rejected("--pieces 3 tie.opb report.out", f"report.out: {UNNUMBERED}"),
     rejected(f"--pieces 3 tie.opb {SOCKET}", f"{SOCKET}: cannot be read: {reason(errno.ENXIO)}"),
     rejected("--pieces 1 none.opb", f"cannot read none.opb: {MISSING}"),
     # reports of tasks
@@ -763,14 +803,22 @@ JOIN = [
     Row("--tasks 5 tie.opb few.part", SECOND, status=30),
     Row("--tasks 3 tie.opb", "s UNKNOWN\n", again(0, 1, 2)),
     Row("--tasks 1 tie.opb empty", "s UNKNOWN\n", again(0)),
-    rejected("--tasks 2 tie.opb cut.part cut.part", "cut.part: there are two reports of this task"),
+    rejected("--tasks 2 tie.opb cut.part cut.part", "cut.part: the file is named twice"),
+    rejected("--tasks 2 tie.opb cut.part parts", "parts/second.report: there are two reports of this task: see cut.part"),
     rejected("--tasks 2 tie.opb parts/first.report edited.part", "edited.part: the part is of another instance"),
     rejected("--tasks 2 tie.opb wider.part", "wider.part: the part is of another instance"),
     # every task refused the same, or not every one
     *(
         Row(f"--tasks {len(names.split())} tie.opb {names}", PARTS[names.split()[0]], ALL_REFUSED)
-        for names in ("refused.part refused.part", "refused_cubes.part", "refused_number.part", "refused_line.part")
+        for names in ("refused.part refused_again.part", "refused_cubes.part", "refused_number.part", "refused_line.part")
     ),
+    rejected("--tasks 2 tie.opb refused.part refused.part", "refused.part: the file is named twice"),
+    # of other instances
+    rejected(
+        "--tasks 2 twelve.opb refused.part refused_again.part",
+        "refused.part: its run refused the split of another instance: the 12 variables of this one are enough for any",
+    ),
+    Row("--tasks 1 twelve.opb refused_number.part", PARTS["refused_number.part"], ALL_REFUSED),
     *(
         Row(f"--tasks {len(names.split())} product.opb {names}", PARTS["refused_input.part"], ALL_REFUSED)
         for names in ("refused_input.part", "refused_input.part refused_input.part")
@@ -778,7 +826,7 @@ JOIN = [
     Row("--tasks 1 --format cnf tie.opb bad_header.part", PARTS["bad_header.part"], ALL_REFUSED),
     Row("--tasks 1 product.opb refused_input.part", err=f"pbcube_join: cannot write: {NO_ROOM}\n", status=1, out_to=FULL),
     *(
-        refused_with_hint("pbcube_join", f"--tasks {tasks} product.opb {names}", "product.opb: NonLinear at line 1", PRODUCT_HINT)
+        refused_with_hint("pbcube_join", f"--tasks {tasks} product.opb {names}", "product.opb: NonLinear at line 1", PRODUCT_IN_FILE)
         for tasks, names in (
             (2, "refused_input.part"),
             (1, "refused_input.part refused_input.part"),
@@ -809,23 +857,43 @@ JOIN = [
     ),
     rejected("--tasks 2 tie.opb no_pieces.part", "no_pieces.part: the part is of no pieces"),
     rejected("--tasks 3 tie.opb cut.part", "cut.part: the part is of another number of tasks"),
-    rejected("--tasks 2 tie.opb unnamed.part divided.part", "divided.part: the first part is of other pieces"),
+    rejected("--tasks 2 tie.opb unnamed.part divided.part", "divided.part: the first part is of other pieces: see unnamed.part"),
     rejected("--tasks 2 tie.opb claims.part", "claims.part: a part has no such answer"),
     rejected("--tasks 2 tie.opb torn.part", "torn.part: Unfinished at line 7"),
     rejected("--tasks 2 tie.opb others.part", "others.part: OtherTask at line 3"),
     rejected("--tasks 1 tie.opb out/0.out", "out/0.out: it is the report of a piece: leave --tasks out"),
     rejected("--tasks 3 tie.opb cut", "cut/0.report: it is the report of a piece: leave --tasks out"),
-    rejected("--tasks 2 tie.opb parts/first.report piece-001.out", "piece-001.out: it is the report of a piece: leave --tasks out"),
-    rejected("--tasks 2 tie.opb spaced.part", "spaced.part: Heading at line 1"),
-    rejected("--tasks 2 tie.opb failed-1.out", "failed-1.out: Heading at line 1"),
+    # the report of a run or a join beside those of tasks, whichever is first
+    *(
+        rejected(f"--tasks 2 tie.opb {names}", f"{joined}: it is the report of a whole run or of a join, and of no task: leave this file out")
+        for names, joined in (
+            ("parts/first.report piece-001.out", "piece-001.out"),
+            (f"piece-001.out {SOCKET} parts", "piece-001.out"),
+            ("joined", "joined/joined.report"),
+        )
+    ),
+    rejected("tie.opb joined", "joined/0.report: it is the report of a task: give --tasks 2"),
+    # lines that no report has
+    *(
+        rejected(f"--tasks 2 tie.opb {name}", f"{name}: {fault}{clue}")
+        for name, fault, clue in (
+            ("spaced.part", "Heading at line 1", f": the line is '{PARTS['spaced.part'][:60]}'"),
+            ("failed-1.out", "Heading at line 1", ": the line is 'Killed\\x07'"),
+            ("told_before.part", "Heading at line 1", ": the line is 'pbcube_task: cannot use notes'"),
+            ("told_after.part", "Syntax at line 8", ": the line is 'pbcube_task: cannot exchange notes'"),
+            ("untold.part", "Syntax at line 9", ": the line is 'open'"),
+            ("short.part", "Heading at line 4", ""),
+            ("returns.part", "Heading at line 1", ": its lines end with carriage returns: end them with LF alone"),
+        )
+    ),
     rejected(f"--tasks 1 tie.opb {SOCKET}", f"{SOCKET}: cannot be read: {reason(errno.ENXIO)}"),
     rejected("--tasks 1 tie.opb none", f"cannot read none: {MISSING}"),
     rejected("--tasks 1 none.opb", f"cannot read none.opb: {MISSING}"),
     *(
         refused_with_hint("pbcube_join", words, refusal, hint)
         for words, refusal, hint in (
-            ("--tasks 1 product.opb", "product.opb: NonLinear at line 1", PRODUCT_HINT),
-            ("--pieces 3 product.opb", "product.opb: NonLinear at line 1", PRODUCT_HINT),
+            ("--tasks 1 product.opb", "product.opb: NonLinear at line 1", PRODUCT_IN_FILE),
+            ("--pieces 3 product.opb", "product.opb: NonLinear at line 1", PRODUCT_IN_FILE),
             ("--format cnf --pieces 3 tie.opb", "tie.opb: BadHeader at line 1", IS_OPB_HINT),
         )
     ),
@@ -839,6 +907,9 @@ JOIN = [
     *closed("--pieces 3 tie.opb 2 out/0.out piece-001.out", "--tasks 2 tie.opb parts", "--help"),
     *unopened("pbcube_join", "--pieces 1"),
     refused("--pieces 0 tie.opb", "0 is not in 1..=1048576"),
+    refused_number("--pieces=-1 tie.opb", "-1", "--pieces takes a number from 1 to 1048576", "pbcube_join"),
+    refused_number("--tasks x tie.opb", "x", "--tasks takes a number from 1 to 4294967295", "pbcube_join"),
+    refused_with_hint("pbcube_join", "--pieces 1 -", f"cannot read -: {MISSING}", IS_STDIN),
     refused("--format wcnf --pieces 1 tie.opb", "opb, cnf and icnf"),
     *(number_row(name, number) for name, number in NUMBERS.items()),
     *told_version("pbcube_join"),

@@ -7,8 +7,8 @@ ghost use Rattle.pb_files.specs.Writing.{index_lines};
 
 use crate::files::Files;
 use crate::index::index_of;
-use crate::lines::{line_at, tasks_told, tells_other_digest};
-use crate::reports::{Unread, fault_at, read_file};
+use crate::lines::{line_at, tells_other_digest};
+use crate::reports::{Unread, fault_at, read_file, report_of_task};
 use crate::reports_fault::{IndexFault, Refusal, ReportsFault};
 use crate::whole::Whole;
 use pb_cubes::MAX_CUBES;
@@ -49,20 +49,14 @@ fn without_number<'a, F: Files>(
     reports: &[String],
     files: &mut F,
 ) -> ReportsFault<'a> {
-    for name in reports {
-        let text = match read_file(name, files) {
-            Ok(text) => text,
-            Err(Unread::Memory) => return ReportsFault::Memory,
-            Err(Unread::Refused(_)) => continue,
-        };
-        if let Some(tasks) = tasks_told(&text, digest) {
-            return match name.clone() {
-                Ok(name) => ReportsFault::Report(name, Refusal::OfTask(tasks)),
-                Err(_) => ReportsFault::Memory,
-            };
-        }
+    match report_of_task(digest, reports, files) {
+        Ok(Some((name, tasks))) => match name.clone() {
+            Ok(name) => ReportsFault::Report(name, Refusal::OfTask(tasks)),
+            Err(_) => ReportsFault::Memory,
+        },
+        Ok(None) => ReportsFault::NoNumber,
+        Err(_) => ReportsFault::Memory,
     }
-    ReportsFault::NoNumber
 }
 
 /// The number of pieces that the index of this name tells. It has to be the one that is known, if any.

@@ -12,7 +12,16 @@ pub fn hint_on_instance(
     fault: ReadFault,
 ) -> Option<String> {
     let hint = hint_on(format, text, fault)?;
-    written(alloc, HintLine::of_instance(file, hint))
+    written(alloc, HintLine::of_file(file, hint))
+}
+
+/// What may help where the file of this name cannot be read.
+pub fn hint_on_name(name: &str) -> Option<&'static str> {
+    if name == "-" {
+        Some("/dev/stdin is the name of standard input")
+    } else {
+        None
+    }
 }
 
 /// What may help with the cubes over `vars` variables in the file of this name, whose text was refused.
@@ -24,7 +33,7 @@ pub fn hint_on_cube_file(
     fault: ReadFault,
 ) -> Option<String> {
     let hint = hint_on_cubes(text, vars, fault)?;
-    written(alloc, HintLine::OfCubes(name, hint))
+    written(alloc, HintLine::OfFile(name, hint))
 }
 
 /// What may help where cubes and a split do not divide the instance of `vars` variables in this file, though each can be read.

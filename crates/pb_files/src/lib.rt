@@ -2,6 +2,7 @@
 //! reports of pieces (`reports`) and of tasks (`parts`) from files.
 #![tactic(auto)]
 
+mod clue;
 mod counting;
 mod dividing;
 mod dividing_fault;
@@ -23,11 +24,13 @@ mod reports_fault;
 mod system;
 mod whole;
 
+pub use clue::Clue;
 pub use counting::count_pieces;
 pub use dividing::prepare;
 pub use dividing_fault::DivisionFault;
 pub use files::Files;
 pub use folders::Folders;
+pub use hints::hint_on_name;
 pub use listing::{Named, named_files};
 pub use parts::{PartReports, TaskReports, all_refuse_text, read_tasks};
 pub use pieces::write_pieces;

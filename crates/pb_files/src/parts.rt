@@ -5,17 +5,19 @@ ghost use Rattle.pb_files.specs.Tasks.{AreFitTasks, IsOfDivision, IsReportOfTask
 ghost use Rattle.pb_files.specs.Texts.{texts};
 ghost use Rattle.pb_report.specs.Written.{refusal_report};
 
+use crate::clue::Clue;
 use crate::files::Files;
 use crate::lines::{has_line_of_heading, line_at, tells_other_digest};
 use crate::quote::Quote;
 use crate::refusals::{read_refusal, refusal_text};
-use crate::reports::{Unread, fault_at, keep, read_file, tells_status};
+use crate::reports::{Unread, fault_at, keep, read_file, report_of_task, tells_status};
 use crate::reports_fault::{Refusal, ReportsFault};
+use pb_inst::MAX_SPLIT;
 use pb_join::PartRejection;
 use pb_parts::{PartFault, PartKind, PartReport, read_part};
 use pb_read::{Format, ReadFault};
-use pb_report::Refusal as InputRefusal;
-use std::alloc::Global;
+use pb_report::{Refusal as InputRefusal, ReportKind};
+use std::alloc::{AllocError, Global};
 
 /// Reports of parts, and the names of the files that have them, in the same order.
 #[derive(Drop)]
@@ -62,13 +64,16 @@ pub fn read_tasks<'a, F: Files>(
         match read_one(alloc, format, vars, digest, &names[place], files) {
             Ok(TaskReport::Part(part)) => keep(&names[place], part, &mut with_part, &mut parts)?,
             Ok(TaskReport::Refused(refusal, quote)) => {
-                if place == 0 && others_refuse(alloc, refusal, tasks, &names, files)? {
+                if place == 0 && others_refuse(alloc, refusal, vars, tasks, &names, files)? {
                     return Ok(TaskReports::Refused(refusal));
                 }
                 let why = Refusal::RefusedTask(quote);
                 return Err(fault_at(names, place, Unread::Refused(why)));
             }
-            Err(why) => return Err(fault_at(names, place, why)),
+            Err(why) => {
+                let why = beside_tasks(why, digest, &names, files);
+                return Err(fault_at(names, place, why));
+            }
         }
     }
     Ok(TaskReports::Parts(PartReports {
@@ -77,11 +82,30 @@ pub fn read_tasks<'a, F: Files>(
     }))
 }
 
+/// Why a file was not taken that seemed to be the report of a piece, where another one of these is the report of a task.
+fn beside_tasks<F: Files>(
+    why: Unread,
+    digest: &[u8; 32],
+    names: &[String],
+    files: &mut F,
+) -> Unread {
+    if !matches!(why, Unread::Refused(Refusal::OfPiece)) {
+        return why;
+    }
+    match report_of_task(digest, names, files) {
+        Ok(Some(_)) => Unread::Refused(Refusal::OfNoTask),
+        Ok(None) => why,
+        Err(why) => why,
+    }
+}
+
 /// Whether there are as many names as tasks, and the files of all but the first refuse this. It has to be a refusal to divide the
-/// instance, since the instance was read. Fails only where memory runs out.
+/// instance of `vars` variables, since the instance was read. Fails where memory runs out, and where all refuse it and the names or
+/// the instance tell that not every task did.
 fn others_refuse<'a, F: Files>(
     alloc: Global,
     refusal: InputRefusal,
+    vars: u32,
     tasks: u32,
     names: &[String],
     files: &mut F,
@@ -95,7 +119,52 @@ fn others_refuse<'a, F: Files>(
     if is_of_instance || names.len() != tasks as usize {
         return Ok(false);
     }
-    all_refuse(alloc, refusal, &names[1..], files)
+    let all = all_refuse(alloc, refusal, &names[1..], files)?;
+    if all {
+        check_refusals(alloc, refusal, vars, names)?;
+    }
+    Ok(all)
+}
+
+/// Fails where the reports in the files of these names cannot be those of all tasks on an instance of `vars` variables, though each
+/// refuses this: a file is named twice, or the instance has variables enough for every split.
+fn check_refusals<'a>(
+    alloc: Global,
+    refusal: InputRefusal,
+    vars: u32,
+    names: &[String],
+) -> Result<(), ReportsFault<'a>> {
+    if let Some(name) = named_twice(alloc, names)? {
+        return Err(ReportsFault::Report(name, Refusal::NamedTwice));
+    }
+    match names.first() {
+        Some(name) if refusal == InputRefusal::Split && vars >= MAX_SPLIT => {
+            Err(ReportsFault::Report(name.clone()?, Refusal::RefusedOther(vars)))
+        }
+        _ => Ok(()),
+    }
+}
+
+/// A name that stands at two places of the list, if there is one.
+fn named_twice(alloc: Global, names: &[String]) -> Result<Option<String>, AllocError> {
+    let sorted = sorted(alloc, names)?;
+    let mut before = None;
+    for name in sorted.iter() {
+        if before == Some(*name) {
+            return Ok(Some(String::from_str(alloc, *name)?));
+        }
+        before = Some(*name);
+    }
+    Ok(None)
+}
+
+fn sorted<'n>(alloc: Global, names: &'n [String]) -> Result<Vec<&'n str>, AllocError> {
+    let mut sorted = Vec::new(alloc);
+    for name in names {
+        sorted.push(name.as_str())?;
+    }
+    sorted.sort_unstable();
+    Ok(sorted)
 }
 
 /// Whether there are as many names as tasks, and the files of all these names refuse the text of the instance for this fault. Fails
@@ -182,6 +251,18 @@ fn refusal_of(fault: PartFault, text: &[u8], digest: &[u8; 32]) -> Refusal {
     } else if tells_status(text) && !has_line_of_heading(text) {
         Refusal::OfPiece
     } else {
-        Refusal::FaultyPart(fault)
+        match stray_line(fault, text) {
+            Some(clue) => Refusal::StrayPart(fault, clue),
+            None => Refusal::FaultyPart(fault),
+        }
+    }
+}
+
+/// What the line of the fault tells, where it is no line of the report of a task.
+fn stray_line(fault: PartFault, text: &[u8]) -> Option<Clue> {
+    match fault.kind {
+        PartKind::Heading => Clue::of(text, fault.line, true),
+        PartKind::Report(ReportKind::Syntax) => Clue::of(text, fault.line, false),
+        _ => None,
     }
 }

@@ -1,6 +1,7 @@
 //! Why the pieces were not written.
 ghost use Rattle.std.specs.Prelude.{◌≡◌};
 
+use crate::hints::hint_on_name;
 use pb_read::ReadFault;
 use pb_write::WriteFault;
 use std::alloc::AllocError;
@@ -46,6 +47,7 @@ impl PiecesFault<'_> {
             PiecesFault::Refused(_, _, hint)
             | PiecesFault::BadSplit(hint)
             | PiecesFault::TooManyCubes(hint) => hint.as_deref(),
+            PiecesFault::CannotRead(name, _) => hint_on_name(name),
             _ => None,
         }
     }

@@ -1,4 +1,4 @@
-//! The first line of a text, for a message.
+//! A line of a text, for a message.
 
 use crate::lines::line_at;
 use std::fmt;
@@ -6,7 +6,7 @@ use std::fmt;
 /// The most bytes that are shown. Chosen by hand, so that a message stays short.
 const LONGEST: usize = 60;
 
-/// The first bytes of a text's first line. They are shown with escapes for bytes that do not print or are not ASCII.
+/// The first bytes of a line of a text. They are shown with escapes for bytes that do not print or are not ASCII.
 #[derive(Clone, Copy, Debug)]
 pub struct Quote {
     bytes: [u8; LONGEST],
@@ -16,9 +16,14 @@ pub struct Quote {
 impl Quote {
     /// The first line of the text, or as much of it as is shown.
     pub fn of_first_line(text: &[u8]) -> Quote {
+        Quote::of_line(line_at(text, 0))
+    }
+
+    /// The line, or as much of it as is shown.
+    pub fn of_line(line: &[u8]) -> Quote {
         let mut bytes = [0; LONGEST];
         let mut len: usize = 0;
-        for (place, byte) in bytes.iter_mut().zip(line_at(text, 0)) {
+        for (place, byte) in bytes.iter_mut().zip(line) {
             *place = *byte;
             len = len.saturating_add(1);
         }

@@ -3,6 +3,7 @@ ghost use Rattle.std.specs.Prelude.{◌≡◌, ◌<◌, ◌++◌, ℕ, List, len
 ghost use Rattle.pb_files.specs.Reading.{HasIfAny, IfFaulty, IsReportOf, ReadsFaulty, ReadsInstance, ReadsReports};
 ghost use Rattle.pb_files.specs.Texts.{texts};
 
+use crate::clue::Clue;
 use crate::files::Files;
 use crate::hints::hint_on_instance;
 use crate::lines::tasks_told;
@@ -155,12 +156,43 @@ fn read_one<F: Files>(
 
 /// Why a text with this fault is not taken. Where it says nothing of the answer, its first line may tell why.
 fn refusal_of(fault: ReportFault, text: &[u8]) -> Refusal {
-    let text = text.trim_ascii_start();
-    if text.is_empty() || tells_status(text) {
-        Refusal::Faulty(fault)
-    } else {
-        Refusal::Foreign(fault, Quote::of_first_line(text))
+    let begun = text.trim_ascii_start();
+    if !begun.is_empty() && !tells_status(begun) {
+        return Refusal::Foreign(fault, Quote::of_first_line(begun));
     }
+    match stray_line(fault, text) {
+        Some(clue) => Refusal::Stray(fault, clue),
+        None => Refusal::Faulty(fault),
+    }
+}
+
+/// What the line of the fault tells, where it is no line of a report.
+fn stray_line(fault: ReportFault, text: &[u8]) -> Option<Clue> {
+    match fault.kind {
+        ReportKind::Syntax => Clue::of(text, fault.line, false),
+        _ => None,
+    }
+}
+
+/// The first of these files that is the report of a task on the instance of this digest, and the number of tasks that it tells.
+/// Files that cannot be read are passed over, unless memory runs out.
+pub fn report_of_task<'n, F: Files>(
+    digest: &[u8; 32],
+    names: &'n [String],
+    files: &mut F,
+) -> Result<Option<(&'n String, u32)>, Unread> {
+    for name in names {
+        match read_file(name, files) {
+            Ok(text) => {
+                if let Some(tasks) = tasks_told(&text, digest) {
+                    return Ok(Some((name, tasks)));
+                }
+            }
+            Err(Unread::Memory) => return Err(Unread::Memory),
+            Err(Unread::Refused(_)) => {}
+        }
+    }
+    Ok(None)
 }
 
 /// Whether a line of the text begins as one of a status does.

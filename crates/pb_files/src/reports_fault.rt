@@ -1,4 +1,6 @@
 //! What keeps reports from being joined.
+use crate::clue::Clue;
+use crate::hints::hint_on_name;
 use crate::quote::Quote;
 use pb_join::{PartRejection, Rejection};
 use pb_parts::PartFault;
@@ -29,8 +31,11 @@ pub enum IndexFault {
 #[derive(Clone, Copy, Debug, Error)]
 pub enum Refusal {
     /// Its name tells no piece.
-    #[error("the name has no number of a piece before its last dot")]
+    #[error("the name has no number of a piece before its last dot: leave out the report of a whole run or of a join")]
     NoNumber,
+    /// An earlier file has the same name.
+    #[error("the file is named twice")]
+    NamedTwice,
     /// It cannot be opened or read, for this reason.
     #[error("cannot be read: {0}")]
     Unreadable(io::Error),
@@ -40,15 +45,24 @@ pub enum Refusal {
     /// Its lines are no report, as the first of them may tell.
     #[error("{0}: its first line is {1}")]
     Foreign(ReportFault, Quote),
+    /// Its lines are no report, as the line of the fault may tell.
+    #[error("{0}: {1}")]
+    Stray(ReportFault, Clue),
     /// No piece can have its report.
     #[error("{0}")]
     Rejected(Rejection),
     /// Its lines are no report of a part.
     #[error("{0}")]
     FaultyPart(PartFault),
+    /// Its lines are no report of a part, as the line of the fault may tell.
+    #[error("{0}: {1}")]
+    StrayPart(PartFault, Clue),
     /// The run of its task refused its input, with this line.
     #[error("its run refused its input: {0}")]
     RefusedTask(Quote),
+    /// The run of its task refused a split, and the instance has this number of variables, enough for each split.
+    #[error("its run refused the split of another instance: the {0} variables of this one are enough for any")]
+    RefusedOther(u32),
     /// Its task searched nothing, and tells this instead.
     #[error("the task searched nothing: {0}")]
     SearchedNothing(Quote),
@@ -58,6 +72,9 @@ pub enum Refusal {
     /// It is the report of a piece, and those of tasks are asked for.
     #[error("it is the report of a piece: leave --tasks out")]
     OfPiece,
+    /// It is the report of no task, and others are reports of tasks.
+    #[error("it is the report of a whole run or of a join, and of no task: leave this file out")]
+    OfNoTask,
     /// No part can have its report.
     #[error("{0}")]
     RejectedPart(PartRejection),
@@ -78,6 +95,9 @@ pub enum ReportsFault<'a> {
     /// The file of a report or an index is refused.
     #[error("{0}: {1}")]
     Report(String, Refusal),
+    /// The file of a report is refused, since it does not go with that of the last name.
+    #[error("{0}: {1}: see {2}")]
+    Beside(String, Refusal, String),
     /// Neither the words nor an index tell how many pieces there are.
     #[error("the number of pieces is told neither by --pieces nor by an index")]
     NoNumber,
@@ -94,7 +114,17 @@ impl ReportsFault<'_> {
     pub fn hint(&self) -> Option<&str> {
         match self {
             ReportsFault::Refused(_, _, hint) => hint.as_deref(),
+            ReportsFault::CannotRead(name, _) => hint_on_name(name),
             _ => None,
+        }
+    }
+
+    /// Why the report in the file of this name is refused, which does not go with the report in another file, if that is known.
+    pub fn of_report<'a>(name: String, why: Refusal, other: Option<String>) -> ReportsFault<'a> {
+        match other {
+            Some(other) if *other == *name => ReportsFault::Report(name, Refusal::NamedTwice),
+            Some(other) => ReportsFault::Beside(name, why, other),
+            None => ReportsFault::Report(name, why),
         }
     }
 }

@@ -9,12 +9,12 @@ pub enum HintLine<'t> {
     /// The file of this name begins as a text of another format.
     #[error("{0} {1}")]
     Begins(&'t str, Beginning),
-    /// The hint on the text of an instance.
+    /// The hint on the text of the one instance.
     #[error("{0}")]
     OfInstance(Hint<'t>),
-    /// The file of cubes of this name, and the hint on its text.
+    /// The file of this name, and the hint on its text.
     #[error("{0}: {1}")]
-    OfCubes(&'t str, Hint<'t>),
+    OfFile(&'t str, Hint<'t>),
     /// The instance in the file has one variable, too few for this split.
     #[error("{file} has 1 variable, too few for --split {split}")]
     OneVariable {
@@ -39,6 +39,14 @@ impl<'t> HintLine<'t> {
         match hint {
             Hint::Begins(begins) => HintLine::Begins(file, begins),
             hint => HintLine::OfInstance(hint),
+        }
+    }
+
+    /// The line with this hint on the instance in the file of this name, which it names.
+    pub fn of_file(file: &'t str, hint: Hint<'t>) -> HintLine<'t> {
+        match hint {
+            Hint::Begins(begins) => HintLine::Begins(file, begins),
+            hint => HintLine::OfFile(file, hint),
         }
     }
 

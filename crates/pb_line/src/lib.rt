@@ -12,6 +12,7 @@ pub mod matched;
 mod options;
 pub mod parse;
 mod program;
+mod ranges;
 pub mod tasks;
 mod version;
 mod words;
@@ -26,5 +27,6 @@ pub use options::{
     workers_option,
 };
 pub use program::{Program, main_with};
+pub use ranges::tell_range;
 pub use version::VERSION;
 pub use words::{texts_of, words_of};

@@ -1,11 +1,8 @@
 //! Hints on standard error.
 use crate::args::Line;
 use crate::files::Rewind;
-use clap::Error;
-use clap::error::ErrorKind;
 use pb_hint::{HintLine, hint_on, hint_on_cubes};
-use pb_inst::{MAX_SPLIT, MAX_WORKERS};
-use pb_line::{MAX_NODES, tell_hint};
+use pb_line::tell_hint;
 use pb_read::{Format, ReadFault, read, read_cubes};
 use std::alloc::Global;
 use std::io::{Read, Write};
@@ -19,47 +16,6 @@ pub fn tell_of_one_piece<E: Write>(line: &Line<'_>, err: &mut E) {
             err,
             "pbcube: one worker searches the one piece: --split divides the work among several"
         );
-    }
-}
-
-/// Writes one line to the standard error where an option has a negative number, which clap takes to be an option of its own and
-/// refuses as an unknown one.
-pub fn tell_of_negative<E: Write>(fault: &Error, words: &[&str], err: &mut E) {
-    if fault.kind() != ErrorKind::UnknownArgument {
-        return;
-    }
-    let mut option = "";
-    for word in words {
-        if is_negative(*word)
-            && let Some((least, most)) = range_of(option)
-        {
-            let _ = writeln!(
-                err,
-                "pbcube: {option} takes a number from {least} to {most}"
-            );
-            return;
-        }
-        option = *word;
-    }
-}
-
-fn is_negative(word: &str) -> bool {
-    match word.strip_prefix("-") {
-        Some(digits) => !digits.is_empty() && digits.bytes().all(|byte| byte.is_ascii_digit()),
-        None => false,
-    }
-}
-
-/// The least and the greatest number that the option of this name takes.
-fn range_of(option: &str) -> Option<(u64, u64)> {
-    if option == "--workers" {
-        Some((1, u64::from(MAX_WORKERS)))
-    } else if option == "--split" {
-        Some((0, u64::from(MAX_SPLIT)))
-    } else if option == "--nodes" {
-        Some((0, MAX_NODES))
-    } else {
-        None
     }
 }
 
@@ -115,6 +71,6 @@ fn tell_of_instance<E: Write>(line: &Line<'_>, text: &[u8], fault: ReadFault, er
 /// Writes the hint on the cubes in the file of this name, if there is one.
 fn tell_of_cubes<E: Write>(name: &str, text: &[u8], vars: u32, fault: ReadFault, err: &mut E) {
     if let Some(hint) = hint_on_cubes(text, vars, fault) {
-        tell_hint("pbcube", Some(HintLine::OfCubes(name, hint)), err);
+        tell_hint("pbcube", Some(HintLine::OfFile(name, hint)), err);
     }
 }

@@ -10,16 +10,19 @@ ghost use Rattle.pb_solve.specs.Run.{Reports, ReportsFound};
 ghost use Rattle.pb_program.specs.Ending.{Ends, EndsWithoutMemory};
 
 use crate::args::Line;
-use crate::diagnose::{diagnose, tell_of_negative, tell_of_one_piece};
+use crate::diagnose::{diagnose, tell_of_one_piece};
 use crate::faults::{ProgramFault, tell};
 use crate::files::{Files, Rewind};
 use crate::parse::line;
 use clap::Error;
-use pb_line::{Untold, tell_fault};
+use pb_line::{Untold, tell_fault, tell_range};
 use pb_solve::{Device, Options, Ran, RunFault, Status, report_memory, run};
 use std::alloc::Global;
 use std::io::{Empty, Read, Write};
 use std::thread::Threads;
+
+/// The options that take a number.
+const OPTIONS: [&str; 3] = ["--workers", "--split", "--nodes"];
 
 /// Runs the program on its words, of which the first is its own name, and answers its exit status. The input is fetched first,
 /// and where it can be opened the cube file, if there is one. After a run the output has the report on the texts of these
@@ -42,7 +45,7 @@ pub fn program<'a, R: Threads + Sync, F: Files, W: Write, E: Write>(
     let line = match line(alloc, words) {
         Ok(line) => line,
         Err(fault) => {
-            tell_of_negative(&fault, words, err);
+            tell_range("pbcube", &OPTIONS, &fault, words, err);
             return end_without_run(&fault, out, err);
         }
     };

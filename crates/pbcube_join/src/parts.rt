@@ -14,7 +14,7 @@ use pb_files::{
     Files, PartReports, Refusal, ReportsFault, TaskReports, Whole, all_refuse_text, named_files,
     read_instance, read_tasks,
 };
-use pb_join::{JoinedParts, PartsFault, join_parts};
+use pb_join::{JoinedParts, PartRejection, PartsFault, join_parts};
 use pb_line::joining::Line;
 use pb_parts::PartReport;
 use pb_read::{Format, ReadFault};
@@ -181,7 +181,10 @@ fn join_part_reports<'a, W: Write>(
             joined,
             pieces: pieces_told(&read.parts),
         }),
-        Err(fault) => Err(fault_of(fault, read.names)),
+        Err(fault) => {
+            let other = name_of_other(&fault, &read);
+            Err(fault_of(fault, read.names, other))
+        }
     }
 }
 
@@ -190,8 +193,31 @@ fn pieces_told(parts: &[PartReport]) -> Option<u32> {
     Some(parts.first()?.heading.division.pieces)
 }
 
-/// Why the reports of parts from the files of these names were not joined.
-fn fault_of<'a>(fault: PartsFault, mut names: Vec<String>) -> ReportsFault<'a>
+/// The name of the file with the earlier report that the rejected one does not go with, if there is one and memory for it: the
+/// first that was read, or that of the same task.
+fn name_of_other(fault: &PartsFault, read: &PartReports) -> Option<String> {
+    let PartsFault::Report { place, why } = fault else {
+        return None;
+    };
+    let other = match why {
+        PartRejection::OtherDivision => 0,
+        PartRejection::Doubled => {
+            let task = read.parts.get(*place)?.heading.task;
+            read.parts
+                .iter()
+                .position(|part| part.heading.task == task)?
+        }
+        _ => return None,
+    };
+    read.names.get(other)?.clone().ok()
+}
+
+/// Why the reports of parts from the files of these names were not joined. The rejected one may not go with that in another file.
+fn fault_of<'a>(
+    fault: PartsFault,
+    mut names: Vec<String>,
+    other: Option<String>,
+) -> ReportsFault<'a>
     requires { (place : ℕ) → (why : Why) → fault ≡ PartsFault.Report place why → place < length names.items }
     ensures { fault ≡ PartsFault.Write → result ≡ ReportsFault.CannotWrite }
 {
@@ -199,7 +225,8 @@ fn fault_of<'a>(fault: PartsFault, mut names: Vec<String>) -> ReportsFault<'a>
         PartsFault::Write => ReportsFault::CannotWrite,
         PartsFault::Memory => ReportsFault::Memory,
         PartsFault::Report { place, why } => {
-            ReportsFault::Report(names.swap_remove(place), Refusal::RejectedPart(why))
+            let name = names.swap_remove(place);
+            ReportsFault::of_report(name, Refusal::RejectedPart(why), other)
         }
     }
 }

@@ -19,13 +19,16 @@ use pb_files::{
     Files, Named, Refusal, Reports, ReportsFault, Whole, count_pieces, named_files, read_instance,
     read_reports,
 };
-use pb_join::{JoinFault, Joined, PieceState, join};
+use pb_join::{JoinFault, Joined, PieceState, Rejection, join};
 use pb_line::joining::{Line, line};
-use pb_line::{LastFault, end_at_line, tell_failure, tell_hint};
+use pb_line::{LastFault, end_at_line, tell_failure, tell_hint, tell_range};
 use pb_read::Format;
 use pb_report::{Claim, Device, Status};
 use std::alloc::Global;
 use std::io::{self, Write};
+
+/// The options that take a number.
+const OPTIONS: [&str; 2] = ["--pieces", "--tasks"];
 
 /// Runs the program on its words, of which the first is its own name, and answers its exit status. Where the words are refused
 /// nothing is written. Nor is anything written after any other fault, unless clap found a fault in the words or the output has
@@ -47,7 +50,10 @@ pub fn program<'a, F: Files, W: Write, E: Write>(
 {
     let line = match line(alloc, words) {
         Ok(line) => line,
-        Err(fault) => return end_without_run(&fault, out, err),
+        Err(fault) => {
+            tell_range("pbcube_join", &OPTIONS, &fault, words, err);
+            return end_without_run(&fault, out, err);
+        }
     };
     match join_asked(alloc, &line, files, out, err) {
         Ok(status) => status.exit_status(),
@@ -141,12 +147,32 @@ fn join_files<'a, F: Files, W: Write, E: Write>(
             name_refused(&read, err);
             Ok(joined)
         }
-        Err(fault) => Err(fault_of(fault, read.names)),
+        Err(fault) => {
+            let other = name_of_other(&fault, &read);
+            Err(fault_of(fault, read.names, other))
+        }
     }
 }
 
-/// Why the reports from the files of these names were not joined.
-fn fault_of<'a>(fault: JoinFault, mut names: Vec<String>) -> ReportsFault<'a>
+/// The name of the file with the earlier report of the same piece as the rejected one, if there is one and memory for it.
+fn name_of_other(fault: &JoinFault, read: &Reports) -> Option<String> {
+    let JoinFault::Report {
+        place,
+        why: Rejection::Doubled,
+    } = fault
+    else {
+        return None;
+    };
+    let piece = read.reports.get(*place)?.number;
+    let other = read
+        .reports
+        .iter()
+        .position(|report| report.number == piece)?;
+    read.names.get(other)?.clone().ok()
+}
+
+/// Why the reports from the files of these names were not joined. The rejected one may not go with that in another file.
+fn fault_of<'a>(fault: JoinFault, mut names: Vec<String>, other: Option<String>) -> ReportsFault<'a>
     requires { (place : ℕ) → (why : Why) → fault ≡ JoinFault.Report place why → place < length names.items }
     ensures { fault ≡ JoinFault.Write → result ≡ ReportsFault.CannotWrite }
 {
@@ -154,7 +180,8 @@ fn fault_of<'a>(fault: JoinFault, mut names: Vec<String>) -> ReportsFault<'a>
         JoinFault::Write => ReportsFault::CannotWrite,
         JoinFault::Memory => ReportsFault::Memory,
         JoinFault::Report { place, why } => {
-            ReportsFault::Report(names.swap_remove(place), Refusal::Rejected(why))
+            let name = names.swap_remove(place);
+            ReportsFault::of_report(name, Refusal::Rejected(why), other)
         }
     }
 }

@@ -11,9 +11,12 @@ ghost use Rattle.pbcube_pieces.specs.Writing.{Divides, DividesAsAsked};
 use clap::Error;
 use pb_files::{Folders, PiecesFault, prepare, write_pieces};
 use pb_line::dividing::{Line, line};
-use pb_line::{end_at_line, tell_failure, tell_hint};
+use pb_line::{end_at_line, tell_failure, tell_hint, tell_range};
 use std::alloc::Global;
 use std::io::{self, Write};
+
+/// The options that take a number.
+const OPTIONS: [&str; 1] = ["--split"];
 
 /// Runs the program on its words, of which the first is its own name, and answers its exit status. The output is told how many
 /// pieces were written.
@@ -30,7 +33,10 @@ pub fn program<'a, F: Folders, W: Write, E: Write>(
 {
     let line = match line(alloc, words) {
         Ok(line) => line,
-        Err(fault) => return end_without_run(&fault, out, err),
+        Err(fault) => {
+            tell_range("pbcube_pieces", &OPTIONS, &fault, words, err);
+            return end_without_run(&fault, out, err);
+        }
     };
     let pieces = match write_all(alloc, folders, &line) {
         Ok(pieces) => pieces,

@@ -11,9 +11,9 @@ use crate::places::Places;
 use crate::reporting::report_part;
 use crate::searching::search;
 use clap::Error;
-use pb_files::{DivisionFault, Folders, prepare};
+use pb_files::{DivisionFault, Folders, hint_on_name, prepare};
 use pb_line::tasks::{Line, line};
-use pb_line::{LastFault, end_at_line, tell_failure, tell_hint};
+use pb_line::{LastFault, end_at_line, tell_failure, tell_hint, tell_range};
 use pb_notes::Notes;
 use pb_report::report_refusal;
 use pb_solve::{Device, Status, report_memory};
@@ -21,6 +21,9 @@ use pb_workers::SolveFault;
 use std::alloc::Global;
 use std::io::{self, Write};
 use std::thread::Threads;
+
+/// The options that take a number.
+const OPTIONS: [&str; 5] = ["--workers", "--split", "--nodes", "--task", "--tasks"];
 
 /// Runs the program on its words, of which the first is its own name, and answers its exit status. Whatever the notes say, what
 /// is written is right. Where the output notes its faults, these tell why it failed.
@@ -48,7 +51,10 @@ pub fn program<
 {
     let line = match line(alloc, words) {
         Ok(line) => line,
-        Err(fault) => return end_without_run(&fault, faults, out, err),
+        Err(fault) => {
+            tell_range("pbcube_task", &OPTIONS, &fault, words, err);
+            return end_without_run(&fault, faults, out, err);
+        }
     };
     match run_task(rt, alloc, &line, folders, places, out, err) {
         Ok(status) => status.exit_status(),
@@ -145,14 +151,15 @@ fn end_without_run<W: Write, E: Write>(
 }
 
 /// Writes one line to the standard error with the reason, unless whoever reads the output wants no more of it. A file that
-/// cannot be read has a reason of its own.
+/// cannot be read has a reason of its own, and perhaps a second line with what may help.
 fn end_at_fault<E: Write>(fault: ProgramFault<'_>, of_output: Option<io::Error>, err: &mut E) -> u8
     ensures { result ≡ 1 }
 {
-    let reason = match fault {
-        ProgramFault::CannotRead(_, reason) => Some(reason),
-        ProgramFault::CannotWrite => of_output,
+    let (reason, hint) = match fault {
+        ProgramFault::CannotRead(name, reason) => (Some(reason), hint_on_name(name)),
+        ProgramFault::CannotWrite => (of_output, None),
     };
     tell_failure("pbcube_task", fault, reason, err);
+    tell_hint("pbcube_task", hint, err);
     1
 }

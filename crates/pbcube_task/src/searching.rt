@@ -65,7 +65,8 @@ fn place_of<N, P: Places<N>, E: Write>(
         Err(fault) => {
             let _ = writeln!(
                 err,
-                "pbcube_task: cannot use {folder}, so this task exchanges no assignments: {fault}"
+                "pbcube_task: cannot use {folder}, so task {} exchanges no assignments: {fault}",
+                line.task
             );
             Ok(None)
         }
