@@ -402,7 +402,6 @@ PBCUBE = [
         for words, word in ((" -1", "-1"), ("=-1", "-1"), (" x", "x"), ("=1e3", "1e3"), (f" {10**20}", 10**20))
     ),
     refused_number("--workers -4 tie.opb", "-4", "--workers takes a number from 1 to 64"),
-    refused("--nothing --split -1 tie.opb", "'--nothing'"),
     refused("--split 99 tie.opb", "99 is not in 0..=12"),
     refused("-1 tie.opb", "'-1'"),
     refused("--split 1 --split 2 tie.opb", "multiple times"),
