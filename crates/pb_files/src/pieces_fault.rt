@@ -43,11 +43,13 @@ pub enum PiecesFault<'a> {
 impl PiecesFault<'_> {
     /// What may help with the input, if there is such a hint.
     pub fn hint(&self) -> Option<&str> {
+        if let PiecesFault::CannotRead(name, _) = self {
+            return hint_on_name(name);
+        }
         match self {
             PiecesFault::Refused(_, _, hint)
             | PiecesFault::BadSplit(hint)
             | PiecesFault::TooManyCubes(hint) => hint.as_deref(),
-            PiecesFault::CannotRead(name, _) => hint_on_name(name),
             _ => None,
         }
     }
