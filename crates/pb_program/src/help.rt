@@ -34,7 +34,7 @@ the number of workers changes a byte of the answer.
 With --nodes B the search of a piece stops if it needs more than B decisions: the
 piece is cut. Then the answer is the best assignment that was found, as
 s SATISFIABLE with its cost and values, or s UNKNOWN alone if none was found.
-K pieces take at most B times K decisions in all. If a piece is cut and there are
+P pieces take at most B times P decisions in all. If a piece is cut and there are
 several workers, the bytes may differ from run to run. Otherwise they never do.
 
 The cubes of an iCNF file divide the work and are not part of the instance. Other
