@@ -270,7 +270,7 @@ static bool hints(int format, const char *text, const char *expected)
 static void hinted_texts(void)
 {
     EXPECT(hints(PBCUBE_OPB, "1 x1 > 0 ;", "line 1, column 6: '>': write >= and the least number allowed, as >= 2 for > 1"));
-    EXPECT(hints(PBCUBE_ICNF, "p cnf 1 1\n1 0\n", "the text begins as DIMACS CNF: --format cnf reads it"));
+    EXPECT(hints(PBCUBE_ICNF, "p cnf 1 1\n1 0\n", "the text begins as DIMACS CNF: give --format cnf"));
     EXPECT(hints(PBCUBE_OPB, "1 x1 >= 0 ;", "") && hints(PBCUBE_OPB, "", "") && hints(3, "1 x1 > 0 ;", ""));
     EXPECT(pbcube_hint(PBCUBE_OPB, NULL, 0, NULL, 0) == 0);
 }

@@ -86,7 +86,7 @@ def hints(words):
     """Refused texts have the hints of the program, which names another format by an option; and refused calls have its words."""
     known = [*((form, text, f"the text {hint}") for form, text, hint in BEGUN), *PLACED]
     say(f"the hints on {len(known)} refused texts")
-    owed = [re.sub(r"--format (\w+) reads it$", r"format: '\1' reads it", hint) for _, _, hint in known]
+    owed = [re.sub(r"give --format (\w+)$", r"give format: '\1'", hint) for _, _, hint in known]
     pairs = zip(known, solved(words, known), owed, strict=True)
     wrong = [f"{text[:200]}: {said}, and not {hint}" for (_, text, _), said, hint in pairs if said.get("hint") != hint]
     source, shared = (JS / "src/errors.mjs").read_text(), (SMALL_SUMS.replace("^", "**"), LIMITS, TO_MOST)

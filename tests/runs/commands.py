@@ -280,7 +280,7 @@ PRODUCT_IN_FILE = f"product.opb: {PRODUCT_HINT}"
 IS_STDIN = "/dev/stdin is the name of standard input"
 SECOND_OVER_HINT = "second_over.cubes: line 2, column 3: '4': variables are numbered from 1 to 3"
 LATE_CLAUSE_HINT = "late_clause.cnf: line 12: the header says that the number of clauses is 0, but it is 1: write 1 there"
-IS_OPB_HINT = "tie.opb begins as OPB: --format opb reads it"
+IS_OPB_HINT = "tie.opb begins as OPB: give --format opb"
 FEW_HINT = "tie.opb has 3 variables, too few for --split 4"
 PRODUCT = hinted("product.opb", "NonLinear", PRODUCT_HINT)
 SHORT_HELP = """\
@@ -359,13 +359,13 @@ PBCUBE = [
     Row(
         "one_clause.cnf",
         f"c refused: Unfinished at line 1\n{UNSUPPORTED}",
-        "pbcube: one_clause.cnf begins as DIMACS CNF: --format cnf reads it\n",
+        "pbcube: one_clause.cnf begins as DIMACS CNF: give --format cnf\n",
     ),
     Row("older_spelling.opb", f"c refused: Syntax at line 2\n{UNSUPPORTED}", f"pbcube: line 2, column 1: '+1*x1': {PART}\n"),
     Row(
         "--format cnf tie.opb",
         f"c refused: BadHeader at line 1\n{UNSUPPORTED}",
-        "pbcube: tie.opb begins as OPB: --format opb reads it\n",
+        "pbcube: tie.opb begins as OPB: give --format opb\n",
     ),
     # files that are not there or cannot be read: both are opened before one is read, and the input is first in each
     unread("none.opb", "none.opb"),

@@ -105,7 +105,7 @@ CASES = [
     Case("product.opb", Ended(f"c refused: NonLinear at line 1\n{UNSUPPORTED}", PRODUCT, 0)),
     solved("long.opb", f"s SATISFIABLE\nv{''.join(f' -x{i}' for i in range(1, 1000))} x1000\n", 10),
     Case("--split 2 contradiction.opb", Ended(f"c refused split: BadSplit\n{UNSUPPORTED}", FEW, 0)),
-    Case("clauses.cnf", Ended(f"c refused: Unfinished at line 1\n{UNSUPPORTED}", "pbcube: clauses.cnf begins as DIMACS CNF: --format cnf reads it\n", 0)),
+    Case("clauses.cnf", Ended(f"c refused: Unfinished at line 1\n{UNSUPPORTED}", "pbcube: clauses.cnf begins as DIMACS CNF: give --format cnf\n", 0)),
     Case("older.opb", Ended(f"c refused: Syntax at line 2\n{UNSUPPORTED}", OLDER, 0)),
     Case("none.opb", Ended("", "pbcube: cannot read none.opb\n", 1)),
 ]

@@ -490,7 +490,7 @@ def hint_facts():
     begun = [(format, text, f"the text {hint}") for format, text, hint in BEGUN]
     for format, text, hint in [*begun, *PLACED]:
         for call, reads in ((solve, "solve"), (Model.read, "Model.read")):
-            told = re.sub(r"--format (\w+) reads it$", rf"{reads}(text, '\1') reads it", hint)
+            told = re.sub(r"give --format (\w+)$", rf"call {reads}(text, '\1')", hint)
             fault = raised(lambda: call(text, format))
             yield f"{reads} of {text!r}: {fault!r} and not {told}", isinstance(fault, Refused) and fault.hint == told
 

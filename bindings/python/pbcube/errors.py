@@ -69,4 +69,4 @@ def refused(name: str, line: int, text: bytes, format: str, reads: str = "solve"
     if _LIKE_A_PATH.fullmatch(text):
         return Refused(name, line, f"the text is like the name of a file, and {os.fsdecode(text)!r} is not there")
     hint = hint_on(loaded, text, FORMATS[format])
-    return Refused(name, line, re.sub("--format ([a-z]+)", rf"{reads}(text, '\1')", hint))
+    return Refused(name, line, re.sub("give --format ([a-z]+)", rf"call {reads}(text, '\1')", hint))

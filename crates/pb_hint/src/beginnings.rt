@@ -36,13 +36,13 @@ pub enum Beginning {
     #[error("begins as MPS, which is not read: save it as LP, which the client pbcube-lp solves")]
     Mps,
     /// Its first line that is no comment is the header of DIMACS CNF.
-    #[error("begins as DIMACS CNF: --format cnf reads it")]
+    #[error("begins as DIMACS CNF: give --format cnf")]
     Cnf,
     /// Its first line that is no comment is the header of iCNF.
-    #[error("begins as iCNF: --format icnf reads it")]
+    #[error("begins as iCNF: give --format icnf")]
     Icnf,
     /// Its first line that is no comment is a constraint or the objective of OPB, or it has a header of OPB.
-    #[error("begins as OPB: --format opb reads it")]
+    #[error("begins as OPB: give --format opb")]
     Opb,
 }
 
