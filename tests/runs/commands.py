@@ -500,6 +500,8 @@ PIECES = [
         for words, word in ((" -1", "-1"), ("=-1", "-1"), (" x", "x"))
     ),
     refused("--nodes -1 --out pieces tie.opb", "'--nodes'"),
+    refused("--out '' tie.opb", "'--out <DIR>'"),
+    refused("--out= tie.opb", "'--out"),
     refused_with_hint("pbcube_pieces", "--out pieces -", f"cannot read -: {MISSING}", IS_STDIN),
     *told_version("pbcube_pieces"),
 ]
@@ -605,6 +607,8 @@ TASK = [
     refused("--task 0 --tasks 0 tie.opb", "0 is not in 1..=4294967295"),
     refused("--task 0 --tasks 4294967296 tie.opb", "4294967296 is not in 1..=4294967295"),
     refused("--task 1 --tasks 1 tie.opb", "the number of --task is below that of --tasks"),
+    refused("--task 0 --tasks 1 --exchange '' tie.opb", "'--exchange <DIR>'"),
+    refused("--task 0 --tasks 1 --exchange= tie.opb", "'--exchange"),
     refused("--format wcnf --task 0 --tasks 1 tie.opb", "opb, cnf and icnf"),
     refused("--workers 65 --task 0 --tasks 1 tie.opb", "65 is not in 1..=64"),
     *(

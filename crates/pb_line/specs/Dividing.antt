@@ -2,14 +2,15 @@
 use Rattle.std.specs.Prelude.{◌≡◌, List, Some, option_map, codes, refl, true, IsSomeAnd}
 use Rattle.clap.proofs.OnLiterals.{clap_on_literals}
 use Rattle.clap.specs.Words.{App, Row, Rule, first_of, is_simple_and_free, new_rule, one_of, with_rule}
+use Rattle.clap.specs.declared.builder.ValueParser.TheVariants as parser
 use Rattle.pb_line.specs.Options.{cubes, file, format, split, with_version}
 use Rattle.pb_line.specs.Values.{Spells}
 use Rattle.pb_line.specs.declared.dividing.args.Line.{Line}
 use Rattle.pb_read.specs.Format.{format_name}
 
--- `--out`, which has to be there
+-- `--out`, which has to be there and is not empty
 abbrev pub out : Rule
-out = record (new_rule (codes "out")) { long = Some (codes "out"); required = true; value_names = 1 }
+out = record (new_rule (codes "out")) { long = Some (codes "out"); required = true; value_names = 1; parser = Some parser.NonEmptyString }
 
 -- `pbcube_pieces [--format FORMAT] [--split K] [--cubes FILE] --out DIR FILE`
 unfoldable pub pbcube_pieces : App

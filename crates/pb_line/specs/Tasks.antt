@@ -18,9 +18,9 @@ task = record (new_rule (codes "task")) { long = Some (codes "task"); required =
 abbrev pub tasks : Rule
 tasks = record (new_rule (codes "tasks")) { long = Some (codes "tasks"); required = true; value_names = 1; parser = Some (parser.Unsigned 1 MAX_TASKS) }
 
--- `--exchange`
+-- `--exchange`, which is not empty
 abbrev pub exchange : Rule
-exchange = record (new_rule (codes "exchange")) { long = Some (codes "exchange"); value_names = 1 }
+exchange = record (new_rule (codes "exchange")) { long = Some (codes "exchange"); value_names = 1; parser = Some parser.NonEmptyString }
 
 -- `pbcube_task [--format FORMAT] [--workers W] [--split K] [--cubes FILE] [--nodes B] --task I --tasks T [--exchange DIR] FILE`
 unfoldable pub pbcube_task : App

@@ -6,6 +6,7 @@ ghost use Rattle.pb_line.specs.Dividing.{pbcube_pieces, out};
 use crate::dividing::help::{ABOUT, EXAMPLES_AND_STATUSES, LONG_ABOUT};
 use crate::help::{CUBES_HELP, FILE_HELP, FORMAT_HELP, SPLIT_HELP};
 use crate::options::{cubes_option, file_operand, format_option, named, split_option};
+use clap::builder::ValueParser;
 use clap::{Arg, Command};
 use std::alloc::{AllocError, Global};
 
@@ -29,7 +30,7 @@ pub fn command<'a>(alloc: Global) -> Result<Command<'a>, AllocError>
     Ok(command)
 }
 
-// `--out DIR`
+// `--out DIR`. An empty DIR would put the pieces at the root of all folders.
 fn out_option<'a>(alloc: Global) -> Arg<'a>
     ensures rule { rule_of result ≡ out }
     ensures local { result.global ≡ false }
@@ -39,4 +40,5 @@ fn out_option<'a>(alloc: Global) -> Arg<'a>
         .required(true)
         .value_name("DIR")
         .help("Folder for the pieces and their index; created if it does not exist")
+        .value_parser(ValueParser::NonEmptyString)
 }

@@ -65,7 +65,7 @@ fn tasks_option<'a>(alloc: Global) -> Arg<'a>
         .value_parser(ValueParser::Unsigned(1, MAX_TASKS))
 }
 
-// `--exchange DIR`
+// `--exchange DIR`. An empty DIR would put the notes at the root of all folders.
 fn exchange_option<'a>(alloc: Global) -> Arg<'a>
     ensures rule { rule_of result ≡ exchange }
     ensures local { result.global ≡ false }
@@ -74,4 +74,5 @@ fn exchange_option<'a>(alloc: Global) -> Arg<'a>
         .long("exchange")
         .value_name("DIR")
         .help(EXCHANGE_HELP)
+        .value_parser(ValueParser::NonEmptyString)
 }
