@@ -2,11 +2,14 @@
 
 IS_WCNF = "begins as WCNF, which is not read: write it as OPB, with the weights in min:"
 IS_MARKED = "begins with a byte order mark: save it as ASCII, without one"
+BY_CR = "ends lines with CR alone: end them with LF"
 NO_PRODUCT = "no product is read: put a new variable in its place, with constraints that make it equal to the product"
 NO_SOFT = "no soft constraint is read: give each a variable that satisfies it, with its weight in min:"
 TO_MOST = "variables are numbered from 1 to 1048576"
 NO_LP = "begins as LP, which is not read: the client pbcube-lp solves it"
 NO_MPS = "begins as MPS, which is not read: save it as LP, which the client pbcube-lp solves"
+NO_FLATZINC = "begins as FlatZinc, which is not read: the client fzn-pbcube reads what MiniZinc writes for it"
+NO_CUDF = "begins as CUDF, which is not read: give it to mccs, with -pblib and the path of pbcube"
 WEIGH = "write a number before each literal, as 1 x1"
 NEGATE = "write 1 ~x1 for the negation of x1, or -1 x1 for a negative coefficient"
 SIGN = "write the sign with a number, without a space, as -1 x1"
@@ -57,8 +60,26 @@ BEGUN = [
     ("opb", b"\\ a model\nMinimize\n obj: 2 x + 3 y\nSubject To\n x + y >= 1\nBinaries\n x y\nEnd\n", NO_LP),
     ("cnf", b"max\n 3 x\nst\n x <= 1\nEnd\n", NO_LP),
     ("opb", b"* a model\nNAME          model\nROWS\n N  cost\n", NO_MPS),
+    ("opb", b"% a model\narray [1..2] of int: c = [1,1];\nvar 0..1: x1:: output_var;\nsolve satisfy;\n", NO_FLATZINC),
+    ("cnf", b"var 0..1: x1:: output_var;\nsolve satisfy;\n", NO_FLATZINC),
+    ("opb", b"predicate p(var int: x);\n", NO_FLATZINC),
+    ("opb", b"int: n = 1;\n", NO_FLATZINC),
+    ("opb", b"constraint int_le(x, 1);\n", NO_FLATZINC),
+    ("opb", b"# a question\npreamble: \n\npackage: car\nversion: 1\n", NO_CUDF),
+    ("icnf", b"package: car\nversion: 1\n", NO_CUDF),
+    ("opb", b"; a question\n(set-logic QF_LIA)\n(check-sat)\n", "begins as SMT-LIB, which is not read"),
+    ("cnf", b"(declare-const a Bool)\n", "begins as SMT-LIB, which is not read"),
+    ("opb", b"(assert true)\n", "begins as SMT-LIB, which is not read"),
+    ("opb", b'{\n  "x1": 1\n}\n', "begins as JSON, which is not read"),
+    ("cnf", b"[\n  [1, 2]\n]\n", "begins as JSON, which is not read"),
+    ("opb", b'[ {"x1": 1}]\n', "begins as JSON, which is not read"),
+    ("opb", b'<?xml version="1.0"?>\n<instance/>\n', "begins as XML, which is not read"),
+    ("cnf", b"%PDF-1.4\n", "begins as PDF, which is not read"),
     ("opb", b"\xef\xbb\xbf1 x1 >= 1 ;\n", IS_MARKED),
     ("icnf", b"\xff\xfep\x00", IS_MARKED),
+    ("opb", b"1 x1 >= 1 ;\r* a comment\r1 x2 >= 1 ;\r", BY_CR),
+    ("cnf", b"p cnf 2 1\r1 2 0\r", BY_CR),
+    ("icnf", b"c a comment\rp inccnf\r1 2 0\r", BY_CR),
     ("cnf", b"c a comment\np wcnf 2 2 9\n9 1 2 0\n1 -1 0\n", IS_WCNF),
     ("opb", b"c a comment\nh 1 2 0\n1 -1 0\n", IS_WCNF),
 ]
@@ -121,6 +142,8 @@ PLACED = [
     ("opb", b"min: 1 x1 ;\nat_least:+1 x1 >= 1 ;\n", f"line 2, column 1: 'at_least:': {UNNAME}"),
     ("opb", b"min: 1 x1\n 2 x2 ; foo >= 1 ;\n", f"line 2, column 9: 'foo': {BEGIN}"),
     ("opb", b"foo\n", f"line 1, column 1: 'foo': {BEGIN}"),
+    ("opb", b"package: 1 x1 >= 1 ;\n", f"line 1, column 1: 'package:': {UNNAME}"),
+    ("opb", b"[2] 1 x1 >= 1 ;\n", "line 1, column 1: '[2]'"),
     ("opb", b"1 x1 >= 1 ;;\n", f"line 1, column 12: ';': {END_ONCE}"),
     ("opb", "1 x1 \u2265 1 ;\n".encode(), "line 1, column 6: '\\xe2\\x89\\xa5': write >="),
     ("opb", "1 x1\u22641 ;\n".encode(), "line 1, column 3: 'x1\\xe2\\x89\\xa41': write <="),

@@ -26,6 +26,9 @@ pub enum Beginning {
     /// It has the bytes that editors put before texts in Unicode.
     #[error("begins with a byte order mark: save it as ASCII, without one")]
     ByteOrderMark,
+    /// It has CR where LF should end a line, and no LF.
+    #[error("ends lines with CR alone: end them with LF")]
+    CarriageReturns,
     /// Its first line that is no comment is the header of WCNF, or a hard clause of its newer form.
     #[error("begins as WCNF, which is not read: write it as OPB, with the weights in min:")]
     Wcnf,
@@ -35,6 +38,15 @@ pub enum Beginning {
     /// Its first line that is no comment begins a section of MPS.
     #[error("begins as MPS, which is not read: save it as LP, which the client pbcube-lp solves")]
     Mps,
+    /// Its first line that is no comment declares something as FlatZinc does, or is a constraint of it.
+    #[error("begins as FlatZinc, which is not read: the client fzn-pbcube reads what MiniZinc writes for it")]
+    FlatZinc,
+    /// Its first line that is no comment begins a stanza of CUDF.
+    #[error("begins as CUDF, which is not read: give it to mccs, with -pblib and the path of pbcube")]
+    Cudf,
+    /// Its first bytes, or its first line that is no comment, are as in this format, which no program here reads.
+    #[error("begins as {0}, which is not read")]
+    Unread(&'static str),
     /// Its first line that is no comment is the header of DIMACS CNF.
     #[error("begins as DIMACS CNF: give --format cnf")]
     Cnf,
@@ -57,9 +69,13 @@ impl Beginning {
             | Beginning::Bzip2
             | Beginning::Zstd
             | Beginning::ByteOrderMark
+            | Beginning::CarriageReturns
             | Beginning::Wcnf
             | Beginning::Lp
-            | Beginning::Mps => false,
+            | Beginning::Mps
+            | Beginning::FlatZinc
+            | Beginning::Cudf
+            | Beginning::Unread(_) => false,
             Beginning::Cnf => format == Format::Cnf,
             Beginning::Icnf => format == Format::Icnf,
             Beginning::Opb => format == Format::Opb,
@@ -86,7 +102,7 @@ pub fn begins_as(text: &[u8]) -> Option<Beginning> {
 
 /// Whether a line is a comment of some format.
 fn is_comment(line: &[u8]) -> bool {
-    matches!(line.first(), Some(b'c' | b'*' | b'#' | b'\\'))
+    matches!(line.first(), Some(b'c' | b'*' | b'#' | b'\\' | b'%' | b';'))
 }
 
 /// Which format has this line as its first one, though it is no header. LP ends no statement with a mark, as OPB does.
@@ -123,7 +139,7 @@ pub fn is_among(word: &[u8], words: &[&str]) -> bool {
         .any(|it| word.eq_ignore_ascii_case(it.as_bytes()))
 }
 
-/// What a text is by its first bytes alone.
+/// What a text is by its first bytes, or by the ends of its lines.
 fn first_bytes(text: &[u8]) -> Option<Beginning> {
     if text.starts_with(b"\x1f\x8b") {
         Some(Beginning::Gzip)
@@ -135,9 +151,20 @@ fn first_bytes(text: &[u8]) -> Option<Beginning> {
         Some(Beginning::Zstd)
     } else if is_marked(text) {
         Some(Beginning::ByteOrderMark)
+    } else if text.starts_with(b"<?xml") {
+        Some(Beginning::Unread("XML"))
+    } else if text.starts_with(b"%PDF") {
+        Some(Beginning::Unread("PDF"))
+    } else if has_carriage_returns(text) {
+        Some(Beginning::CarriageReturns)
     } else {
         None
     }
+}
+
+/// Whether CR stands between other bytes of a text that has no LF.
+fn has_carriage_returns(text: &[u8]) -> bool {
+    text.find_byte(b'\n').is_none() && text.trim().find_byte(b'\r').is_some()
 }
 
 /// Whether a byte order mark of UTF-8 or of UTF-16 comes first.
@@ -157,7 +184,51 @@ fn header(line: &[u8]) -> Option<Beginning> {
         Some(b"wcnf") if is_headed => Some(Beginning::Wcnf),
         _ if line.starts_with(b"h ") => Some(Beginning::Wcnf),
         _ if line.starts_with(b"min:") || is_opb_header(line) => Some(Beginning::Opb),
-        _ => None,
+        _ => unread(line),
+    }
+}
+
+/// Which format that is not read has such a line at its beginning. No line of OPB, CNF or iCNF that is accepted begins so.
+fn unread(line: &[u8]) -> Option<Beginning> {
+    if is_flatzinc(line) {
+        Some(Beginning::FlatZinc)
+    } else if is_cudf(line) {
+        Some(Beginning::Cudf)
+    } else if is_smt_lib(line) {
+        Some(Beginning::Unread("SMT-LIB"))
+    } else if is_json(line) {
+        Some(Beginning::Unread("JSON"))
+    } else {
+        None
+    }
+}
+
+/// Whether a line begins a declaration of FlatZinc, or is a constraint of it. A comment of CNF may begin with that word too.
+fn is_flatzinc(line: &[u8]) -> bool {
+    line.starts_with(b"var ")
+        || line.starts_with(b"array [")
+        || line.starts_with(b"predicate ")
+        || line.starts_with(b"int:")
+        || (line.starts_with(b"constraint ") && line.ends_with(b";"))
+}
+
+/// Whether a line begins a stanza of CUDF, and no constraint of such a name.
+fn is_cudf(line: &[u8]) -> bool {
+    (line.starts_with(b"preamble:") || line.starts_with(b"package:"))
+        && line.find_byte(b';').is_none()
+}
+
+/// Whether a line begins a command of SMT-LIB.
+fn is_smt_lib(line: &[u8]) -> bool {
+    line.starts_with(b"(set-") || line.starts_with(b"(declare-") || line.starts_with(b"(assert")
+}
+
+/// Whether a line begins an object of JSON, or an array of objects, arrays or texts. The weight of a soft constraint, as in
+/// `[2] 1 x1 >= 1 ;`, is none of these.
+fn is_json(line: &[u8]) -> bool {
+    match line.strip_prefix(b"[") {
+        Some(rest) => matches!(rest.trim_start().first(), None | Some(b'{' | b'[' | b'"')),
+        None => line.starts_with(b"{"),
     }
 }
 
