@@ -9,7 +9,7 @@
 # cores keep all cores busy: a task that has ended leaves its note for those that begin later.
 # A lost host or a killed task costs its share alone: the same words once more run the tasks that have no report, or one that was
 # cut off or in which a piece was cut, and join all. A FOLDER with a report of another file, split or number of tasks is refused,
-# with status 2, as are words that are wrong.
+# with status 2, as is one with a report that is none of a task, and as are words that are wrong.
 set -euo pipefail
 [ $# -ge 5 ] && [ $# -le 6 ] || { echo "usage: parallel-tasks.sh FILE FORMAT SPLIT TASKS FOLDER [HOSTS]" >&2; exit 2; }
 file=$(realpath -m "$1") format=$2 split=$3 tasks=$4 hosts=()
@@ -40,6 +40,10 @@ is_cut_off() { # whether it is the beginning of a task's report, or of nothing b
   [[ 'c part ' == "$(head -c 7 "$1" | tr -d '\0')"* ]] && ! has_end "$1"
 }
 
+has_heading() { # whether its first line is that of a task's report
+  head -n 1 "$1" | grep -qE '^c part [0-9]+ of [0-9]+ of instance [0-9a-f]{64}$'
+}
+
 digest=$(sha256sum < "$file" | cut -d ' ' -f 1)
 for report in *.report; do
   [ -s "$report" ] || continue
@@ -48,9 +52,9 @@ for report in *.report; do
     continue
   fi
   heading="c part ${report%.report} of $tasks of instance $digest"$'\nc pieces '
-  if [[ $(head -n 2 "$report") != "$heading"*" split $split cubes none" ]]; then
-    refuse "$folder/$report is of another file, split or number of tasks"
-  fi
+  has_heading "$report" || refuse "$folder/$report is no report of a task: its first line is '$(head -n 1 "$report" | head -c 99 | cat -v)'"
+  [[ $(head -n 2 "$report") == "$heading"*" split $split cubes none" ]] ||
+    refuse "$folder/$report is of another file, split or number of tasks: take another folder"
 done
 
 missing() { # the tasks that have no report, or an empty one, or one in which a piece was cut

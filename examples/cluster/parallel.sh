@@ -5,8 +5,8 @@
 #
 # HOSTS is a file of `cores/host` lines for --sshloginfile (each host has pbcube on its path); without it the cores here serve.
 # A lost host or a killed solver costs its pieces alone: the same words once more solve the pieces that have no report, and join
-# all. A FOLDER with the pieces of another file or of another split, or with reports and no index or an index that is newer, is
-# refused, with status 2, as are words that are wrong.
+# all. A FOLDER with the pieces of another file or of another split, with pieces or reports and no index, or with an index that is
+# newer than a report, is refused, with status 2, as are words that are wrong.
 set -euo pipefail
 [ $# -ge 4 ] && [ $# -le 5 ] || { echo "usage: parallel.sh FILE FORMAT SPLIT FOLDER [HOSTS]" >&2; exit 2; }
 file=$1 format=$2 split=$3 folder=$4 hosts=() where='$PWD' # the folder of a piece, once it runs
@@ -14,6 +14,10 @@ file=$1 format=$2 split=$3 folder=$4 hosts=() where='$PWD' # the folder of a pie
 told() { # what the index tells under this word
   sed -n "s/^$1 //p" "$folder/index"
 }
+
+has_pieces() { # whether a first piece is there, of any number of digits
+  compgen -G "$folder/0*.opb" || compgen -G "$folder/0*.cnf"
+} > /dev/null
 
 refuse() {
   echo "parallel.sh: $1" >&2
@@ -35,6 +39,8 @@ if [ -e "$folder/index" ]; then
   # One piece for each cube of the split, one for each that an iCNF file has itself, and the remainder.
   pieces=$((1 + (split > 0 ? 1 << split : 0)))
   [ "$format" != icnf ] || pieces=$((pieces + $(sed '/^[[:space:]]*%/q' "$file" | grep -cE '^[[:space:]]*a([[:space:]]|$)' || true)))
+  [ "$(tail -n +5 "$folder/index" | wc -l)" = "$(told pieces)" ] ||
+    refuse "$folder/index is not whole, so the cut was not finished: remove it and the pieces, or take another folder"
   [ "$(told sha256)" = "$(sha256sum < "$file" | cut -d ' ' -f 1)" ] || refuse "$folder has the pieces of another file than $file"
   [ "$(told pieces)" = "$pieces" ] || refuse "$folder has $(told pieces) pieces, and this split makes $pieces"
   for report in "$folder"/*.report; do
@@ -44,6 +50,7 @@ if [ -e "$folder/index" ]; then
 else
   # No report is tied to its piece, so one of an earlier cut would be taken for that of a new piece.
   ! compgen -G "$folder/*.report" > /dev/null || refuse "$folder has reports of pieces that were cut before: take another folder"
+  ! has_pieces || refuse "$folder has pieces and no index, so their cut was not finished: remove them, or take another folder"
   pbcube_pieces "$file" --format "$format" --split "$split" --out "$folder" >&2
 fi
 

@@ -44,7 +44,11 @@ if [ ! -e division ]; then
   mv -n "$part" division || true
   rm -f "$part"
 fi
-[ "$(cat division)" = "$division" ] || refuse "$PWD is of another file, split or number of tasks"
+if [ "$(cat division)" != "$division" ]; then
+  advice='take another folder'
+  grep -qs '^c part ' ./*.report || advice+=", or remove $PWD/division, since none of its tasks has a result"
+  refuse "$PWD is of another file, split or number of tasks: $advice"
+fi
 ! grep -qsx 'c cut' "$task.report" || ! has_end "$task.report" || exit 0
 
 # With the statuses 0 and 10 what begins like a part is one, and what is refused is for the join, which tells it where all tasks

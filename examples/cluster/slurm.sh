@@ -32,7 +32,11 @@ exec 3>&2 2> "$log"
 trap 'if [ -s "$log" ]; then cat "$log" >&3 || true; else rm -f "$log"; fi' EXIT
 a_task=${2:-1}
 [[ $a_task =~ ^[1-9][0-9]{0,8}$ ]] || refuse "PIECES is a number from 1 to 999999999, and not '$a_task'"
-[ -f index ] || refuse "$1 has no index: pbcube_pieces cuts an instance into it"
+if [ ! -f index ]; then
+  ! compgen -G '0*.opb' > /dev/null && ! compgen -G '0*.cnf' > /dev/null ||
+    refuse "$1 has pieces and no index, so their cut was not finished: remove them, and cut again"
+  refuse "$1 has no index: pbcube_pieces cuts an instance into it"
+fi
 # No report is tied to its piece, so one of an earlier cut would be taken for that of a new piece.
 for report in *.report; do
   [ ! -s "$report" ] || [ ! "$report" -ot index ] ||

@@ -112,6 +112,7 @@ class OfPieces(Recipes):
             yield f"parallel.sh, a killed solver: {reports_in(folder)}"
         yield from self.of_lost_reports(words, folder)
         yield from self.of_old_folders(folder)
+        yield from self.of_cuts_that_end_early()
         early = self.room / "early.icnf"  # a line % ends it
         early.write_text("p inccnf\n1 2 0\n-1 3 0\na 1 0\na -1 0\n%\na 2 0\n")
         for file in (TOP / "examples/colouring.icnf", early):
@@ -150,6 +151,24 @@ class OfPieces(Recipes):
         ended = self.ran("parallel.sh", self.file, "opb", "3", left)
         if (ended.out, ended.status) != ("", 2) or "0.report is older than the index" not in ended.err:
             yield f"parallel.sh, in a folder with a report of an earlier cut: {ended}"
+
+    def of_cuts_that_end_early(self):
+        """A folder is what a cut leaves that was ended before its index, or within that. Nothing in it is removed."""
+        for split in (1, 7):  # so that the first piece has a name of one digit, and of more
+            folder = self.room / f"cut {split}"
+            run("pbcube_pieces", "--split", split, "--out", folder, self.file)
+            index = (folder / "index").read_text()
+            for part in (None, "", index[:30], index[:-1], index[: index.rindex("\n", 0, -1)]):
+                (folder / "index").unlink() if part is None else (folder / "index").write_text(part)
+                left = sorted(folder.iterdir())
+                ended = self.ran("parallel.sh", self.file, "opb", split, folder)
+                is_told = "cut was not finished: remove" in ended.err and ended.err.count("\n") == 1
+                if (ended.out, ended.status) != ("", 2) or not is_told or sorted(folder.iterdir()) != left:
+                    yield f"parallel.sh, a cut with the index {part!r}: {ended}"
+            (folder / "index").unlink()
+            ended = self.ran("slurm.sh", folder, SLURM_ARRAY_TASK_ID="0")
+            if ended.status != 2 or "cut was not finished: remove" not in ended.err:
+                yield f"slurm.sh, a cut without an index: {ended}"
 
     def put_before_index(self, report):
         """Makes the report a second older than the index beside it."""
@@ -251,6 +270,7 @@ class OfTasks(Recipes):
     def of_parallel(self):
         yield from self.of_lost_tasks()
         yield from self.of_other_words()
+        yield from self.of_strange_reports()
         yield from self.of_few_decisions()
         yield from self.of_two_recipes_at_once()
         yield from self.of_hostile_notes()
@@ -291,6 +311,21 @@ class OfTasks(Recipes):
             yield f"parallel-tasks.sh, one piece: {ended}"
         if len(reports_in(folder)) != self.TASKS:
             yield f"parallel-tasks.sh, one piece: {reports_in(folder)}"
+
+    def of_strange_reports(self):
+        """The folder has reports of all tasks, and a file in the place of one is no report of a task. It stays as it is."""
+        report = self.room / "parallel/1.report"
+        whole = report.read_text()
+        warning = "pbcube_task: cannot use notes: File exists"
+        lines = {"Killed\n": "Killed", f"{warning}\n{whole}": warning, "\x07\n": "^G"}
+        lines[whole.replace("\n", "\r\n")] = f"{whole.splitlines()[0]}^M"
+        for text, line in lines.items():
+            report.write_bytes(text.encode())
+            ended = self.parallel(self.room / "parallel")
+            told = f"parallel-tasks.sh: {report} is no report of a task: its first line is '{line}'\n"
+            if ended != Ended("", told, 2) or report.read_bytes() != text.encode():
+                yield f"parallel-tasks.sh, a report that begins with {line!r}: {ended}"
+        report.write_text(whole)
 
     def of_refused_inputs(self):
         """Each input twice, and then its folder serves one that is not refused."""
@@ -417,9 +452,9 @@ class OfTasks(Recipes):
             (folder / "1.report").write_text(part)
             if (said := self.slurm(folder, 1)) != (0, "") or not (told := (folder / "1.report").read_text()).endswith(whole[-9:]):
                 yield f"slurm-tasks.sh, a report is {part!r}: {said} {told!r}"
-        old = times_of(folder)
+        old, other = times_of(folder), f"slurm-tasks.sh: {folder} is of another file, split or number of tasks: "
         for words in ({"file": self.other}, {"split": self.SPLIT - 1}, {"tasks": self.TASKS + 1}):
-            if (said := self.slurm(folder, 0, **words))[0] != 2 or "of another file, split or number of tasks" not in said[1]:
+            if (said := self.slurm(folder, 0, **words)) != (2, other + "take another folder\n"):
                 yield f"slurm-tasks.sh, {words} in an old folder: {said}"
         if times_of(folder) != old:
             yield "slurm-tasks.sh, in an old folder: tasks were run again"
@@ -434,6 +469,16 @@ class OfTasks(Recipes):
                     yield f"slurm-tasks.sh, {kind}, split {split}, task {number}: {said}"
             if (said := self.joined(folder, 2, file=file, kind=kind)) != (1, whole.out, ALL_REFUSED):
                 yield f"slurm-join.sh, {kind}, split {split}: {said} and not {whole}"
+            yield from self.of_accepted_in_slurm(folder, file)
+
+    def of_accepted_in_slurm(self, folder, file):
+        """All tasks were refused. Another split is refused too, with what to remove, and then it is searched."""
+        if (said := self.slurm(folder, 0, file=file, split=2, tasks=2))[0] != 2 or f"or remove {folder}/division, since" not in said[1]:
+            yield f"slurm-tasks.sh, another split in {folder}: {said}"
+        (folder / "division").unlink()
+        statuses = [self.slurm(folder, number, file=file, split=2, tasks=2)[0] for number in range(2)]
+        if (said := self.joined(folder, 2, file=file)) != (0, run("pbcube", file).out, "") or statuses != [0, 0]:
+            yield f"slurm-tasks.sh, {folder} without its division: {statuses} {said}"
 
     def of_tasks_again(self, folder):
         """In the report of one task a piece was cut. All others are whole."""
