@@ -858,6 +858,36 @@ def child_facts():
     yield "with no child left", raised(lambda: os.waitpid(-1, os.WNOHANG)).__class__ is ChildProcessError
 
 
+STRANGERS = (  # what a program of the name pbcube does, and a part of what is said of it
+    ("echo hello", "/pbcube ended with status 0 and wrote no report"), ("true", "status 0"), ("echo; echo s SATISFIABLE", "status 0"),
+    ("echo s OPTIMUM FOUND", "status 0"), ("echo o many; echo s OPTIMUM FOUND; echo v x1", "status 0"), ("echo v x1", "status 0"),
+    ("echo c of another; echo s UNKNOWN", "status 0"), ("printf '\\377\\n'", "status 0"),
+    ("echo usage >&2; echo pbcube: no file >&2; exit 2", "status 2 and wrote no report: its last line on standard error is 'pbcube: no"),
+    ("seq 99999 >&2; exit 3", "status 3 and wrote no report: its last line on standard error is '99999'"),
+)  # fmt: skip
+
+
+def stranger_facts():
+    """Another program has the name of the one that is called with workers."""
+    model, named = Model.read(TEXT), os.environ.get("PBCUBE_PROGRAMS")
+    with tempfile.TemporaryDirectory() as folder:
+        (path := Path(folder) / "pbcube").touch()
+        path.chmod(0o755)
+        os.environ["PBCUBE_PROGRAMS"] = folder
+        for does, told in STRANGERS:
+            path.write_text(f"#!/bin/sh\n{does}\n")
+            for call in (lambda: model.solve(workers=1), lambda: solve(TEXT, workers=1, time_limit=PATIENCE)):
+                fault = raised(call)
+                is_told = isinstance(fault, Error) and fault.name == "NoReport" and str(path) in fault.hint and told in fault.hint
+                yield f"{does}: {fault!r}", is_told
+        path.write_bytes(b"\x7fELF")
+        yield "no program at all", "Exec format error" in raised(lambda: solve(TEXT, workers=1)).hint
+        path.write_text("#!/bin/sh\nkill -9 $$\n")
+        yield "one that is killed", raised(lambda: solve(TEXT, workers=1)).name == "Ended"
+    del os.environ["PBCUBE_PROGRAMS"]
+    os.environ.update({"PBCUBE_PROGRAMS": named} if named else {})
+
+
 # ---- searches that are ended
 
 
@@ -1034,7 +1064,7 @@ def main():
     calls = [value_facts, page_facts, wide_facts, copy_facts, question_facts, start_facts, random_facts, child_facts, kept_facts]
     refusals = [mistake_facts, foreign_facts, refusal_facts, room_facts, text_facts, hint_facts, shared_hint_facts, limit_of_text_facts]
     interrupts = [lambda: interrupt_facts(os.kill), lambda: interrupt_facts(os.killpg), question_end_facts]
-    ends = [*interrupts, exception_facts, limit_facts, death_facts]
+    ends = [stranger_facts, *interrupts, exception_facts, limit_facts, death_facts]
     facts = [fact for part in (*written, *calls, never_worse_facts, *refusals, *ends) for fact in part()]
     wrong = [what for what, holds in facts if not holds]
     print(*(f"python: not so: {it}" for it in wrong), sep="\n", end="\n" if wrong else "")

@@ -200,14 +200,14 @@ class Search:
 
 
 def reply_of(report: str, is_limited: bool) -> Reply:
-    """What the report of a run tells, which had a budget or none."""
+    """What the report of a run tells, which had a budget or none. Raises LookupError or ValueError where it is none."""
     lines = {line[0]: line for line in report.splitlines()}
     if "c" in lines:  # "c refused: NAME at line LINE", "c refused: Memory", or "c refused split: BadSplit"
-        name, *at_line = lines["c"].split(": ")[1].split()
+        name, *at_line = lines["c"].split("refused", 1)[1].split(": ")[1].split()
         return (1, None, None, (name, int(at_line[-1]) if at_line else 0))
     cost = int(lines["o"][2:]) if "o" in lines else None
     if "v" not in lines:
-        return (20 if lines["s"] == "s UNSATISFIABLE" else 1, None, None, None)
+        return ({"s UNSATISFIABLE": 20, "s UNKNOWN": 1}[lines["s"]], None, None, None)
     values = bytes(not word.startswith("-") for word in lines["v"][2:].split() if word != "0")
     least = lines["s"] == "s OPTIMUM FOUND" or (cost is None and not is_limited)
     return ((30 if cost is not None else 10) if least else 11, cost, values, None)

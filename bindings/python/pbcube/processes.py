@@ -11,9 +11,11 @@ import threading
 import time
 import weakref
 from pathlib import Path
-from typing import Iterator, List, Optional, Set
+from typing import IO, Iterator, List, Optional, Set
 
 from .errors import Error
+
+_LONGEST_LINE = 300  # bytes that are told of what a program writes
 
 
 def python_command(file: str) -> List[str]:
@@ -28,12 +30,12 @@ class Process:
     """A process that is ended with the `with` statement that it is used in. Ctrl-C is held back from its start until it is let through,
     and so is raised within that statement."""
 
-    def __init__(self, command: List[str]) -> None:
+    def __init__(self, command: List[str], errors: Optional[IO[bytes]] = None) -> None:
         self._thread = threading.current_thread()  # with which the system ends it
         held = signal.pthread_sigmask(signal.SIG_BLOCK, {signal.SIGINT})  # the process inherits that: Ctrl-C is for this one
         self._held: Optional[Set[signal.Signals]] = held
         try:
-            self._process = _start(command)
+            self._process = _start(command, errors)
         except BaseException:
             self._let_through()
             raise
@@ -101,10 +103,13 @@ class Program(Process):
     """A process that reads its standard input to the end, and then answers on its standard output."""
 
     def __init__(self, command: List[str]) -> None:
-        super().__init__([*python_command(str(Path(__file__).with_name("launch.py"))), str(os.getpid()), *command])
+        self._path = command[0]
+        self._errors = _temporary_file()
+        launched = [*python_command(str(Path(__file__).with_name("launch.py"))), str(os.getpid()), *command]
+        super().__init__(launched, self._errors)
 
     def answer(self, text: bytes, deadline: Optional[float]) -> Optional[bytes]:
-        """All that it answers to the text, or None where it has not by the deadline. Raises, and tells why, where it answers nothing."""
+        """All that it answers to the text, or None where it has not by the deadline. Raises Error where a signal ends it."""
         self._let_through()
         self._send(text, deadline)
         assert self._process.stdin is not None
@@ -112,16 +117,43 @@ class Program(Process):
         said = bytearray()
         for part in self._parts(deadline):
             if not part:
-                if self._process.wait() < 0 or not said:
-                    raise self._early_end()
+                if self._process.wait() < 0:
+                    raise Error("Ended")
                 return bytes(said)
             said += part
         return None
 
+    def no_report(self) -> Error:
+        """The error where it has ended, and what it answered is no report."""
+        told = f"{self._path} ended with status {self._process.wait()} and wrote no report"
+        line = _last_line(self._errors)
+        return Error("NoReport", f"{told}: its last line on standard error is {line!r}" if line else told)
 
-def _start(command: List[str]) -> subprocess.Popen[bytes]:
+
+def _temporary_file() -> Optional[IO[bytes]]:
+    """A file without a name, or None where the system has no place for one."""
+    from tempfile import TemporaryFile  # here, since few need it and it takes milliseconds to import
+
     try:
-        return subprocess.Popen(command, bufsize=0, stdin=subprocess.PIPE, stdout=subprocess.PIPE, stderr=subprocess.DEVNULL)
+        return TemporaryFile()
+    except OSError:
+        return None
+
+
+def _last_line(file: Optional[IO[bytes]]) -> str:
+    """The last line of the file that is not blank, of a long one its end."""
+    if file is None:
+        return ""
+    file.seek(max(0, file.seek(0, os.SEEK_END) - _LONGEST_LINE))
+    lines = file.read().decode("utf-8", "replace").split("\n")
+    return next((line.strip() for line in reversed(lines) if line.strip()), "")
+
+
+def _start(command: List[str], errors: Optional[IO[bytes]]) -> subprocess.Popen[bytes]:
+    """The process. What it writes to standard error goes to the file, where there is one."""
+    told = subprocess.DEVNULL if errors is None else errors
+    try:
+        return subprocess.Popen(command, bufsize=0, stdin=subprocess.PIPE, stdout=subprocess.PIPE, stderr=told)
     except OSError as fault:
         raise ChildProcessError(f"{command[0]} cannot be run: {fault}") from fault
 

@@ -305,7 +305,8 @@ class _Runs:
     deadline: Optional[float]
 
     def run(self, job: Job, nodes: int) -> Reply:
-        """What a run finds with at most `nodes` decisions in each piece. Raises _TimeIsUp where that is not by the deadline."""
+        """What a run finds with at most `nodes` decisions in each piece. Raises _TimeIsUp where that is not by the deadline, and Error
+        where the program wrote no report."""
         _, text, format = job
         named = {number: name for name, number in library.FORMATS.items()}[format]
         program = Program(self.workers.command(named, nodes))
@@ -313,7 +314,10 @@ class _Runs:
             report = program.answer(text, self.deadline)
         if report is None:
             raise _TimeIsUp
-        return library.reply_of(report.decode("ascii"), is_budget(nodes))
+        try:
+            return library.reply_of(report.decode("ascii"), is_budget(nodes))
+        except (LookupError, ValueError):
+            raise program.no_report() from None
 
 
 def run_program(job: Job, workers: Workers, limits: Limits) -> Reply:
