@@ -259,7 +259,12 @@ def mistake_facts():
         (lambda: model.add([x >= 1]), "for rule in rules"), (lambda: model.add(it >= 1 for it in [x, y]), "for rule in rules"),
         (lambda: model.add(x >= 1, "a rule"), "name='budget'"), (lambda: solve(7), "pbcube.solve(text)"),
         (lambda: Model.read(None), "Model.read(text)"), (lambda: Model.read(model), "model.copy()"),
-        (lambda: solve(model), "model.solve()"),
+        (lambda: solve(model), "model.solve()"), (lambda: model.write(1), "model.write('a.opb')"),
+        (lambda: model.write(True), "model.write('a.opb')"), (lambda: model.write(sys.stdout), "model.text()"),
+        (lambda: model.clause(x, y), "clause([x, y])"), (lambda: model.clause([x], "a rule"), "behind name="),
+        (lambda: model.at_least(1, x, y), "at_least(1, [x, y])"), (lambda: model.at_most(1, [x], "a rule"), "behind name="),
+        (lambda: model.exactly(1, x, y), "exactly(1, [x, y])"), (lambda: model.clause("x"), "[model['x']]"),
+        (lambda: model.fixed("least"), "fixed(among='least')"), (lambda: model.fixed("x"), "[model['x']]"),
         (lambda: solve(io.StringIO(TEXT)), "file.read()"), (lambda: Model.read(io.BytesIO(b"")), "file.read()"),
         (lambda: solve(Path("a.cnf")), "Model.read('a.cnf', 'cnf')"), (lambda: solve(Path("a.txt"), "icnf"), "Model.read('a.txt', 'icnf')"),
     )  # fmt: skip
@@ -278,6 +283,7 @@ def mistake_facts():
     yield "its names", "x" in model and "z" not in model and "'z'" in str(raised(lambda: model["z"]))
     yield "which is not there", "'b/a.opb' is not there" in raised(lambda: solve("b/a.opb")).hint
     named = ((lambda: solve(TEXT, "OPB"), "'opb'"), (lambda: model.fixed(among="all"), "'least'"),
+        (lambda: model.fixed(among=["feasible"]), "'least'"), (lambda: solve(TEXT, ["opb"]), "'opb'"),
         (lambda: model.variables("a, b"), "variables('a b')"), (lambda: model.variables("a,b ,c"), "variables('a b c')"),
     )  # fmt: skip
     for call, said in named:
@@ -393,6 +399,8 @@ def foreign_facts():
         yield f"a literal of another model: {name}", is_foreign(call)
     yield "nothing was added", model.copy().solve() == Answer(Status.SATISFIABLE, None, (False,))
     yield "pickled", str(pickle.loads(pickle.dumps(ForeignLiteral()))) == str(ForeignLiteral())
+    page = (TOP / "docs/EMBEDDING.md").read_text()
+    yield "as docs/EMBEDDING.md says it", ForeignLiteral().hint in page
 
 
 # ---- refusals

@@ -96,7 +96,8 @@ int pbcube_fixed(pbcube *solver, const int32_t *literals, size_t count, int amon
 
 /* Reading what was found. The cost is 0 without an objective; where an error is answered none is written. A value is 0 or 1. The
  * text of the cost is decimal, of at most 39 bytes: as many of them as fit are written, with no zero at the end, and its length is
- * answered, 0 where nothing was found or the solver is null. Null for the text is room for none. */
+ * answered, 0 where nothing was found or the solver is null. Where the text is null nothing is written, whatever its size, and the
+ * length is answered all the same. */
 int pbcube_cost(pbcube *solver, int64_t *cost);
 size_t pbcube_cost_text(pbcube *solver, char *text, size_t size);
 int pbcube_value(pbcube *solver, uint32_t variable);

@@ -167,6 +167,8 @@ class Model:
 
     def write(self, path: Union[str, os.PathLike[str]]) -> None:
         """Writes `text` to a file. Raises OSError where it cannot be written."""
+        if not isinstance(path, (str, bytes, os.PathLike)):
+            raise TypeError(f"no path: {path!r}: write model.write('a.opb'), or take model.text(), which is what it writes")
         text = self.text().encode("ascii")
         with open(path, "wb") as file:
             file.write(text)
@@ -256,8 +258,9 @@ class Model:
         _, numbers, bound = whole(rule.terms, rule.bound)
         self._tell((rule.relation, bound, compact(numbers, bound)), len(rule.terms), name)
 
-    def clause(self, literals: Iterable[Literal], *, name: Optional[str] = None) -> None:
+    def clause(self, literals: Iterable[Literal], *more: NoReturn, name: Optional[str] = None) -> None:
         """Adds that at least one of the literals is true."""
+        _check_alone(more, "clause([x, y])")
         given = self._own(literals)
         self._tell(("or", 0, array("i", (literal.number for literal in given))), len(given), name)
 
@@ -277,24 +280,26 @@ class Model:
             missing = rule.bound - sum(min(coefficient, 0) for coefficient, _ in rule.terms)
             self.add(Sum(rule.terms, 0, rule.owners) + max(missing, 0) * ~given >= rule.bound, name=name)
 
-    def at_least(self, count: int, literals: Iterable[Literal], *, name: Optional[str] = None) -> None:
+    def at_least(self, count: int, literals: Iterable[Literal], *more: NoReturn, name: Optional[str] = None) -> None:
         """Adds that at least `count` of the literals are true."""
-        number = _number_of_literals(count, "at_least")
+        number = _number_of_literals(count, "at_least", more)
         self.add(total(self._own(literals)) >= number, name=name)
 
-    def at_most(self, count: int, literals: Iterable[Literal], *, name: Optional[str] = None) -> None:
+    def at_most(self, count: int, literals: Iterable[Literal], *more: NoReturn, name: Optional[str] = None) -> None:
         """Adds that at most `count` of the literals are true."""
-        number = _number_of_literals(count, "at_most")
+        number = _number_of_literals(count, "at_most", more)
         self.add(total(self._own(literals)) <= number, name=name)
 
-    def exactly(self, count: int, literals: Iterable[Literal], *, name: Optional[str] = None) -> None:
+    def exactly(self, count: int, literals: Iterable[Literal], *more: NoReturn, name: Optional[str] = None) -> None:
         """Adds that exactly `count` of the literals are true."""
-        number = _number_of_literals(count, "exactly")
+        number = _number_of_literals(count, "exactly", more)
         self.add(total(self._own(literals)) == number, name=name)
 
     def _own(self, literals: Iterable[Literal]) -> List[Literal]:
         if isinstance(literals, Literal):
             raise TypeError(f"literals stand in a list, as [{literals!r}]")
+        if isinstance(literals, str):
+            raise TypeError(f"no literals: {literals!r}: they stand in a list, as [model['x']]")
         if isinstance(literals, Mapping):
             raise TypeError("literals stand in a list, as [x, ~y], and have no values: ~ negates")
         if not isinstance(literals, Iterable):
@@ -453,7 +458,9 @@ class Model:
             >>> model.fixed()[x] is None, model.fixed(among="least")[x]
             (True, False)
         """
-        if among not in AMONG:
+        if isinstance(assuming, str) and assuming in AMONG:
+            raise TypeError(f"no literals: {assuming!r}: write fixed(among={assuming!r})")
+        if not isinstance(among, str) or among not in AMONG:
             raise ValueError(f"nothing to be asked about: {among!r}: write 'feasible' or 'least'")
         asked = self._asked("fixed", self._own(assuming), AMONG[among], self._variables)
         status, _, statuses, _ = self._ask(asked, searches.Limits.of(nodes, time_limit))
@@ -615,15 +622,22 @@ def _words_of(text: str) -> List[str]:
     return words
 
 
-def _number_of_literals(count: object, call: str) -> int:
-    """How many literals are to be true. It stands before them where the call of that name is made."""
+def _check_alone(more: Sequence[object], example: str) -> None:
+    """Refuses what stands behind the literals."""
+    if more:
+        raise TypeError(f"literals stand in one list, as in {example}, and the name of a constraint behind name=")
+
+
+def _number_of_literals(count: object, call: str, more: Sequence[object]) -> int:
+    """How many literals are to be true. It stands before them where the call of that name is made, and nothing more behind them."""
+    _check_alone(more, f"{call}(1, [x, y])")
     if not isinstance(count, SupportsIndex):
         raise TypeError(f"no whole number of literals: {count!r}: it stands before the literals, as in {call}(1, [x, y])")
     return index(count)
 
 
 def _check_format(format: str) -> None:
-    if format not in FORMATS:
+    if not isinstance(format, str) or format not in FORMATS:
         raise ValueError(f"no format: {format!r}: write 'opb', 'cnf' or 'icnf'")
 
 
