@@ -21,6 +21,7 @@ SECTIONS = {
 OTHERS = {  # what the text seems to be instead, by how it begins
     r"(?:c(?:[ \t].*)?\n\s*)*p\s+cnf\b": "DIMACS CNF: solve it by pbcube --format cnf FILE",
     r"(?:c(?:[ \t].*)?\n\s*)*p\s+inccnf\b": "iCNF: solve it by pbcube --format icnf FILE",
+    r"(?:\*.*\n\s*)*(?:NAME|ROWS)(?=\s)": "MPS: have the program that wrote it write LP",
     r"\*|(?:(?:min|max)\s*:)?(?:\s*[+-]?\d+(?:\s+~?x\d+\b)+)+\s*(?:;|[<>]?=)": "OPB: solve it by pbcube FILE",
     r"/[*/]|(?:min|max)\w*\s*:|[^;\n]*;": "lp_solve's: write sections, as Minimize, Subject To and Binaries",
 }
@@ -31,6 +32,12 @@ TOKEN = re.compile(
     re.I | re.A,
 )
 RELATIONS = {"<": "<=", "<=": "<=", "=<": "<=", ">": ">=", ">=": ">=", "=>": ">=", "=": "="}
+NOT_READ = {  # what is told of a word that LP has, where it stands
+    "[": ": products are not read",
+    "^": ": products are not read",
+    "*": ": products are not read, and 2 x has no *",
+    "->": ": indicators are not read",
+}
 FLIPPED = {"<=": ">=", ">=": "<=", "=": "="}
 Token = namedtuple("Token", "line kind text")  # of the kinds that TOKEN names
 
@@ -50,7 +57,8 @@ class Section:
         token = self.tokens.popleft() if self.tokens else Token(self.line, "", "the section's end")
         self.line = token.line
         if token.kind != kind:
-            raise NoAnswer(f"line {token.line}: {token.text} stands where there should be a {kind}")
+            told = NOT_READ.get(token.text, "")
+            raise NoAnswer(f"line {token.line}: {token.text} stands where there should be a {kind}{told}")
         return token.text
 
     def takes_word(self, *words):

@@ -11,6 +11,7 @@ import sys
 import time
 from dataclasses import dataclass
 from enum import Enum
+from pathlib import Path
 from typing import Callable
 
 FIRST_BUDGET = 250  # decisions of the first search where the time is limited
@@ -21,6 +22,19 @@ GREATEST_BUDGET = 1_000_000_000  # that pbcube takes
 
 class NoAnswer(Exception):
     """pbcube cannot be told the model, cannot be run or wrote no answer. The text names the variable, the row or the reason."""
+
+
+def text_of(path: str) -> str:
+    """The text in UTF-8 that the file has, behind a signature or none, or `NoAnswer` with the first line that is none."""
+    try:
+        text, zero, _ = Path(path).read_text(encoding="utf-8-sig").partition("\0")
+    except UnicodeDecodeError as fault:
+        line = fault.object.count(b"\n", 0, fault.start) + 1
+        raise NoAnswer(f"line {line} is no text in UTF-8") from None
+    if zero:
+        line = text.count("\n") + 1
+        raise NoAnswer(f"line {line} is no text: it has a zero byte")
+    return text
 
 
 class Status(Enum):

@@ -69,6 +69,8 @@ LP_ANSWERS = {  # worked texts, each with its values and its objective
 }
 READ = "pbcube-lp reads CPLEX's LP format, and this text"
 IN_SECTIONS = f"{READ} seems to be lp_solve's: write sections, as Minimize, Subject To and Binaries"
+IN_MPS = f"{READ} seems to be MPS: have the program that wrote it write LP"
+NO_STAR = "stands where there should be a relation: products are not read, and 2 x has no *"
 LP_ROWS = {  # what is told of texts that are refused
     "Minimize\n x\nEnd": "line 2: x is continuous, and pbcube has integers alone",
     "Min\n x\nGenerals\n x\nEnd": "line 2: x has no finite upper bound",
@@ -77,9 +79,11 @@ LP_ROWS = {  # what is told of texts that are refused
     "Min\n x\nBounds\n x <= 1e20\nGeneral\n x": "line 2: x has no finite upper bound",
     "Min\n x\nBounds\n x = 1.5": "line 2: x is continuous, and pbcube has integers alone",
     "Min\n x\nst\n x + y >= 1\nBinary\n x": "line 4: y is continuous, and pbcube has integers alone",
-    "Min\n obj: x + [ x^2 ] / 2\nBinary\n x": "line 2: [ stands where there should be a name",
-    "Min\n x\nst\n c: x * y >= 1\nBinary\n x y": "line 4: * stands where there should be a relation",
-    "Min\n x\nst\n c: b = 1 -> x >= 1\nBinary\n x b": "line 4: -> stands where there should be a label",
+    "Min\n obj: x + [ x^2 ] / 2\nBinary\n x": "line 2: [ stands where there should be a name: products are not read",
+    "Min\n x^2\nBinary\n x": "line 2: ^ stands where there should be a sign: products are not read",
+    "Min\n x\nst\n c: x * y >= 1\nBinary\n x y": f"line 4: * {NO_STAR}",
+    "Min\n x\nst\n c: b = 1 -> x >= 1\nBinary\n x b": "line 4: -> stands where there should be a label: indicators are not read",
+    "Min\n x\nst\n c: b <-> x\nBinary\n x b": "line 4: -> stands where there should be a number: indicators are not read",
     "Min\n x\nst\n 1 <= x\nBinary\n x": "line 4: x stands where there should be a number",
     "Min\n x\nst\n x >= 1 <= 2\nBinary\n x": "line 4: <= stands where there should be a label",
     "Min\n x\nst\n x >= 3 + y <= 5\nBinary\n x y": "line 4: + stands where there should be a label",
@@ -94,6 +98,9 @@ LP_ROWS = {  # what is told of texts that are refused
     "\n x >= 1\nMin\n x": "line 2: x cannot be told to pbcube",
     "": f"{READ} is empty",
     "\\ a comment\n\n": f"{READ} is empty",
+    "NAME          a model\nROWS\n N  cost\n": IN_MPS,
+    "* of a model\n* in MPS\nname\nOBJSENSE\n    MAX\nROWS\n": IN_MPS,
+    "ROWS\n N  cost\nCOLUMNS\n": IN_MPS,
     "* #variable= 1 #constraint= 1\n1 x1 >= 1 ;\n": f"{READ} seems to be OPB: solve it by pbcube FILE",
     "min: 2 x12 -3 ~x1 x2 ;\n1 x1 >= 1 ;\n": f"{READ} seems to be OPB: solve it by pbcube FILE",
     "c of clauses\nc\np cnf 1 1\n1 0\n": f"{READ} seems to be DIMACS CNF: solve it by pbcube --format cnf FILE",
@@ -118,9 +125,12 @@ def lp_faults(path):
 
 def word_faults(path, room):
     """pbcube-lp with options, and where there is no answer: one line on standard error, and status 1."""
-    file, refused, bytes_ = CLIENTS / "mixture.lp", room / "refused.lp", room / "bytes.lp"
+    file = CLIENTS / "mixture.lp"
+    refused, bytes_, signed, zeros = (room / f"{name}.lp" for name in ("refused", "bytes", "signed", "zeros"))
     refused.write_text("Min\n x\n")
     bytes_.write_bytes(b"Min\n \xff\n")
+    signed.write_bytes(b"\xef\xbb\xbf" + file.read_bytes())
+    zeros.write_bytes(b"Min\n x\n\0\0\n")
     expected, here = file.with_suffix(".expected").read_text(), f"pbcube-lp: {file}: "
     rows = {
         ("--workers", "3", "--split", "2", file): Ended(expected, "", 30),
@@ -129,7 +139,9 @@ def word_faults(path, room):
         ("--split", "13", file): Ended("", f"{here}{path}: error: invalid value '13' for '--split <K>': 13 is not in 0..=12\n", 1),
         ("--program", "/no/pbcube", file): Ended("", f"{here}cannot run /no/pbcube: No such file or directory\n", 1),
         (refused,): Ended("", f"pbcube-lp: {refused}: line 2: x is continuous, and pbcube has integers alone\n", 1),
-        (bytes_,): Ended("", f"pbcube-lp: {bytes_}: 'utf-8' codec can't decode byte 0xff in position 5: invalid start byte\n", 1),
+        (bytes_,): Ended("", f"pbcube-lp: {bytes_}: line 2 is no text in UTF-8\n", 1),
+        (signed,): Ended(expected, "", 30),
+        (zeros,): Ended("", f"pbcube-lp: {zeros}: line 3 is no text: it has a zero byte\n", 1),
         ("/no/file.lp",): Ended("", "pbcube-lp: /no/file.lp: [Errno 2] No such file or directory: '/no/file.lp'\n", 1),
     }
     ends = side_by_side(lambda words: ran([CLIENTS / "pbcube-lp", "--program", path, *words]), rows)
@@ -396,6 +408,10 @@ FLATZINC_FAULTS = {
 }
 
 
+FLATZINC_BYTES = {  # the same of files that are no text
+    b"\x7fELF\2\1\1\0\0\0": "line 1 is no text: it has a zero byte",
+    b"var 0..3: x;\n\x89PNG\n": "line 2 is no text in UTF-8",
+}
 FLATZINC_SATISFIED = "var 1..3: x :: output_var; solve satisfy;"
 ALL = "fzn-pbcube: -a asks for all solutions, and pbcube writes the first alone\n"
 STATISTICS = """%%%mzn-stat: initTime=T
@@ -426,11 +442,12 @@ def flatzinc_faults(path, room):
         file.write_text(text)
         end = without_times(ran([CLIENTS / "fzn-pbcube", "--program", path, flag, file]))
         yield f"FlatZinc {text!r} {flag}", "" if end == expected else f"{end} and not {expected}"
-    rows = {FLATZINC: Ended(FLATZINC_ANSWER, "", 0)}
-    rows |= {text: Ended("=====ERROR=====\n", f"fzn-pbcube: {told}\n", 1) for text, told in FLATZINC_FAULTS.items()}
+    rows = {FLATZINC.encode(): Ended(FLATZINC_ANSWER, "", 0), b"\xef\xbb\xbf" + FLATZINC.encode(): Ended(FLATZINC_ANSWER, "", 0)}
+    faults = {**{text.encode(): told for text, told in FLATZINC_FAULTS.items()}, **FLATZINC_BYTES}
+    rows |= {text: Ended("=====ERROR=====\n", f"fzn-pbcube: {told}\n", 1) for text, told in faults.items()}
     files = {room / f"{number}.fzn": text for number, text in enumerate(rows)}
     for file, text in files.items():
-        file.write_text(text)
+        file.write_bytes(text)
     ends = side_by_side(lambda file: ran([CLIENTS / "fzn-pbcube", "--program", path, file]), files)
     yield "FlatZinc, not read", unread_fault([CLIENTS / "fzn-pbcube", "--program", path, room / "0.fzn"])
     for (text, expected), end in zip(rows.items(), ends):
