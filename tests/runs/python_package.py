@@ -10,6 +10,7 @@ end a long search: Ctrl-C, alone and for the whole group as a terminal sends it,
 process; each time no child is left, and after Ctrl-C the process solves on. The blocks of docs/EMBEDDING.md print what it says. Where
 there is no C compiler, and so no library, all is left out.
 """
+import copy
 import io
 import itertools
 import json
@@ -186,6 +187,12 @@ def pickle_facts():
     yield "and has its own", is_foreign(lambda: model.add(later >= 1)) and is_foreign(lambda: again.clause([model.variable("w")]))
     yield "which are named", (repr(later + again["x"]), repr(literals)) == ("w + x", "[x, y, z]")
     yield "sums", pickle.loads(pickle.dumps(2 * x + 1 >= y)) == (2 * x + 1 >= y)
+    kept, rule, twice = pickle.loads(pickle.dumps((2 * x - ~z + 1, x + y >= 1, pickle.loads(pickle.dumps(x + y)))))
+    yield "with their names", (repr(kept), repr(rule), repr(twice)) == ("2 x - ~z + 1", "x + y >= 1", "x + y")
+    yield "but no others", [*kept.owners[0][0].names.values()] == ["x", "z"] and repr(again["y"] + kept) == "y + 2 x - ~z + 1"
+    yield "which the model takes", raised(lambda: model.add(kept >= 1)) is raised(lambda: again.add(rule)) is None
+    named = copy.deepcopy([x + z, x + z >= 1])
+    yield "copied", repr([named[0] + y, named[1]]) == "[x + z + y, x + z >= 1]" and repr(copy.copy(x + z) + y) == "x + z + y"
 
 
 class Whole:

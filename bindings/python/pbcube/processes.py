@@ -11,7 +11,7 @@ import threading
 import time
 import weakref
 from pathlib import Path
-from typing import IO, Iterator, List, Optional, Set
+from typing import IO, Iterator, List, Optional, Set, Union
 
 from .errors import Error
 
@@ -151,7 +151,7 @@ def _last_line(file: Optional[IO[bytes]]) -> str:
 
 def _start(command: List[str], errors: Optional[IO[bytes]]) -> subprocess.Popen[bytes]:
     """The process. What it writes to standard error goes to the file, where there is one."""
-    told = subprocess.DEVNULL if errors is None else errors
+    told: Union[int, IO[bytes]] = subprocess.DEVNULL if errors is None else errors
     try:
         return subprocess.Popen(command, bufsize=0, stdin=subprocess.PIPE, stdout=subprocess.PIPE, stderr=told)
     except OSError as fault:

@@ -39,6 +39,20 @@ class Owner(int):
         return self
 
 
+class _NamedOwner(Owner):
+    """An owner whose names are pickled with it."""
+
+    def __reduce__(self) -> Tuple[Any, ...]:
+        return Owner, (int(self), self.names)
+
+
+def _for_pickle(terms: Terms, owners: Owners) -> Owners:
+    """The owners, of whose names those of the terms' variables are pickled with them."""
+    numbers = {abs(literal) for _, literal in terms}
+    names = [{it: owner.names[it] for it in numbers & owner.names.keys()} if isinstance(owner, Owner) else {} for owner, _ in owners]
+    return tuple((_NamedOwner(owner, kept), greatest) for kept, (owner, greatest) in zip(names, owners))
+
+
 def exact(number: object) -> Exact:
     """The number, whole or as a fraction, with the value that it has: a float is what Python holds, and 0.1 is not 1/10."""
     if type(number) is int:
@@ -263,7 +277,13 @@ class Sum(_Operand):
         return _written(self.terms, self.constant, self.owners)
 
     def __reduce__(self) -> Tuple[Any, ...]:
-        return type(self), (self.terms, self.constant, self.owners)
+        return type(self), (self.terms, self.constant, _for_pickle(self.terms, self.owners))
+
+    def __copy__(self) -> Sum:
+        return self
+
+    def __deepcopy__(self, _: object) -> Sum:
+        return self
 
     def __add__(self, other: Expression) -> Sum:
         added = as_sum(other)
@@ -367,6 +387,15 @@ class Constraint:
 
     def __repr__(self) -> str:
         return f"{_written(self.terms, 0, self.owners)} {self.relation} {self.bound}"
+
+    def __reduce__(self) -> Tuple[Any, ...]:
+        return type(self), (self.terms, self.relation, self.bound, _for_pickle(self.terms, self.owners))
+
+    def __copy__(self) -> Constraint:
+        return self
+
+    def __deepcopy__(self, _: object) -> Constraint:
+        return self
 
     def __bool__(self) -> bool:
         raise TypeError(
