@@ -15,9 +15,9 @@ told() { # what the index tells under this word
   sed -n "s/^$1 //p" "$folder/index"
 }
 
-has_pieces() { # whether a first piece is there, of any number of digits
-  compgen -G "$folder/0*.opb" || compgen -G "$folder/0*.cnf"
-} > /dev/null
+has_pieces() { # whether the first piece is there, whose number has as many digits as the last one's
+  compgen -G "$folder/0*" | grep -E '/0+\.(opb|cnf)$' > /dev/null
+}
 
 refuse() {
   echo "parallel.sh: $1" >&2

@@ -33,7 +33,7 @@ trap 'if [ -s "$log" ]; then cat "$log" >&3 || true; else rm -f "$log"; fi' EXIT
 a_task=${2:-1}
 [[ $a_task =~ ^[1-9][0-9]{0,8}$ ]] || refuse "PIECES is a number from 1 to 999999999, and not '$a_task'"
 if [ ! -f index ]; then
-  ! compgen -G '0*.opb' > /dev/null && ! compgen -G '0*.cnf' > /dev/null ||
+  ! compgen -G '0*' | grep -E '^0+\.(opb|cnf)$' > /dev/null ||
     refuse "$1 has pieces and no index, so their cut was not finished: remove them, and cut again"
   refuse "$1 has no index: pbcube_pieces cuts an instance into it"
 fi

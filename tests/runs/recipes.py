@@ -170,6 +170,12 @@ class OfPieces(Recipes):
             if ended.status != 2 or "cut was not finished: remove" not in ended.err:
                 yield f"slurm.sh, a cut without an index: {ended}"
 
+        (own := self.room / "own").mkdir()
+        (own / "01.opb").write_text("of the user\n")
+        ended = self.ran("parallel.sh", self.file, "opb", 0, own)
+        if (ended.out, ended.status) != (self.answer.out, 30) or (own / "01.opb").read_text() != "of the user\n":
+            yield f"parallel.sh, in a folder with another file: {ended}"
+
     def put_before_index(self, report):
         """Makes the report a second older than the index beside it."""
         then = report.with_name("index").stat().st_mtime_ns - 10**9
