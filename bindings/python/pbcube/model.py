@@ -343,8 +343,8 @@ class Model:
         With a time limit one search comes after another: of 200 decisions, then of 400, and so on up to `nodes`, the last ones of
         as many as the time left is likely to allow. Each begins with the best answer so far, and where the time is up that is the
         answer, as `Status.FOUND`, or `Status.UNKNOWN` where there is none. `on_better` has them come so too, without a time limit. It
-        is called with the first answer that is found and with each that costs less than those before, the last one included; what it
-        raises ends the search.
+        is called with the first answer that is found, and with each later one that costs less than those before; what it raises ends
+        the search.
 
         Until something is stated, no answer is worse than an earlier one that assumed the same: where no start is given, the earlier
         one is the start, and where it was whole it is the answer. For this the last 100 answers that assume different literals are kept.
