@@ -25,6 +25,7 @@ import sys
 import tempfile
 import threading
 import time
+import warnings
 from dataclasses import replace
 from decimal import Decimal
 from fractions import Fraction
@@ -42,6 +43,7 @@ from lib.worked_texts import SPOILED, WORKED
 
 callers.package()
 from pbcube import Answer, Constraint, Error, Explanation, Fixed, ForeignLiteral, Literal, Model, Refused, Status, Sum, solve, total
+from pbcube.programs import Workers
 
 MODELS = 150
 INSTANCES = 300
@@ -243,6 +245,7 @@ def mistake_facts():
     model = Model()
     x, y = model.variables("x y")
     cases = (
+        (lambda: model.variables("p q p"), "twice"), (lambda: model.variables("q x"), "model['x']"),
         (lambda: x in [y], "x.number in"), (lambda: x == y and x, "add it to a model"), (lambda: 1 <= x + y <= 2, "as two"),
         (lambda: x > y, "write >="), (lambda: x < y, "write <="), (lambda: 2 * x > 1, "write >="), (lambda: 1 < x + y, "write >="),
         (lambda: x != y, "x + y == 1"), (lambda: x + y != 1, "x + y == 1"), (lambda: x & y, "x + y >= 2"),
@@ -882,6 +885,16 @@ STRANGERS = (  # what a program of the name pbcube does, and a part of what is s
 )  # fmt: skip
 
 
+def warned_facts():
+    """Several workers have nothing to do where there is one piece, and a caller is warned of that alone."""
+    warned, silent = [(4, None), (2, 0)], [(4, 2), (1, None), (None, 3), (4, None, "icnf")]
+    for words, is_warned in [*((it, True) for it in warned), *((it, False) for it in silent)]:
+        with warnings.catch_warnings(record=True) as told:
+            warnings.simplefilter("always")
+            Workers.of(*words)
+        yield f"warned of {words}", [("give split=" in str(it.message)) for it in told] == [True] * is_warned
+
+
 def stranger_facts():
     """Another program has the name of the one that is called with workers."""
     model, named = Model.read(TEXT), os.environ.get("PBCUBE_PROGRAMS")
@@ -1079,7 +1092,7 @@ def main():
     calls = [value_facts, page_facts, wide_facts, copy_facts, question_facts, start_facts, random_facts, child_facts, kept_facts]
     refusals = [mistake_facts, foreign_facts, refusal_facts, room_facts, text_facts, hint_facts, shared_hint_facts, limit_of_text_facts]
     interrupts = [lambda: interrupt_facts(os.kill), lambda: interrupt_facts(os.killpg), question_end_facts]
-    ends = [stranger_facts, *interrupts, exception_facts, limit_facts, death_facts]
+    ends = [warned_facts, stranger_facts, *interrupts, exception_facts, limit_facts, death_facts]
     facts = [fact for part in (*written, *calls, never_worse_facts, *refusals, *ends) for fact in part()]
     wrong = [what for what, holds in facts if not holds]
     print(*(f"python: not so: {it}" for it in wrong), sep="\n", end="\n" if wrong else "")

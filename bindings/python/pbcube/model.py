@@ -202,6 +202,8 @@ class Model:
                 raise TypeError(f"no name: {name!r}")
         if len({*given, *self._names}) < len(given) + len(self._names):
             taken = next(name for at, name in enumerate(given) if name in self._names or name in given[:at])
+            if taken not in self._names:
+                raise Error("NameTaken", f"{taken!r} is among these names twice, so no variable was made: give each a name of its own")
             raise Error("NameTaken", f"a variable is named {taken!r} already: model[{taken!r}] is its literal")
 
     def __getitem__(self, name: str) -> Literal:
@@ -354,8 +356,8 @@ class Model:
         Raises ValueError where it has not as many values as there are variables, or one that is neither True nor False.
 
         With `workers`, 1 to 64, or `split`, 0 to 12, the program pbcube solves the model's text, by as many threads and divided by as many
-        variables; a whole search gives the same answer. It takes no start, and `nodes` is for each piece. Raises FileNotFoundError where
-        the program is not there.
+        variables; a whole search gives the same answer. Several workers need a split, so give both, as `workers=4, split=8`. The program
+        takes no start, and `nodes` is for each piece. Raises FileNotFoundError where the program is not there.
 
             >>> model = Model()
             >>> x, y = model.variables(2)
@@ -674,7 +676,7 @@ def solve(
     if isinstance(text, os.PathLike):
         path = os.fsdecode(text)
         raise TypeError(f"a path is no text: Model.read({path!r}, {format_of(path, format)!r}).solve() solves the file")
-    program = Workers.of(workers, split)
+    program = Workers.of(workers, split, format)
     limits = searches.Limits.of(nodes, time_limit, told_by(on_better, _answer_of_text))
     advice = "Model.read(path).solve() solves a file, and pbcube.solve(text) a text"
     data = text.encode("utf-8", "surrogateescape") if isinstance(text, str) else texts.given_bytes(text, advice)

@@ -4,6 +4,7 @@ from __future__ import annotations
 
 import os
 import shutil
+import warnings
 from dataclasses import dataclass
 from operator import index
 from pathlib import Path
@@ -45,12 +46,16 @@ class Workers:
     split: int = 0
 
     @classmethod
-    def of(cls, workers: Optional[int], split: Optional[int]) -> Optional[Workers]:
-        """What the caller wants, and None where that is neither."""
+    def of(cls, workers: Optional[int], split: Optional[int], format: str = "opb") -> Optional[Workers]:
+        """What the caller wants for a text of this format, and None where that is neither. Warns where all but one worker would have
+        nothing to do: only a split, or cubes in the text, make several pieces."""
         if workers is None and split is None:
             return None
         told = 1 if workers is None else _within("workers", workers, 1, _MOST_WORKERS)
-        return cls(told, 0 if split is None else _within("split", split, 0, _MOST_SPLIT))
+        program = cls(told, 0 if split is None else _within("split", split, 0, _MOST_SPLIT))
+        if program.workers > 1 and program.split == 0 and format != "icnf":
+            warnings.warn("one worker searches the one piece: give split= too, such as split=8, which divides the work", stacklevel=3)
+        return program
 
     def command(self, format: str, nodes: int) -> List[str]:
         """The command that solves what is on standard input, with at most `nodes` decisions in each piece."""
