@@ -245,7 +245,6 @@ def mistake_facts():
     model = Model()
     x, y = model.variables("x y")
     cases = (
-        (lambda: model.variables("p q p"), "twice"), (lambda: model.variables("q x"), "model['x']"),
         (lambda: x in [y], "x.number in"), (lambda: x == y and x, "add it to a model"), (lambda: 1 <= x + y <= 2, "as two"),
         (lambda: x > y, "write >="), (lambda: x < y, "write <="), (lambda: 2 * x > 1, "write >="), (lambda: 1 < x + y, "write >="),
         (lambda: x != y, "x + y == 1"), (lambda: x + y != 1, "x + y == 1"), (lambda: x & y, "x + y >= 2"),
@@ -885,6 +884,14 @@ STRANGERS = (  # what a program of the name pbcube does, and a part of what is s
 )  # fmt: skip
 
 
+def taken_facts():
+    """The error tells a name that stands twice in one call, of which nothing was made, from one that a variable has."""
+    model = Model()
+    model.variable("x")
+    yield "twice in a call", "among these names twice" in raised(lambda: model.variables("p q p")).hint and "p" not in model
+    yield "taken", "model['x'] is its literal" in raised(lambda: model.variables("q x")).hint and "q" not in model
+
+
 def warned_facts():
     """Several workers have nothing to do where there is one piece, and a caller is warned of that alone."""
     warned, silent = [(4, None), (2, 0)], [(4, 2), (1, None), (None, 3), (4, None, "icnf")]
@@ -1092,7 +1099,7 @@ def main():
     calls = [value_facts, page_facts, wide_facts, copy_facts, question_facts, start_facts, random_facts, child_facts, kept_facts]
     refusals = [mistake_facts, foreign_facts, refusal_facts, room_facts, text_facts, hint_facts, shared_hint_facts, limit_of_text_facts]
     interrupts = [lambda: interrupt_facts(os.kill), lambda: interrupt_facts(os.killpg), question_end_facts]
-    ends = [warned_facts, stranger_facts, *interrupts, exception_facts, limit_facts, death_facts]
+    ends = [taken_facts, warned_facts, stranger_facts, *interrupts, exception_facts, limit_facts, death_facts]
     facts = [fact for part in (*written, *calls, never_worse_facts, *refusals, *ends) for fact in part()]
     wrong = [what for what, holds in facts if not holds]
     print(*(f"python: not so: {it}" for it in wrong), sep="\n", end="\n" if wrong else "")
