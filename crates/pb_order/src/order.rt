@@ -149,8 +149,8 @@ impl Order {
     }
 
     /// Where a conflict stands, bumps the activities of the variables of the row that could not be met. Where nothing is
-    /// minimised, or ties alone are left, it also bumps the variables whose values led to that, back to the decisions, and what was bumped before counts
-    /// less from now on.
+    /// minimised, or ties alone are left, it also bumps the variables whose values led to that, back to the decisions, and what
+    /// was bumped before counts less from now on.
     pub fn bump_conflict<C: Coefficient>(&mut self, propagator: &Propagator<C>) {
         // Where a row could not be met the search is hard, so its variables come sooner from now on. With an objective bounds
         // close most nodes, and conflicts tell too little to replace what costs and rows told: there reasons and decay made
