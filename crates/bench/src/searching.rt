@@ -8,9 +8,9 @@
 ghost use Rattle.std.specs.Prelude.{◌≡◌, ◌+◌, ◌≤◌, false, length, IfSome};
 
 use crate::texts::instance_of;
+use pb_clique::normalise_merged;
 use pb_cubes::{Pieces, split};
 use pb_inst::{Assignment, Best, Instance, Number};
-use pb_normal::normalise;
 use pb_search::{FIRST_TURNS, Search, SearchTables, Share};
 use std::alloc::Global;
 use std::io;
@@ -264,7 +264,7 @@ fn measure_pieces(
 ) -> Option<Measured>
     requires { pieces.now.vars ≡ instance.now.vars }
 {
-    let Ok(normal) = normalise(rt.alloc(), instance) else {
+    let Ok(normal) = normalise_merged(rt.alloc(), instance) else {
         return None;
     };
     let tables = SearchTables::new(rt.alloc(), instance, &normal, pieces).ok()?;

@@ -4,8 +4,8 @@ ghost use Rattle.std.specs.Prelude.{◌≡◌, IfErr, IfOk};
 ghost use Rattle.pb_questions.specs.Form.{IsFormOf};
 ghost use Rattle.pb_questions.specs.Known.{AreAnswersOf};
 
+use pb_clique::normalise_merged;
 use pb_inst::{Assignment, Instance, Memory};
-use pb_normal::normalise;
 use pb_questions::KnownAnswers;
 use pb_search::WholeSearch;
 use std::alloc::Global;
@@ -68,7 +68,7 @@ fn made_for(alloc: Global, instance: &Instance) -> Result<(WholeSearch, KnownAns
     ensures search { IfOk result (λ made. IsFormOf instance.now made.0) }
     ensures known { IfOk result (λ made. AreAnswersOf instance.now made.1) }
 {
-    let normal = normalise(alloc, instance)?;
+    let normal = normalise_merged(alloc, instance)?;
     let search = WholeSearch::new(alloc, &normal)?;
     let known = KnownAnswers::new(alloc, instance.vars())?;
     Ok((search, known))

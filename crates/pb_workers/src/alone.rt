@@ -6,9 +6,9 @@ ghost use Rattle.pb_cubes.specs.Solving.{HoldsLeast};
 use crate::facts::facts_of;
 use crate::piece::search_piece;
 use crate::solving::{Answer, SolveFault};
+use pb_clique::normalise_merged;
 use pb_cubes::Pieces;
 use pb_inst::{Best, Instance};
-use pb_normal::normalise;
 use pb_search::{Alone, LONG_TURNS, Outcome, Search};
 use std::alloc::Global;
 
@@ -46,7 +46,7 @@ pub(crate) fn solve_from<'i>(
     ensures no_budget { IfNone nodes (IfOk result (λ answer. answer.cut ≡ false)) }
     ensures parts { IfOk result (λ answer. (parts : List PartView) × IsAnswerOf inst.now pieces.now parts answer.best.held answer.cut × IfSome nodes (λ budget. All (KeepsBudget budget) parts)) }
 {
-    let normal = normalise(alloc, inst)?;
+    let normal = normalise_merged(alloc, inst)?;
     let mut search = Search::new(alloc, inst, &normal, pieces)?;
     search.begin(&mut best, &mut Alone, LONG_TURNS, nodes);
     let cut = search_all(&mut search, pieces.len(), &mut best, nodes);

@@ -15,9 +15,9 @@ use crate::note_share::Correspondence;
 use crate::task::Task;
 use crate::working::SearchWorkers;
 use pb_board::Board;
+use pb_clique::normalise_merged;
 use pb_cubes::Pieces;
 use pb_inst::{Best, Instance, Memory, Workers};
-use pb_normal::normalise;
 use pb_notes::Notes;
 use pb_search::SearchTables;
 use std::alloc::Global;
@@ -59,7 +59,7 @@ pub(crate) fn work_together<'i, R: Threads + Sync, N: Notes + Sync, G: Gate + Sy
     ensures no_budget { is_race ≡ false → IfNone nodes (IfOk result (λ dealt. dealt.cut ≡ false)) }
 {
     let mut best = Best::none(alloc, inst)?;
-    let normal = normalise(alloc, inst)?;
+    let normal = normalise_merged(alloc, inst)?;
     let tables = SearchTables::new(alloc, inst, &normal, pieces)?;
     let dealt = dealt_pieces(&task, pieces.len());
     let mut names = Names::with_room(alloc, &task, dealt)?;
