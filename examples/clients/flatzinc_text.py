@@ -5,6 +5,10 @@ from collections import deque
 
 from pbcube_program import NoAnswer
 
+OPERATORS = {*"<>+-*/\\|!^", "in", "where", "if", "let", "not", "xor", "div", "mod", "union"}  # of MiniZinc, none of which FlatZinc has
+CALLS = {"forall", "exists", "sum"}  # the same, where a parenthesis follows
+ITEMS = {"include", "output", "enum", "function", "annotation", "test", "type", "par", "opt", "any"}  # the same, first in a statement
+KINDS = {"var", "int", "bool", "float", "set", "of", "array", "[", "]", "{", "}", "..", ","}
 WORD = re.compile(r'"[^"\n]*"|%.*|::|\.\.|-?\d+(?:\.\d+)?(?:[eE][-+]?\d+)?|\w+|\S|\n')
 
 
@@ -20,6 +24,36 @@ def statements(text):
             words.append(word)
     if words:
         raise NoAnswer(f"line {line}: the last statement does not end with ;")
+
+
+def minizinc_line(text):
+    """The last line of the first statement that MiniZinc has and FlatZinc has not, or None where each may be of FlatZinc."""
+    try:
+        return next((line for line, words in statements(text) if is_minizinc(words)), None)
+    except NoAnswer:
+        return None  # all but the last one, which has no end
+
+
+def is_minizinc(words):
+    """Whether the statement has what FlatZinc has in none: an operator, a call within a sum, an item of another kind, a name or many
+    ranges in a type, or a parameter or an array without a value."""
+    first = words[0] if words else ""
+    calls = {name for name, then in zip(words, words[1:]) if then == "("}
+    if first in ITEMS or OPERATORS.intersection(words) or CALLS & calls or words[1:2] == ["="]:
+        return True
+    if first == "constraint":
+        return words[2:3] != ["("] or "=" in words
+    if first == "solve":
+        kind = next((at for at, word in enumerate(words) if word in ("minimize", "maximize")), len(words))
+        return "(" in words[kind:]
+    return first != "predicate" and ":" in words and is_declared_in_minizinc(words)
+
+
+def is_declared_in_minizinc(words):
+    """The same of a declaration."""
+    kind = words[: words.index(":")]
+    has_value = "=" in words or kind[:1] == ["var"]
+    return not has_value or kind.count("..") > 2 or any(it not in KINDS and not it.lstrip("-")[:1].isdigit() for it in kind)
 
 
 class Statement:

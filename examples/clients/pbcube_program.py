@@ -5,6 +5,7 @@ from __future__ import annotations
 import argparse
 import math
 import os
+import re
 import signal
 import subprocess
 import sys
@@ -18,6 +19,7 @@ FIRST_BUDGET = 250  # decisions of the first search where the time is limited
 GROWTH = 4  # of the budget from one search to the next, unless that would not end in time
 SAFE_SHARE = 0.8  # of the decisions that fit into the time that is left, since some take longer than others
 GREATEST_BUDGET = 1_000_000_000  # that pbcube takes
+GREATEST_SPLIT = 12
 
 
 class NoAnswer(Exception):
@@ -37,6 +39,15 @@ def text_of(path: str) -> str:
     return text
 
 
+def beside(name: str) -> str:
+    """The path of the program of that name beside this file, or in the bin of the folder that ./install or the archive put this file in;
+    the name itself, which is looked for on the PATH, where neither is there. A path stays as it is."""
+    here = Path(__file__).resolve().parent
+    places = () if "/" in name else (here, here / "../bin", here / "../../../bin")
+    paths = (place.resolve() / name for place in places)
+    return next((str(it) for it in paths if it.is_file() and os.access(it, os.X_OK)), name)
+
+
 class Status(Enum):
     """What the search found. The value is the word of the report's s line."""
 
@@ -49,11 +60,12 @@ class Status(Enum):
 @dataclass(frozen=True)
 class Report:
     """What pbcube wrote: the status, the numbers of the variables that are true, None where nothing was found, and the cost, None
-    without an objective."""
+    without an objective; and what it said on standard error."""
 
     status: Status
     true: frozenset[int] | None
     cost: int | None = None
+    said: str = ""
 
     def ends(self) -> bool:
         """Whether a search with more decisions has nothing to add. Without an objective one assignment is as good as another."""
@@ -70,8 +82,8 @@ Tell = Callable[[str, "Report | None"], None]  # is handed what a search was and
 
 @dataclass(frozen=True)
 class Program:
-    """How pbcube is called: its path, or its name on the PATH, its options, None for the default, and further words of the command
-    line. It is ended after `seconds` where they are given."""
+    """How pbcube is called: its path, or its name, which is looked for `beside` the clients and then on the PATH; its options, None for
+    the default, and further words of the command line. It is ended after `seconds` where they are given."""
 
     path: str = "pbcube"
     workers: int | None = None
@@ -85,7 +97,7 @@ class Program:
         """The program, and the words of the command line: `file`, and whether each of the flags is there, whole or as its first letter.
         Wrong words end the process with status 2."""
         parser = argparse.ArgumentParser(description=about, allow_abbrev=False)
-        parser.add_argument("--program", default="pbcube", help="the program pbcube, a path or a name on the PATH")
+        parser.add_argument("--program", default="pbcube", help="the program pbcube, a path or a name: one beside this, or else on the PATH")
         parser.add_argument("-p", "--workers", type=int, metavar="W", help="threads that share the work, 1 to 64")
         parser.add_argument("--split", type=int, metavar="K", help="divide the work into 2^K pieces, 0 to 12")
         parser.add_argument("--nodes", type=int, metavar="B", help="search each piece with at most B decisions")
@@ -96,12 +108,15 @@ class Program:
         return cls(words.program, words.workers, words.split, words.nodes), words
 
     def report(self, opb: str, tell: Tell = lambda *_: None) -> Report:
-        """The report on this text in OPB, or `NoAnswer`."""
+        """The report on this text in OPB, or `NoAnswer`. What pbcube said beside the report is passed on, once."""
         if self.seconds is None:
-            return self._search(opb, self.nodes, None, tell)
-        if not 0 <= self.seconds < math.inf:
+            report = self._search(opb, self.nodes, None, tell)
+        elif 0 <= self.seconds < math.inf:
+            report = self._best(opb, time.monotonic() + self.seconds, tell)
+        else:
             raise NoAnswer(f"a time limit is a number of seconds, 0 or more, and not {self.seconds}")
-        return self._best(opb, time.monotonic() + self.seconds, tell)
+        print(report.said, end="", file=sys.stderr)
+        return report
 
     def _best(self, opb: str, deadline: float, tell: Tell) -> Report:
         """The best report by the deadline: pbcube writes nothing before it ends, so searches have budgets that grow, up to the whole."""
@@ -125,32 +140,39 @@ class Program:
         begun = time.monotonic()
         numbers = {"workers": self.workers, "split": self.split, "nodes": budget}
         options = [f"--{name}={number}" for name, number in numbers.items() if number is not None]
-        command = [self.path, *options, *self.words, "/dev/stdin"]
+        command = [beside(self.path), *options, *self.words, "/dev/stdin"]
         left = None if deadline is None else deadline - begun
         if left is not None and left <= 0:
             raise subprocess.TimeoutExpired(command, 0)
         try:
             ended = subprocess.run(command, input=opb, capture_output=True, text=True, timeout=left)
         except OSError as fault:
-            raise NoAnswer(f"cannot run {self.path}: {fault.strerror}") from fault
-        report = self._read(ended)
+            where = "" if "/" in self.path else ": it is neither beside the clients nor on the PATH, and a path names another"
+            raise NoAnswer(f"cannot run {self.path}: {fault.strerror}{where}") from fault
+        report = self._read(ended, opb)
         tell(f"{self._in_words(budget)}, {time.monotonic() - begun:.2f} seconds", report)
         return report
 
     def _in_words(self, budget: int | None) -> str:
         return self.path if budget is None else f"{self.path}, at most {budget} decisions"
 
-    def _read(self, ended: subprocess.CompletedProcess[str]) -> Report:
-        """The report that it wrote, or `NoAnswer`."""
+    def _read(self, ended: subprocess.CompletedProcess[str], opb: str) -> Report:
+        """The report that it wrote on this text, or `NoAnswer`."""
         lines = {line[0]: line[2:] for line in ended.stdout.splitlines() if line and line[1:2] in ("", " ")}
         try:
             if "c" in lines:
                 raise ValueError
             true = frozenset(int(word[1:]) for word in lines["v"].split() if word[0] == "x") if "v" in lines else None
-            return Report(Status(lines.get("s")), true, int(lines["o"]) if "o" in lines else None)
+            return Report(Status(lines.get("s")), true, int(lines["o"]) if "o" in lines else None, ended.stderr)
         except ValueError:
             said = lines.get("c") or ended.stderr.strip().partition("\n")[0]
-            raise NoAnswer(f"{self.path}: {said or f'no report, status {ended.returncode}'}") from None
+            raise NoAnswer(f"{self.path}: {said or f'no report, status {ended.returncode}'}{_advice(said, opb)}") from None
+
+
+def _advice(said: str, opb: str) -> str:
+    """What helps where pbcube refused the split of this text, which tells how many variables it has."""
+    count = re.match(r"\* #variable= (\d+)", opb)
+    return f": the greatest split of this model is {min(int(count[1]), GREATEST_SPLIT)}" if count and "BadSplit" in said else ""
 
 
 def end_with_program() -> None:

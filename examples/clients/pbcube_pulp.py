@@ -19,7 +19,7 @@ from pulp import constants
 from pulp.apis.core import LpSolver, PulpSolverError
 
 from pbcube_model import Answer, Model, Objective, Row, decimal, whole_bounds
-from pbcube_program import NoAnswer, Program, Status
+from pbcube_program import NoAnswer, Program, Status, beside
 
 _RELATIONS = {constants.LpConstraintLE: "<=", constants.LpConstraintEQ: "=", constants.LpConstraintGE: ">="}
 _STATUSES = {
@@ -57,7 +57,7 @@ class PBCUBE(LpSolver):
 
     def available(self) -> bool:
         """Whether the program is there."""
-        return shutil.which(self.program.path) is not None
+        return shutil.which(beside(self.program.path)) is not None
 
     def copy(self) -> PBCUBE:
         """A solver that calls the same program in the same way."""

@@ -17,7 +17,7 @@ import subprocess
 import sys
 import tempfile
 import time
-from contextlib import redirect_stdout
+from contextlib import redirect_stderr, redirect_stdout
 from fractions import Fraction
 from pathlib import Path
 
@@ -35,6 +35,7 @@ lp_model_of = runpy.run_path(str(CLIENTS / "pbcube-lp"))["model_of"]
 MODELS = 150  # that take a few milliseconds each
 COMPILED = 4  # that take most of a second each
 MODEL = r"examples/clients/\w+\.(?:py|mzn|cudf|lp)\b"  # of a command
+ONE_PIECE = "pbcube: one worker searches the one piece: --split divides the work among several\n"
 CBC_STEP = 10  # one in this number of PuLP models is given to CBC
 ODD_NAMES = ("x", "y1", "#2", "z(1,2)", "it's", "e_", "a;b", "_", 'é|"', "end.", "$&~", "free!")
 NAMES = ("a", "b", "c", "d", "e", "f")
@@ -126,7 +127,8 @@ def lp_faults(path):
 def word_faults(path, room):
     """pbcube-lp with options, and where there is no answer: one line on standard error, and status 1."""
     file = CLIENTS / "mixture.lp"
-    refused, bytes_, signed, zeros = (room / f"{name}.lp" for name in ("refused", "bytes", "signed", "zeros"))
+    refused, bytes_, signed, zeros, small = (room / f"{name}.lp" for name in ("refused", "bytes", "signed", "zeros", "small"))
+    small.write_text("Max\n x\nBounds\n 0 <= x <= 3\nGenerals\n x\nEnd\n")
     refused.write_text("Min\n x\n")
     bytes_.write_bytes(b"Min\n \xff\n")
     signed.write_bytes(b"\xef\xbb\xbf" + file.read_bytes())
@@ -134,8 +136,10 @@ def word_faults(path, room):
     expected, here = file.with_suffix(".expected").read_text(), f"pbcube-lp: {file}: "
     rows = {
         ("--workers", "3", "--split", "2", file): Ended(expected, "", 30),
-        ("-p", "2", "--nodes", "1000", file): Ended(expected, "", 30),
+        ("-p", "2", "--nodes", "1000", file): Ended(expected, ONE_PIECE, 30),
         ("--nodes", "0", file): Ended("s UNKNOWN\n", "", 0),
+        ("--split", "3", small): Ended("", f"pbcube-lp: {small}: {path}: refused split: BadSplit: the greatest split of this model is 2\n", 1),
+        ("--split", "2", small): Ended("s OPTIMUM FOUND\no 3\nv x 3\n", "", 30),
         ("--split", "13", file): Ended("", f"{here}{path}: error: invalid value '13' for '--split <K>': 13 is not in 0..=12\n", 1),
         ("--program", "/no/pbcube", file): Ended("", f"{here}cannot run /no/pbcube: No such file or directory\n", 1),
         (refused,): Ended("", f"pbcube-lp: {refused}: line 2: x is continuous, and pbcube has integers alone\n", 1),
@@ -147,6 +151,31 @@ def word_faults(path, room):
     ends = side_by_side(lambda words: ran([CLIENTS / "pbcube-lp", "--program", path, *words]), rows)
     for (words, expected), end in zip(rows.items(), ends):
         yield f"pbcube-lp {words}", "" if end == expected else f"{end} and not {expected}"
+
+
+def beside_faults(path, room):
+    """The clients below a folder as ./install fills it, where no program is on the path."""
+    prefix, bare = room / "prefix", {"PATH": "/usr/bin:/bin"}
+    shutil.copytree(CLIENTS, prefix / "share/pbcube/clients")
+    text, expected = CLIENTS / "mixture.lp", (CLIENTS / "mixture.expected").read_text()
+    called = [str(Path(sys.executable)), "-B"]
+    lp, flatzinc = prefix / "bin/pbcube-lp", prefix / "share/pbcube/clients/fzn-pbcube"
+    model = room / "beside.fzn"
+    model.write_text(FLATZINC_SATISFIED)
+    nowhere = "cannot run pbcube: No such file or directory: it is neither beside the clients nor on the PATH, and a path names another\n"
+    (prefix / "bin").mkdir()
+    lp.symlink_to("../share/pbcube/clients/pbcube-lp")
+    end = ran([*called, lp, text], env=bare)
+    yield "pbcube-lp without a program", "" if end == Ended("", f"pbcube-lp: {text}: {nowhere}", 1) else str(end)
+    (prefix / "bin/pbcube").symlink_to(path)
+    for command, written in (([lp, text], Ended(expected, "", 30)), ([flatzinc, model], Ended("x = 1;\n----------\n", "", 0))):
+        end = ran([*called, *command], env=bare)
+        yield f"{command[0].name} beside the program", "" if end == written else str(end)
+    unlike = room / "unlike"
+    unlike.mkdir()
+    (unlike / "pbcube").symlink_to("/bin/false")
+    end = ran([*called, lp, text], env={"PATH": f"{unlike}:/usr/bin:/bin"})
+    yield "pbcube-lp beside the program, with another on the path", "" if end == Ended(expected, "", 30) else str(end)
 
 
 def manual_fault():
@@ -237,6 +266,10 @@ def timed_faults(room):
     yield "a time limit and a budget", "" if found == ([2, 3], 2, [f"--nodes={it} /dev/stdin" for it in (250, 1000)]) else str(found)
     found = searched(seconds=0)
     yield "no time", "" if found == ([None], None, []) else str(found)
+    stand_in.write_text(stand_in.read_text().replace("cat > /dev/null", "cat > /dev/null; echo 'as a program says' >&2", 1))
+    with redirect_stderr(io.StringIO()) as said:
+        searched(nodes=1000, seconds=SECONDS)
+    yield "what each search says is told once", "" if said.getvalue() == "as a program says\n" else repr(said.getvalue())
     for seconds in (-1, float("nan"), float("inf")):
         said = no_answer(lambda: searched(seconds=seconds))
         told = f"a time limit is a number of seconds, 0 or more, and not {seconds}"
@@ -360,10 +393,14 @@ def pulp_words(pulp, solver, path):
         said = re.sub(r"\d+\.\d\d seconds", "T seconds", said.getvalue())
         is_right = (status, whole.value(), said) == (*((0, None) if is_open else (1, 2)), told)
         yield f"PuLP: {words}", "" if is_right else f"{status}, {whole.value()}, {said!r}"
+    with redirect_stderr(io.StringIO()) as said:
+        lp.solve(solver(path, workers=2))
+    yield "PuLP: several workers and one piece", "" if said.getvalue() == ONE_PIECE else repr(said.getvalue())
     refused = {
         "options is a list of words, as ['--cubes', 'FILE'], and not '--split 1'": {"options": "--split 1"},
         f"{path}: error: invalid value '13' for '--split <K>': 13 is not in 0..=12": {"options": ["--split", "13"]},
         "a time limit is a number of seconds, 0 or more, and not -1": {"timeLimit": -1},
+        f"{path}: refused split: BadSplit: the greatest split of this model is 2": {"split": 3},
     }
     for told, words in refused.items():
         try:
@@ -408,6 +445,30 @@ FLATZINC_FAULTS = {
 }
 
 
+OF_MINIZINC = "this is MiniZinc, and not FlatZinc: have it compiled and solved by minizinc --solver pbcube FILE"
+MINIZINC_TEXTS = {  # that are no FlatZinc, and the lines of the statements that show it
+    "int: n = 3;\nvar 1..n: x;\nsolve satisfy;": 2,
+    "int: n;\nvar 0..3: x;\nsolve satisfy;": 1,
+    "var 0..3: x; var 0..3: y;\nconstraint x + y <= 4;\nsolve maximize x;": 2,
+    "var 0..3: x; var 0..3: y;\nconstraint x = y;\nsolve maximize x;": 2,
+    "var 0..3: x; var 0..3: y;\nsolve maximize x + y;": 2,
+    "array[1..2] of var 0..3: x;\nsolve maximize sum(x);": 1,
+    "var bool: b; var bool: c;\nconstraint b -> c;\nsolve satisfy": 2,
+    "var 0..3: x;\nconstraint int_le(2, x) /\\ int_le(x, 2);\nsolve satisfy;": 2,
+    "var 0..3: x;\nconstraint not int_le(2, x);\nsolve satisfy;": 2,
+    "var 0..3: x;\nconstraint forall(i in 1..3)(int_le(i, x));\nsolve satisfy;": 2,
+    'include "alldifferent.mzn";\nvar 0..3: x;\nsolve satisfy;': 1,
+    "enum Colour = {Red, Green};\nvar Colour: c;\nsolve satisfy;": 1,
+    "var 0..3: x;\nconstraint alldifferent([x]);\nsolve satisfy;\noutput [show(x)];": 4,
+}
+STRANGE = "this is no statement of FlatZinc for linear solvers"
+FLATZINC_LEFT = {  # statements with something left behind what can be told
+    "var 0..3: x;\nconstraint int_le(2, x) x;\nsolve satisfy;": f"line 2: {STRANGE}",
+    "var 0..3: x;\nsolve maximize x x;": f"line 2: {STRANGE}",
+    "var 0..3: x;\nvar 0..3: y = x 2;\nsolve satisfy;": f"line 2: {STRANGE}",
+    "var 0..3: x;\nconstraint odd int_le(2, x);\nsolve satisfy;": f"line 2: {OF_MINIZINC}",
+    "var 0..3: sum :: output_var;\nconstraint int_times(sum, sum, sum);\nsolve satisfy;": "line 2: the constraint int_times cannot be told to pbcube",
+}
 FLATZINC_BYTES = {  # the same of files that are no text
     b"\x7fELF\2\1\1\0\0\0": "line 1 is no text: it has a zero byte",
     b"var 0..3: x;\n\x89PNG\n": "line 2 is no text in UTF-8",
@@ -425,6 +486,7 @@ FLATZINC_FLAGS = {  # a text and a flag, with what is written then
     (FLATZINC, "-a"): Ended(FLATZINC_ANSWER, "", 0),
     (FLATZINC, "-i"): Ended(FLATZINC_ANSWER, "", 0),
     (FLATZINC_SATISFIED, "-a"): Ended("x = 1;\n----------\n", ALL, 0),
+    (FLATZINC_SATISFIED, "-p2"): Ended("x = 1;\n----------\n", ONE_PIECE, 0),
     (FLATZINC_SATISFIED, "-s"): Ended(f"x = 1;\n----------\n{STATISTICS}", "", 0),
     ("var 1..3: x; constraint int_le(4, x); solve satisfy;", "-a"): Ended("=====UNSATISFIABLE=====\n", "", 0),
 }
@@ -443,12 +505,17 @@ def flatzinc_faults(path, room):
         end = without_times(ran([CLIENTS / "fzn-pbcube", "--program", path, flag, file]))
         yield f"FlatZinc {text!r} {flag}", "" if end == expected else f"{end} and not {expected}"
     rows = {FLATZINC.encode(): Ended(FLATZINC_ANSWER, "", 0), b"\xef\xbb\xbf" + FLATZINC.encode(): Ended(FLATZINC_ANSWER, "", 0)}
-    faults = {**{text.encode(): told for text, told in FLATZINC_FAULTS.items()}, **FLATZINC_BYTES}
+    minizinc = {text: f"line {line}: {OF_MINIZINC}" for text, line in MINIZINC_TEXTS.items()}
+    faults = {**{text.encode(): told for text, told in (FLATZINC_FAULTS | FLATZINC_LEFT | minizinc).items()}, **FLATZINC_BYTES}
     rows |= {text: Ended("=====ERROR=====\n", f"fzn-pbcube: {told}\n", 1) for text, told in faults.items()}
     files = {room / f"{number}.fzn": text for number, text in enumerate(rows)}
     for file, text in files.items():
         file.write_bytes(text)
     ends = side_by_side(lambda file: ran([CLIENTS / "fzn-pbcube", "--program", path, file]), files)
+    model = room / "model.mzn"
+    model.write_text("var 0..3: x; solve maximize x;\n")
+    end = ran([CLIENTS / "fzn-pbcube", "--program", path, model])
+    yield "FlatZinc, a name of MiniZinc", "" if end == Ended("=====ERROR=====\n", f"fzn-pbcube: {OF_MINIZINC}\n", 1) else str(end)
     yield "FlatZinc, not read", unread_fault([CLIENTS / "fzn-pbcube", "--program", path, room / "0.fzn"])
     for (text, expected), end in zip(rows.items(), ends):
         yield f"FlatZinc {text!r}", "" if end == expected else f"{end} and not {expected}"
@@ -552,6 +619,7 @@ def checks(path, room):
     yield from random_lp_faults(path)
     yield from lp_faults(path)
     yield from word_faults(path, room)
+    yield from beside_faults(path, room)
     yield "pbcube-lp, its manual page", manual_fault()
     yield "pbcube-lp, stopped", stopped_fault(room)
     yield "pbcube-lp, not read", unread_fault([CLIENTS / "pbcube-lp", "--program", path, CLIENTS / "mixture.lp"])
