@@ -26,6 +26,7 @@ OTHERS = {  # what the text seems to be instead, by how it begins
     r"/[*/]|(?:min|max)\w*\s*:|[^;\n]*;": "lp_solve's: write sections, as Minimize, Subject To and Binaries",
 }
 KEYWORD = re.compile(rf"\s*(?:{'|'.join(f'(?P<{kind}>{words})' for kind, words in SECTIONS.items())})(?=\s|$)(?!\s*:)", re.I)
+OPENING = rf"subject|such|{'|'.join(SECTIONS[it] for it in ('bounds', 'binaries', 'integers', 'end'))}|s\.?t\.?"
 TOKEN = re.compile(
     r"(?P<relation>[<>]=?|=[<>]?)|(?P<number>(?:\d+\.?\d*|\.\d+)(?:e[+-]?\d+)?)|(?P<sign>[+-](?!>))|(?P<colon>:)"
     r"|(?P<name>[^\s\d.+\-<>=:\[\]^*/][^\s+\-<>=:\[\]^*/]*)|(?P<other>->|\S)",
@@ -37,7 +38,11 @@ NOT_READ = {  # what is told of a word that LP has, where it stands
     "^": ": products are not read",
     "*": ": products are not read, and 2 x has no *",
     "->": ": indicators are not read",
+    "/": ": nothing is divided, and half of x is 0.5 x",
+    "\u2264": ": write <=",
+    "\u2265": ": write >=",
 }
+ALONE = ": variables stand on the left side alone, and a row is a sum, a relation and a number"
 FLIPPED = {"<=": ">=", ">=": "<=", "=": "="}
 Token = namedtuple("Token", "line kind text")  # of the kinds that TOKEN names
 
@@ -57,7 +62,8 @@ class Section:
         token = self.tokens.popleft() if self.tokens else Token(self.line, "", "the section's end")
         self.line = token.line
         if token.kind != kind:
-            told = NOT_READ.get(token.text, "")
+            opens = ": a section begins on a line of its own" if re.fullmatch(OPENING, token.text, re.I) else ""
+            told = NOT_READ.get(token.text, opens)
             raise NoAnswer(f"line {token.line}: {token.text} stands where there should be a {kind}{told}")
         return token.text
 
@@ -129,7 +135,10 @@ class Section:
         while self.tokens:
             self.label()
             terms, constant = self.sum()
-            yield Row(f"line {self.line}", terms, self.relation(), self.sign() * self.number() - constant)
+            line, relation, sign = self.line, self.relation(), self.sign()
+            if self.kind() == "name":
+                raise NoAnswer(f"line {self.tokens[0].line}: {self.tokens[0].text} stands where there should be a number{ALONE}")
+            yield Row(f"line {line}", terms, relation, sign * self.number() - constant)
 
     def bounds(self):
         """Names with a relation and a number, which is None where it is infinite."""

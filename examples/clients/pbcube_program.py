@@ -97,7 +97,7 @@ class Program:
         """The program, and the words of the command line: `file`, and whether each of the flags is there, whole or as its first letter.
         Wrong words end the process with status 2."""
         parser = argparse.ArgumentParser(description=about, allow_abbrev=False)
-        parser.add_argument("--program", default="pbcube", help="the program pbcube, a path or a name: one beside this, or else on the PATH")
+        parser.add_argument("--program", default="pbcube", help="the program pbcube, a path, or a name beside this or on the PATH")
         parser.add_argument("-p", "--workers", type=int, metavar="W", help="threads that share the work, 1 to 64")
         parser.add_argument("--split", type=int, metavar="K", help="divide the work into 2^K pieces, 0 to 12")
         parser.add_argument("--nodes", type=int, metavar="B", help="search each piece with at most B decisions")

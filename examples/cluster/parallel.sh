@@ -4,9 +4,9 @@
 #   parallel.sh FILE FORMAT SPLIT FOLDER [HOSTS]
 #
 # HOSTS is a file of `cores/host` lines for --sshloginfile (each host has pbcube on its path); without it the cores here serve.
-# A lost host or a killed solver costs its pieces alone: the same words once more solve the pieces that have no report, and join
-# all. A FOLDER with the pieces of another file or of another split, with pieces or reports and no index, or with an index that is
-# newer than a report, is refused, with status 2, as are words that are wrong.
+# A lost host or a killed solver costs its pieces alone: the same words once more solve the pieces that have no report, or one that was
+# cut off, and join all. A FOLDER with the pieces of another file or of another split, with pieces or reports and no index, or with an
+# index that is newer than a report, is refused, with status 2, as are words that are wrong.
 set -euo pipefail
 [ $# -ge 4 ] && [ $# -le 5 ] || { echo "usage: parallel.sh FILE FORMAT SPLIT FOLDER [HOSTS]" >&2; exit 2; }
 file=$1 format=$2 split=$3 folder=$4 hosts=() where='$PWD' # the folder of a piece, once it runs
@@ -54,9 +54,13 @@ else
   pbcube_pieces "$file" --format "$format" --split "$split" --out "$folder" >&2
 fi
 
-missing() { # the pieces that have no report, or an empty one
+has_end() { # whether a report has its status, the values that belong to it, and the end of its last line
+  grep -qE '^(v|s UN)' "$1" && grep -q '^s ' "$1" && tail -c 1 "$1" | grep -qx ''
+}
+
+missing() { # the pieces that have no report, or an empty one, or one that was cut off
   grep -E '^[0-9]+\.(opb|cnf)$' index | while read -r piece; do
-    [ -s "${piece%.*}.report" ] || echo "$piece"
+    has_end "${piece%.*}.report" 2> /dev/null || echo "$piece"
   done
 }
 
@@ -65,4 +69,10 @@ missing() { # the pieces that have no report, or an empty one
 solve='pbcube --format {= s/.*\.// =} {} > {.}.part; ended=$?; case $ended in 10 | 20 | 30) mv {.}.part {.}.report ;; *) '
 solve+="[ ! -s {.}.part ] || echo \"parallel.sh: piece {.} ended with status \$ended: look at $where/{.}.part\" >&2; exit 1 ;; esac"
 (cd "$folder" && missing | parallel "${hosts[@]}" --no-run-if-empty --joblog +joblog "$solve") || true
-exec pbcube_join "$file" --format "$format" "$folder"
+status=0
+pbcube_join "$file" --format "$format" "$folder" || status=$?
+for report in "$folder"/*.report; do
+  [ $status != 1 ] || [ ! -s "$report" ] || has_end "$report" ||
+    echo "parallel.sh: $report was cut off: the same words once more run that piece again" >&2
+done
+exit $status

@@ -18,6 +18,10 @@ refuse() {
   exit 2
 }
 
+has_end() { # whether a report has its status, the values that belong to it, and the end of its last line
+  grep -qE '^(v|s UN)' "$1" && grep -q '^s ' "$1" && tail -c 1 "$1" | grep -qx ''
+}
+
 [ -d "$folder" ] && [ -w "$folder" ] || refuse "FOLDER is a folder that can be written, with reports, and not '$folder'"
 rm -f "$folder/joined"
 exec 3>&2 2> "$folder/joined.log"
@@ -32,6 +36,9 @@ for report in "$folder"/*.report; do
 done
 pbcube_join "$file" --format "$format" ${4:+--tasks "$4"} "$folder" > "$folder/joined.part" || status=$?
 mv "$folder/joined.part" "$folder/joined"
+for report in "$folder"/*.report; do
+  [ $status != 1 ] || [ ! -s "$report" ] || has_end "$report" || echo "slurm-join.sh: $report was cut off: run that task again" >&2
+done
 case $status in
   10 | 20 | 30) ;;
   *) exit 1 ;;

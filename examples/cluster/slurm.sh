@@ -12,16 +12,20 @@
 #
 #   job=$(sbatch --parsable --array=0-341 slurm.sh FOLDER 3)
 #
-# What was lost or killed has no report: the same line once more solves those pieces and passes over all others. The last line of
-# FOLDER/joined.log names them as --array takes them, with one piece for each task: `run again: pieces 3,5-7`.
-# A FOLDER with a report that is older than its index is refused, with status 2, as are words that are wrong. What a task says on
-# standard error is also in FOLDER/task-NUMBER.log, where it says anything.
+# What was lost or killed has no report: the same line once more solves those pieces, and those whose reports were cut off, and passes
+# over all others. The last line of FOLDER/joined.log names them as --array takes them, with one piece for each task: `run again: pieces
+# 3,5-7`. A FOLDER with a report that is older than its index is refused, with status 2, as are words that are wrong. What a task says
+# on standard error is also in FOLDER/task-NUMBER.log, where it says anything.
 set -euo pipefail
 [ $# -ge 1 ] && [ $# -le 2 ] || { echo "usage: slurm.sh FOLDER [PIECES]" >&2; exit 2; }
 
 refuse() {
   echo "slurm.sh: $1" >&2
   exit 2
+}
+
+has_end() { # whether a report has its status, the values that belong to it, and the end of its last line
+  grep -qE '^(v|s UN)' "$1" && grep -q '^s ' "$1" && tail -c 1 "$1" | grep -qx ''
 }
 
 [ -d "$1" ] && [ -w "$1" ] || refuse "FOLDER is a folder that can be written, with pieces by pbcube_pieces, and not '$1'"
@@ -49,7 +53,7 @@ if [ "$first" -ge "${#pieces[@]}" ]; then
 fi
 for piece in "${pieces[@]:first:a_task}"; do
   name=${piece%.*} status=0 look=''
-  [ ! -s "$name.report" ] || continue
+  ! has_end "$name.report" 2> /dev/null || continue
   pbcube --format "${piece##*.}" "$piece" > "$name.part" || status=$?
   # The statuses 10, 20 and 30 are answers, and no others are; a report has its name only once it is whole.
   case $status in

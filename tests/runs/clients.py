@@ -72,6 +72,7 @@ READ = "pbcube-lp reads CPLEX's LP format, and this text"
 IN_SECTIONS = f"{READ} seems to be lp_solve's: write sections, as Minimize, Subject To and Binaries"
 IN_MPS = f"{READ} seems to be MPS: have the program that wrote it write LP"
 NO_STAR = "stands where there should be a relation: products are not read, and 2 x has no *"
+ONE_SIDE = "stands where there should be a number: variables stand on the left side alone, and a row is a sum, a relation and a number"
 LP_ROWS = {  # what is told of texts that are refused
     "Minimize\n x\nEnd": "line 2: x is continuous, and pbcube has integers alone",
     "Min\n x\nGenerals\n x\nEnd": "line 2: x has no finite upper bound",
@@ -85,7 +86,13 @@ LP_ROWS = {  # what is told of texts that are refused
     "Min\n x\nst\n c: x * y >= 1\nBinary\n x y": f"line 4: * {NO_STAR}",
     "Min\n x\nst\n c: b = 1 -> x >= 1\nBinary\n x b": "line 4: -> stands where there should be a label: indicators are not read",
     "Min\n x\nst\n c: b <-> x\nBinary\n x b": "line 4: -> stands where there should be a number: indicators are not read",
-    "Min\n x\nst\n 1 <= x\nBinary\n x": "line 4: x stands where there should be a number",
+    "Min\n x\nst\n 1 <= x\nBinary\n x": f"line 4: x {ONE_SIDE}",
+    "Min\n x\nst\n x >= y\nBinary\n x y": f"line 4: y {ONE_SIDE}",
+    "Min\n x\nst\n 1 <= x + y <= 2\nBinary\n x y": f"line 4: x {ONE_SIDE}",
+    "Min\n x\nst\n x \u2265 1\nBinary\n x": "line 4: \u2265 stands where there should be a relation: write >=",
+    "Min\n x / 2\nBinary\n x": "line 2: / stands where there should be a sign: nothing is divided, and half of x is 0.5 x",
+    "min x subject to x >= 1 binary x end": "line 1: subject stands where there should be a sign: a section begins on a line of its own",
+    "Min\n x\nst\n x >= 1\nBinary\n x, y\n": "line 6: x, is a name with a comma: names stand with blanks between them",
     "Min\n x\nst\n x >= 1 <= 2\nBinary\n x": "line 4: <= stands where there should be a label",
     "Min\n x\nst\n x >= 3 + y <= 5\nBinary\n x y": "line 4: + stands where there should be a label",
     "Min\n x\nst\n x + >= 1\nBinary\n x": "line 4: >= stands where there should be a name",

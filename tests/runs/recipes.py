@@ -210,6 +210,7 @@ class OfPieces(Recipes):
         ended = self.ran("slurm.sh", bare, SLURM_ARRAY_TASK_ID="0")
         if ended.status != 2 or "has no index" not in log_of(bare, 0):
             yield f"slurm.sh, in a folder without an index: {ended} {log_of(bare, 0)}"
+        yield from self.of_cut_off_reports(folder, task)
         yield from self.of_slurm_again(folder, task)
         if (said := task(4, path="no memory"))[0] != 1 or f"status 0: look at {folder}/4.part\n" not in said[1]:
             yield f"slurm.sh, no memory: {said}"
@@ -222,6 +223,17 @@ class OfPieces(Recipes):
         log = (folder / "joined.log").read_text()
         if ended.status != 2 or (folder / "joined").exists() or ended.err != log or "0.report is older than the index" not in log:
             yield f"slurm-join.sh, a report of an earlier cut: {ended} {log!r}"
+
+    def of_cut_off_reports(self, folder, task):
+        """A crash of the machine has cut off a report. The join says so, and the task of its piece runs again."""
+        whole = (folder / "3.report").read_text()
+        for part in (whole[:4], whole[: whole.index("v ")], whole[:-1], whole[: whole.index("s ") + 5], "\0" * len(whole)):
+            (folder / "3.report").write_text(part)
+            said = self.joined(folder)
+            if part != whole[:-1] and (said[0] != 1 or f"slurm-join.sh: {folder}/3.report was cut off: run that task again\n" not in said[2]):
+                yield f"slurm-join.sh, a report that is {part!r}: {said}"
+            if (said := task(1, 3)) != (0, "") or (folder / "3.report").read_text() != whole:
+                yield f"slurm.sh, a report that is {part!r}: {said}"
 
     def of_slurm_again(self, folder, task):
         """Some pieces have lost their reports, and then all. The join names them as an array."""
