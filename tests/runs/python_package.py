@@ -240,6 +240,45 @@ def number_facts():
     yield "variables", len(model.variables(Whole(2))) == 2
 
 
+def other_name_facts():
+    """Names and operators of other packages, and a part of what is said of each."""
+    model = Model()
+    x, y, z = model.variables("x y z")
+    cases = (
+        (lambda: x // 2, "2 * q <= x + y"), (lambda: (x + y) // 2, "x / 2 is half"), (lambda: 7 // x, "2 * q"), (lambda: x % 2, "2 * q + r"),
+        (lambda: 5 % (x + y), "remainder"), (lambda: x**2, "write x for x ** 2"), (lambda: (x + y) ** 2, "each product"),
+        (lambda: abs(x - y), "x - y >= -1"), (lambda: min(x, y), "model.implies(z, x)"), (lambda: max(x, y), "model.implies(x, z)"),
+        (lambda: x / y, "x >= 2 * y"), (lambda: 2 / x, "x / 2"), (lambda: (x + y) / (x + 1), "x >= 2 * y"), (lambda: int(x), "answer[x]"),
+        (lambda: float(x + y), "answer.value(x + y)"), (lambda: x >> y, "model.implies(x, y)"), (lambda: x == y == z, "or x == y == z"),
+        (lambda: 1 if x else 0, "answer[x]"), (lambda: (x >= 1) & (y >= 1), "add each by itself"), (lambda: True & (x >= 1), "by itself"),
+        (lambda: (x >= 1) | (y >= 1), "model.clause([z, w])"), (lambda: ~(x + y >= 1), "the opposite"),
+        (lambda: (x >= 1) >> (y >= 1), "model.implies(z, constraint)"),
+    )  # fmt: skip
+    for at, (call, said) in enumerate(cases):
+        fault = raised(call)
+        yield f"operator {at}: {fault!r}", type(fault) is TypeError and said in str(fault)
+    attributes = (
+        (lambda: model.minimize(x), "model.minimise(sum)"), (lambda: model.maximize(x), "model.maximise(sum)"),
+        (lambda: setattr(model, "minimize", x), "model.minimise(sum)"), (lambda: setattr(model, "objective", x + y), "model.minimise(sum)"),
+        (lambda: setattr(model, "minimise", x), "model.minimise(..)"), (lambda: model.addConstr(x >= 1), "model.add(constraint)"),
+        (lambda: model.add_clause([x]), "model.clause([x, ~y])"), (lambda: model.optimize(), "model.solve()"),
+        (lambda: model.status, "answer.cost"), (lambda: model.colour, "'colour'"), (lambda: x.value(), "answer[x]"),
+        (lambda: (x + y).value, "answer.value(x + y)"), (lambda: x.Not(), "write ~x"), (lambda: x.colour, "'colour'"),
+    )  # fmt: skip
+    for at, (call, said) in enumerate(attributes):
+        fault = raised(call)
+        yield f"attribute {at}: {fault!r}", type(fault) is AttributeError and said in str(fault)
+    yield "which are not there", not (hasattr(model, "minimize") or hasattr(x, "value") or hasattr(x + y, "X"))
+    for name in ("m.cnf", Path("m.LP"), b"m.opb.gz"):
+        fault = raised(lambda: model.write(name))
+        yield f"{name}: {fault!r}", type(fault) is ValueError and "model.write('a.opb')" in str(fault) and not os.path.exists(name)
+    yield "a sum with a plus", (repr(+x), repr(+(x - y))) == ("x", "x - y")
+    made = [model.variable("q"), model.variable("r")]
+    model.add(x + y == 2 * made[0] + made[1])
+    told = {(it[x] + it[y], it[made[0]], it[made[1]]) for it in (model.solve(assuming=[one, two]) for one in (x, ~x) for two in (y, ~y))}
+    yield f"the remainder as it is said: {told}", told == {(0, False, False), (1, False, True), (2, True, False)}
+
+
 def mistake_facts():
     """What is likely to be written by mistake, and a part of what is said of it."""
     model = Model()
@@ -1097,7 +1136,7 @@ def death_facts():
 def main():
     written = [name_facts, table_facts, many_name_facts, pickle_facts, number_facts, gathered_facts, written_facts, read_facts]
     calls = [value_facts, page_facts, wide_facts, copy_facts, question_facts, start_facts, random_facts, child_facts, kept_facts]
-    refusals = [mistake_facts, foreign_facts, refusal_facts, room_facts, text_facts, hint_facts, shared_hint_facts, limit_of_text_facts]
+    refusals = [other_name_facts, mistake_facts, foreign_facts, refusal_facts, room_facts, text_facts, hint_facts, shared_hint_facts, limit_of_text_facts]
     interrupts = [lambda: interrupt_facts(os.kill), lambda: interrupt_facts(os.killpg), question_end_facts]
     ends = [taken_facts, warned_facts, stranger_facts, *interrupts, exception_facts, limit_facts, death_facts]
     facts = [fact for part in (*written, *calls, never_worse_facts, *refusals, *ends) for fact in part()]

@@ -8,9 +8,10 @@ from array import array
 from dataclasses import dataclass
 from fractions import Fraction
 from operator import index
-from typing import Any, Callable, Dict, FrozenSet, Iterable, List, Mapping, NoReturn, Optional, Sequence, SupportsIndex, Tuple, Union
+from typing import TYPE_CHECKING, Any, Callable, Dict, FrozenSet, Iterable, List, Mapping, NoReturn, Optional, Sequence
+from typing import SupportsIndex, Tuple, Union
 
-from . import conflicts, searches, texts
+from . import conflicts, hints, searches, texts
 from .answers import Answer, Explanation, Fixed, Names, Status
 from .errors import Error, Refused, format_of, refused
 from .jobs import Job, Question, Reply, Statement
@@ -63,6 +64,19 @@ class Model:
         self._has_wide_rules = False  # with numbers that do not fit 64 bits
         self._kept = searches.Kept()
         self._found: Dict[FrozenSet[int], Reply] = {}  # the best ones by what they assume, until something is stated
+
+    def __setattr__(self, name: str, value: object) -> None:
+        """Refuses what would be a call in place of a value, as `model.minimise = x` does."""
+        if not name.startswith("_") and callable(getattr(type(self), name, None)):
+            raise AttributeError(f"{name} is a call of a model, and takes no value: write model.{name}(..)")
+        if hints.is_of_other(name):
+            raise AttributeError(hints.of_model(name))
+        super().__setattr__(name, value)
+
+    if not TYPE_CHECKING:  # which would then take each name for one of a model
+
+        def __getattr__(self, name: str) -> NoReturn:
+            raise AttributeError(hints.of_model(name))
 
     def copy(self) -> Model:
         """A model of the same variables and rules, which takes more without this one. The literals that this one has are literals of
@@ -166,9 +180,12 @@ class Model:
         return texts.opb(variables, statements)
 
     def write(self, path: Union[str, os.PathLike[str]]) -> None:
-        """Writes `text` to a file. Raises OSError where it cannot be written."""
+        """Writes `text` to a file. Raises OSError where it cannot be written, and ValueError where its name is one of another format."""
         if not isinstance(path, (str, bytes, os.PathLike)):
             raise TypeError(f"no path: {path!r}: write model.write('a.opb'), or take model.text(), which is what it writes")
+        ending = os.path.splitext(os.fsdecode(path))[1][1:].lower()
+        if ending in hints.IN_OTHER_FORMATS:
+            raise ValueError(f"a model is written as OPB, and not as {ending}: write model.write('a.opb')")
         text = self.text().encode("ascii")
         with open(path, "wb") as file:
             file.write(text)

@@ -8,8 +8,9 @@ from dataclasses import dataclass, field
 from decimal import Decimal
 from fractions import Fraction
 from operator import index
-from typing import Any, Dict, Iterable, List, Mapping, NoReturn, Optional, Sequence, Tuple, Union
+from typing import TYPE_CHECKING, Any, Dict, Iterable, List, Mapping, NoReturn, Optional, Sequence, Tuple, Union
 
+from . import hints
 from .errors import Error, ForeignLiteral
 
 MOST_VARIABLES = 1_048_576
@@ -151,10 +152,16 @@ class _Operand:
     __array_ufunc__ = None  # so numpy leaves each operation with its numbers and arrays to these classes
 
     def __lt__(self, other: NoReturn) -> NoReturn:
-        raise TypeError("a sum is not compared by <: write <= and the greatest number allowed, as x + y <= 1 for x + y < 2")
+        raise TypeError(
+            "a sum is not compared by <: write <= and the greatest number allowed, as x + y <= 1 for x + y < 2; in place of min(x, y) of "
+            "literals write a new variable z, with model.implies(z, x), model.implies(z, y) and model.clause([~x, ~y, z])"
+        )
 
     def __gt__(self, other: NoReturn) -> NoReturn:
-        raise TypeError("a sum is not compared by >: write >= and the least number allowed, as x + y >= 2 for x + y > 1")
+        raise TypeError(
+            "a sum is not compared by >: write >= and the least number allowed, as x + y >= 2 for x + y > 1; in place of max(x, y) of "
+            "literals write a new variable z, with model.implies(x, z), model.implies(y, z) and model.clause([x, y, ~z])"
+        )
 
     def __ne__(self, other: object) -> NoReturn:
         raise TypeError("a sum is not compared by !=: write x + y == 1 where two literals are to differ, and else <= or >=")
@@ -171,6 +178,48 @@ class _Operand:
     __rand__ = __and__
     __ror__ = __or__
     __rxor__ = __xor__
+
+    def __rshift__(self, other: NoReturn) -> NoReturn:
+        raise TypeError("literals are not joined by >>: write model.implies(x, y) where y is to be true if x is")
+
+    def __floordiv__(self, other: NoReturn) -> NoReturn:
+        raise TypeError(
+            "a sum is not divided by //: write a sum q of new variables, with model.add(2 * q <= x + y) and "
+            "model.add(x + y <= 2 * q + 1) for (x + y) // 2; x / 2 is half of x"
+        )
+
+    def __mod__(self, other: NoReturn) -> NoReturn:
+        raise TypeError(
+            "a sum is not divided by %: write new variables q and r, with model.add(x + y == 2 * q + r) for the remainder r of (x + y) % 2"
+        )
+
+    def __pow__(self, other: NoReturn) -> NoReturn:
+        raise TypeError(
+            "a power is no sum: write x for x ** 2 of a literal, and for a sum put a new variable in the place of each product of its "
+            "literals, with constraints that make it equal to the product"
+        )
+
+    def __abs__(self) -> NoReturn:
+        raise TypeError(
+            "a sum has no absolute value: add x - y <= 1 and x - y >= -1 for abs(x - y) <= 1; to minimise it, minimise a new variable z, "
+            "with z >= x - y and z >= y - x"
+        )
+
+    def __rtruediv__(self, other: NoReturn) -> NoReturn:
+        raise TypeError("a number is not divided by a sum: write x / 2 for half of x, and multiply a constraint by what divides in it")
+
+    def __int__(self) -> NoReturn:
+        raise TypeError("a literal or a sum has no value: an answer tells it, as answer[x], and answer.value(x + y)")
+
+    __float__ = __int__
+    __rfloordiv__ = __floordiv__
+    __rmod__ = __mod__
+    __rpow__ = __pow__
+
+    if not TYPE_CHECKING:  # which would then take each name for one of a sum
+
+        def __getattr__(self, name: str) -> NoReturn:
+            raise AttributeError(hints.of_sum(name))
 
 
 @dataclass(frozen=True, eq=False)
@@ -211,6 +260,9 @@ class Literal(_Operand):
 
     def __neg__(self) -> Sum:
         return self * -1
+
+    def __pos__(self) -> Sum:
+        return self * 1
 
     def __add__(self, other: Expression) -> Sum:
         return self * 1 + other
@@ -313,10 +365,15 @@ class Sum(_Operand):
         raise TypeError("a sum is not negated by ~: write -sum for its negative, and ~x for each of its literals")
 
     def __truediv__(self, divisor: Number) -> Sum:
+        if isinstance(divisor, (Literal, Sum)):
+            raise TypeError("a sum is not divided by another: multiply the constraint by what divides in it, as x >= 2 * y for x / y >= 2")
         return self * (1 / Fraction(exact(divisor)))
 
     def __neg__(self) -> Sum:
         return self * -1
+
+    def __pos__(self) -> Sum:
+        return self
 
     def __sub__(self, other: Expression) -> Sum:
         return self + as_sum(other) * -1
@@ -399,9 +456,28 @@ class Constraint:
 
     def __bool__(self) -> bool:
         raise TypeError(
-            "a constraint has no truth value: add it to a model, and 1 <= x + y <= 2 as two; whether two literals are one is told by "
-            "x.number == y.number, and `x in literals` by x.number in {it.number for it in literals}"
+            "a constraint has no truth value: add it to a model, and 1 <= x + y <= 2 as two, or x == y == z; whether two literals are one "
+            "is told by x.number == y.number, and `x in literals` by x.number in {it.number for it in literals}"
         )
+
+
+    def __and__(self, other: NoReturn) -> NoReturn:
+        raise TypeError("constraints are not joined by &: add each by itself; x + y >= 2 stands for `x and y`")
+
+    def __or__(self, other: NoReturn) -> NoReturn:
+        raise TypeError(
+            "constraints are not joined by |: write new variables z and w, with model.implies(z, one), model.implies(w, other) and "
+            "model.clause([z, w])"
+        )
+
+    def __invert__(self) -> NoReturn:
+        raise TypeError("a constraint is not negated by ~: write the opposite, as x + y <= 1 for ~(x + y >= 2)")
+
+    def __rshift__(self, other: NoReturn) -> NoReturn:
+        raise TypeError("constraints are not joined by >>: write model.implies(z, constraint) where it is to hold if a literal z is true")
+
+    __rand__ = __and__
+    __ror__ = __or__
 
 
 def as_constraint(value: object) -> Constraint:
