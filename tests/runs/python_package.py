@@ -11,6 +11,7 @@ process; each time no child is left, and after Ctrl-C the process solves on. The
 there is no C compiler, and so no library, all is left out.
 """
 import copy
+import gc
 import io
 import itertools
 import json
@@ -253,6 +254,14 @@ def other_name_facts():
         (lambda: 1 if x else 0, "answer[x]"), (lambda: (x >= 1) & (y >= 1), "add each by itself"), (lambda: True & (x >= 1), "by itself"),
         (lambda: (x >= 1) | (y >= 1), "model.clause([z, w])"), (lambda: ~(x + y >= 1), "the opposite"),
         (lambda: (x >= 1) >> (y >= 1), "model.implies(z, constraint)"),
+        (lambda: divmod(x, 2), "2 * q"), (lambda: (x >= 1) + 1, "model.implies(z, constraint)"), (lambda: sum([x >= 1]), "a new variable z"),
+        (lambda: model.add((x >= 1) == (y >= 1)), "model.implies(~z, opposite)"), (lambda: model.add((x >= 1) != (y >= 1)), "a new variable z"),
+        (lambda: model.implies([x, y], z), "clause([~x, ~y, z])"), (lambda: model.implies(x >= 1, y), "model.implies(~z, opposite)"),
+        (lambda: model.implies(x, [y, z]), "for y in literals: model.implies(x, y)"), (lambda: model.variable(3), "variable('x')"),
+        (lambda: model.variables(range(2)), "f'x{i}'"), (lambda: bool(model.solve()), "answer.status is"), (lambda: [*model.solve()], "named()"),
+        (lambda: model.solve(timeout=1), "solve takes no timeout=: write time_limit=10"), (lambda: model.solve(threads=4), "split=8"),
+        (lambda: model.solve(minimize=x), "model.minimise(sum) before"), (lambda: solve(TEXT, timeout=1), "time_limit=10"),
+        (lambda: model.solve(assumptions=[x]), "assuming=[x, ~y]"), (lambda: model.solve(colour=1), "solve takes no colour="),
     )  # fmt: skip
     for at, (call, said) in enumerate(cases):
         fault = raised(call)
@@ -263,6 +272,8 @@ def other_name_facts():
         (lambda: setattr(model, "minimise", x), "model.minimise(..)"), (lambda: model.addConstr(x >= 1), "model.add(constraint)"),
         (lambda: model.add_clause([x]), "model.clause([x, ~y])"), (lambda: model.optimize(), "model.solve()"),
         (lambda: model.status, "answer.cost"), (lambda: model.colour, "'colour'"), (lambda: x.value(), "answer[x]"),
+        (lambda: model.y, "model['y']"), (lambda: Model().read(TEXT), "model = Model.read(path)"), (lambda: model.solve().x, "answer[x]"),
+        (lambda: model.solve().objective, "answer.cost"), (lambda: model.solve().colour, "'colour'"),
         (lambda: (x + y).value, "answer.value(x + y)"), (lambda: x.Not(), "write ~x"), (lambda: x.colour, "'colour'"),
     )  # fmt: skip
     for at, (call, said) in enumerate(attributes):
@@ -272,6 +283,15 @@ def other_name_facts():
     for name in ("m.cnf", Path("m.LP"), b"m.opb.gz"):
         fault = raised(lambda: model.write(name))
         yield f"{name}: {fault!r}", type(fault) is ValueError and "model.write('a.opb')" in str(fault) and not os.path.exists(name)
+    yield "in texts", (f"{x:>3}", f"{~x:4}|{x + y:>6}") == ("  x", "~x  | x + y")
+    one, other = x + y >= 1, x + y >= 2
+    is_same = one == (x + y >= 1) and one != other and not one == other and not one != (x + y >= 1) and len({one, x + y >= 1, other}) == 2
+    yield "constraints that are the same", is_same and repr(one == other) == "False" and one != 1
+    with warnings.catch_warnings(record=True) as told:
+        warnings.simplefilter("always")
+        model.copy().solve(workers=2, split=1)
+        gc.collect()
+    yield f"no file is left open: {[*map(str, told)]}", not told
     yield "a sum with a plus", (repr(+x), repr(+(x - y))) == ("x", "x - y")
     made = [model.variable("q"), model.variable("r")]
     model.add(x + y == 2 * made[0] + made[1])

@@ -6,8 +6,9 @@ import enum
 import json
 from dataclasses import dataclass, field
 from functools import cached_property
-from typing import Any, Dict, List, Optional, Tuple, Union
+from typing import TYPE_CHECKING, Any, Dict, List, NoReturn, Optional, Tuple, Union
 
+from . import hints
 from .sums import Exact, Expression, Literal, as_literal, as_sum, check_owners, tidy
 from .tables import first_rows, table
 
@@ -86,6 +87,17 @@ class Answer(_Named):
             return self._is_true(self._number_of(literal))
         self._check(as_literal(literal).owners)
         return self._is_true(literal.number)
+
+    def __bool__(self) -> bool:
+        raise TypeError("an answer has no truth value: compare its status, as answer.status is Status.UNSATISFIABLE")
+
+    def __iter__(self) -> NoReturn:
+        raise TypeError("an answer is no list: write answer.values, or answer.named() for the values by name")
+
+    if not TYPE_CHECKING:  # which would then take each name for one of an answer
+
+        def __getattr__(self, name: str) -> NoReturn:
+            raise AttributeError(hints.of_answer(name))
 
     def _check(self, owners: Tuple[Tuple[int, int], ...]) -> None:
         if self.owners is not None:

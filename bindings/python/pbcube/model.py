@@ -76,7 +76,8 @@ class Model:
     if not TYPE_CHECKING:  # which would then take each name for one of a model
 
         def __getattr__(self, name: str) -> NoReturn:
-            raise AttributeError(hints.of_model(name))
+            is_variable = name in self.__dict__.get("_names", ())
+            raise AttributeError(f"a model has no {name!r}: write model[{name!r}]" if is_variable else hints.of_model(name))
 
     def copy(self) -> Model:
         """A model of the same variables and rules, which takes more without this one. The literals that this one has are literals of
@@ -216,7 +217,7 @@ class Model:
         given = [name for name in names if name is not None]
         for name in given:
             if not isinstance(name, str):
-                raise TypeError(f"no name: {name!r}")
+                raise TypeError(f"no name: {name!r}: a name is a text, as in variable('x'), or variables(f'x{{i}}' for i in range(3))")
         if len({*given, *self._names}) < len(given) + len(self._names):
             taken = next(name for at, name in enumerate(given) if name in self._names or name in given[:at])
             if taken not in self._names:
@@ -292,6 +293,13 @@ class Model:
             >>> model.solve().values
             (False, True, True)
         """
+        if isinstance(condition, (list, tuple, set, Sum, Constraint)):
+            raise TypeError(
+                f"a condition is one literal, and not {condition!r}: write model.clause([~x, ~y, z]) where z is to be true if x and y "
+                "are, and model.implies(~z, opposite) where z is to be true if a constraint holds"
+            )
+        if isinstance(consequence, (list, tuple, set)):
+            raise TypeError(f"no literal: {consequence!r}: write each by itself, as in for y in literals: model.implies(x, y)")
         [given] = self._own([condition])
         if isinstance(consequence, Literal):
             return self.clause([~given, consequence], name=name)
@@ -355,6 +363,7 @@ class Model:
         on_better: Optional[OnBetter] = None,
         workers: Optional[int] = None,
         split: Optional[int] = None,
+        **others: NoReturn,
     ) -> Answer:
         """Searches for the least assignment in which the literals of `assuming` are true, with at most `nodes` decisions and for at
         most `time_limit` seconds where they are given.
@@ -388,6 +397,7 @@ class Model:
         """
         if not isinstance(self, Model):
             raise TypeError(f"Model.solve is asked of a model, and not of {self!r}: Model.read(path).solve() solves a file")
+        _check_words(others)
         given = self._own(assuming)
         first = None if start is None else self._values_of(start)
         asked, program = self._asked("solve", given, first, 0), Workers.of(workers, split)
@@ -547,6 +557,18 @@ class Model:
         return self._ordered
 
 
+class _OfClass(classmethod):  # type: ignore[type-arg]
+    """A call of the class alone, which an instance does not have."""
+
+    def __get__(self, instance: object, owner: Any = None) -> Any:
+        if instance is not None:
+            raise AttributeError
+        return super().__get__(instance, owner)
+
+
+setattr(Model, "read", _OfClass(Model.__dict__["read"].__func__))  # of an instance it would be called for nothing
+
+
 @dataclass(frozen=True)
 class _Asked:
     """A question, and what the model was when it was asked."""
@@ -647,6 +669,12 @@ def _check_alone(more: Sequence[object], example: str) -> None:
         raise TypeError(f"literals stand in one list, as in {example}, and the name of a constraint behind name=")
 
 
+def _check_words(others: Mapping[str, object]) -> None:
+    """Refuses words that `solve` does not take."""
+    if others:
+        raise TypeError(hints.of_solve(others))
+
+
 def _number_of_literals(count: object, call: str, more: Sequence[object]) -> int:
     """How many literals are to be true. It stands before them where the call of that name is made, and nothing more behind them."""
     _check_alone(more, f"{call}(1, [x, y])")
@@ -674,6 +702,7 @@ def solve(
     on_better: Optional[OnBetter] = None,
     workers: Optional[int] = None,
     split: Optional[int] = None,
+    **others: NoReturn,
 ) -> Answer:
     """Solves a text in the format 'opb', 'cnf' or 'icnf', with at most `nodes` decisions and for at most `time_limit` seconds where
     they are given; `on_better` is called with each better answer. With `workers` or `split` the program pbcube solves it.
@@ -689,6 +718,7 @@ def solve(
         Traceback (most recent call last):
         pbcube.Refused: Syntax at line 2: line 2, column 6: '>': write >= and the least number allowed, as >= 2 for > 1
     """
+    _check_words(others)
     _check_format(format)
     if isinstance(text, os.PathLike):
         path = os.fsdecode(text)

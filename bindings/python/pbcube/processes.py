@@ -105,8 +105,15 @@ class Program(Process):
     def __init__(self, command: List[str]) -> None:
         self._path = command[0]
         self._errors = _temporary_file()
+        self._said = ""  # its last line on standard error, once it has ended
         launched = [*python_command(str(Path(__file__).with_name("launch.py"))), str(os.getpid()), *command]
         super().__init__(launched, self._errors)
+
+    def __exit__(self, *_: object) -> None:
+        super().__exit__()
+        if self._errors is not None:
+            self._said = _last_line(self._errors)
+            self._errors.close()
 
     def answer(self, text: bytes, deadline: Optional[float]) -> Optional[bytes]:
         """All that it answers to the text, or None where it has not by the deadline. Raises Error where a signal ends it."""
@@ -126,8 +133,7 @@ class Program(Process):
     def no_report(self) -> Error:
         """The error where it has ended, and what it answered is no report."""
         told = f"{self._path} ended with status {self._process.wait()} and wrote no report"
-        line = _last_line(self._errors)
-        return Error("NoReport", f"{told}: its last line on standard error is {line!r}" if line else told)
+        return Error("NoReport", f"{told}: its last line on standard error is {self._said!r}" if self._said else told)
 
 
 def _temporary_file() -> Optional[IO[bytes]]:
@@ -140,10 +146,8 @@ def _temporary_file() -> Optional[IO[bytes]]:
         return None
 
 
-def _last_line(file: Optional[IO[bytes]]) -> str:
+def _last_line(file: IO[bytes]) -> str:
     """The last line of the file that is not blank, of a long one its end."""
-    if file is None:
-        return ""
     file.seek(max(0, file.seek(0, os.SEEK_END) - _LONGEST_LINE))
     lines = file.read().decode("utf-8", "replace").split("\n")
     return next((line.strip() for line in reversed(lines) if line.strip()), "")

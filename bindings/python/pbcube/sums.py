@@ -211,8 +211,11 @@ class _Operand:
     def __int__(self) -> NoReturn:
         raise TypeError("a literal or a sum has no value: an answer tells it, as answer[x], and answer.value(x + y)")
 
+    def __format__(self, how: str) -> str:
+        return format(str(self), how)
+
     __float__ = __int__
-    __rfloordiv__ = __floordiv__
+    __divmod__ = __rfloordiv__ = __floordiv__
     __rmod__ = __mod__
     __rpow__ = __pow__
 
@@ -433,7 +436,14 @@ def total(parts: Iterable[Expression]) -> Sum:
     return Sum(terms, tidy(sum(each.constant for each in sums)), owners)
 
 
-@dataclass(frozen=True)
+class Sameness(int):
+    """Whether two constraints are the same, as 1 or 0. It is no constraint."""
+
+    def __repr__(self) -> str:
+        return repr(bool(self))
+
+
+@dataclass(frozen=True, eq=False)
 class Constraint:
     """A sum of literals that is at least, at most or exactly a number."""
 
@@ -461,6 +471,24 @@ class Constraint:
         )
 
 
+    def __eq__(self, other: object) -> Sameness:  # type: ignore[override]
+        return Sameness(isinstance(other, Constraint) and self._parts() == other._parts())
+
+    def __ne__(self, other: object) -> Sameness:  # type: ignore[override]
+        return Sameness(not self == other)
+
+    def __hash__(self) -> int:
+        return hash(self._parts())
+
+    def _parts(self) -> Tuple[Terms, str, Exact]:
+        """What two constraints that are the same have in common."""
+        return self.terms, self.relation, self.bound
+
+    def __add__(self, other: NoReturn) -> NoReturn:
+        raise TypeError(f"no number: {self!r}{_advice(self)}")
+
+    __radd__ = __sub__ = __rsub__ = __mul__ = __rmul__ = __add__
+
     def __and__(self, other: NoReturn) -> NoReturn:
         raise TypeError("constraints are not joined by &: add each by itself; x + y >= 2 stands for `x and y`")
 
@@ -482,6 +510,11 @@ class Constraint:
 
 def as_constraint(value: object) -> Constraint:
     """The constraint that this is. What Python itself compared holds always or never."""
+    if isinstance(value, Sameness):
+        raise TypeError(
+            "constraints are not made equal by == or !=: where both are to hold or neither write a new variable z, with "
+            "model.implies(z, constraint) for each, and model.implies(~z, opposite) for each"
+        )
     if isinstance(value, bool):
         return Constraint((), ">=", 0 if value else 1)
     if isinstance(value, Constraint):
