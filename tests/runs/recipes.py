@@ -54,6 +54,11 @@ def of_task(line):
     return line.replace("pbcube:", "pbcube_task:", 1)
 
 
+def cut_off(whole):
+    """What a crash of the machine may leave of a report."""
+    return whole[:4], whole[: whole.index("v ")], whole[:-1], whole[: whole.index("s ") + 5], "\0" * len(whole)
+
+
 class Recipes:
     """Recipes that solve one instance, and a folder to run them in."""
 
@@ -132,6 +137,17 @@ class OfPieces(Recipes):
                 yield f"parallel.sh, without {lost}: {ended}"
             if times_of(folder, lost) != old:
                 yield f"parallel.sh, without {lost}: other pieces were solved again"
+
+        whole = (folder / "3.report").read_text()
+        for part in cut_off(whole):
+            (folder / "3.report").write_text(part)
+            if (ended := self.ran(*words)) != self.answer or (folder / "3.report").read_text() != whole:
+                yield f"parallel.sh, with a report that is {part!r}: {ended}"
+        (folder / "3.report").write_text(whole[:4])
+        ended = self.ran(*words, path="no solver")
+        if ended.status != 1 or f"parallel.sh: {folder}/3.report was cut off: the same words once more run that piece again\n" not in ended.err:
+            yield f"parallel.sh, with a report that is cut off and no solver: {ended}"
+        self.ran(*words)
 
     def of_old_folders(self, folder):
         other = self.room / "other.opb"
@@ -227,7 +243,7 @@ class OfPieces(Recipes):
     def of_cut_off_reports(self, folder, task):
         """A crash of the machine has cut off a report. The join says so, and the task of its piece runs again."""
         whole = (folder / "3.report").read_text()
-        for part in (whole[:4], whole[: whole.index("v ")], whole[:-1], whole[: whole.index("s ") + 5], "\0" * len(whole)):
+        for part in cut_off(whole):
             (folder / "3.report").write_text(part)
             said = self.joined(folder)
             if part != whole[:-1] and (said[0] != 1 or f"slurm-join.sh: {folder}/3.report was cut off: run that task again\n" not in said[2]):
