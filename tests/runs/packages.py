@@ -137,6 +137,7 @@ def broken_links(prefix):
     for page in (TOP / "docs").glob("*.1"):
         text = page.read_text()
         named = [it if it.startswith("share/") else f"{DOCUMENTS}/{it}" for it in re.findall(r"^\.Pa ((?:share|docs)/\S+)", text, re.M)]
+        named += [f"{DOCUMENTS}/{it}" for it in re.findall(r"(?<![\w/])examples/[\w./]*\w", text)]
         yield from (f"{page}: no {it}" for it in named if not (prefix / it).exists())
 
 
