@@ -3,6 +3,10 @@
 IS_WCNF = "begins as WCNF, which is not read: write it as OPB, with the weights in min:"
 IS_MARKED = "begins with a byte order mark: save it as ASCII, without one"
 BY_CR = "ends lines with CR alone: end them with LF"
+BY_ZERO = "has a zero byte in its first line, as no text in ASCII has"
+BY_ZIP = "is compressed by zip: unzip it first"
+OF_TASK = "is the report of a task, and no instance"
+OF_RUN = "is the report of a run, and no instance"
 NO_PRODUCT = "no product is read: put a new variable in its place, with constraints that make it equal to the product"
 NO_SOFT = "no soft constraint is read: give each a variable that satisfies it, with its weight in min:"
 TO_MOST = "variables are numbered from 1 to 1048576"
@@ -32,6 +36,15 @@ MINUS = "write -, the minus sign of ASCII"
 STARRED = "begin a comment with *, on a line of its own"
 LETTERED = "begin a comment with c, on a line of its own"
 NUMBER = "write a literal as the number of its variable, as 2, or -2 for its negation"
+GO_ON = "a line that begins with % ends the text: begin a comment with c"
+HEAD_ONCE = "one header stands before all clauses: leave this one out"
+SEPARATE = "write a comment on a line of its own"
+SPACE = "separate words by spaces of ASCII alone"
+ATTACH = "write ~ with its variable, without a space, as ~x1"
+DROP_CONSTANT = "no constant stands in the objective: leave it out, and add it to each cost"
+MOVE_CONSTANT = "no constant stands in a sum: subtract it from the number on the right"
+POWER = "write the literal alone, whose powers are the same"
+END_STATEMENTS = "end each statement with ;"
 ZERO = "write 0 at the end, since variables are numbered from 1"
 MINIMISE = "write min: of the negated sum"
 END_OBJECTIVE = "the objective has no relation: end it with ; before the first constraint"
@@ -80,6 +93,18 @@ BEGUN = [
     ("opb", b"1 x1 >= 1 ;\r* a comment\r1 x2 >= 1 ;\r", BY_CR),
     ("cnf", b"p cnf 2 1\r1 2 0\r", BY_CR),
     ("icnf", b"c a comment\rp inccnf\r1 2 0\r", BY_CR),
+    # archives, whatever bytes they have beside
+    ("opb", b"PK\x03\x04\x14\x00\x00\x08\r\x08tie.opb", BY_ZIP),
+    ("cnf", b"PK\x03\x04\x14\r\x0b", BY_ZIP),
+    ("icnf", b"PK\x03\x04\x14\n\x0b", BY_ZIP),
+    ("opb", b"\x7fELF\x02\x01\x01\x00\r\x03", BY_ZERO),
+    ("cnf", b"p\x00 \x00c\x00n\x00f\x00", BY_ZERO),
+    ("opb", b"c part 0 of 2 of instance 0a\nc pieces 1 split 0 cubes none\nc done 0\nc cut\ns UNKNOWN\n", OF_TASK),
+    ("cnf", b"c part 0 of 2 of instance 0a\nc pieces 1 split 0 cubes none\nc done 0\nc cut\ns UNKNOWN\n", OF_TASK),
+    ("opb", b"o 3\ns OPTIMUM FOUND\nv x1\n", OF_RUN),
+    ("opb", b"c refused: Syntax at line 1\ns UNSUPPORTED\n", OF_RUN),
+    ("icnf", b"s SATISFIABLE\nv 1 0\n", OF_RUN),
+    ("cnf", b"o -12\ns SATISFIABLE\nv 1 0\n", OF_RUN),
     ("cnf", b"c a comment\np wcnf 2 2 9\n9 1 2 0\n1 -1 0\n", IS_WCNF),
     ("opb", b"c a comment\nh 1 2 0\n1 -1 0\n", IS_WCNF),
 ]
@@ -115,6 +140,19 @@ PLACED = [
     ("opb", b"// a comment\n1 x1 >= 1 ;\n", f"line 1, column 1: '//': {STARRED}"),
     ("opb", b"% a comment\n1 x1 >= 1 ;\n", f"line 1, column 1: '%': {STARRED}"),
     ("opb", b"c a comment\n1 x1 >= 1 ;\n", f"line 1, column 1: 'c': {STARRED}"),
+    ("opb", b"\\ a comment\n1 x1 >= 1 ;\n", f"line 1, column 1: '\\\\': {STARRED}"),
+    ("opb", b"-- a comment\n1 x1 >= 1 ;\n", f"line 1, column 1: '--': {STARRED}"),
+    # comments of other formats within a statement
+    ("opb", b"min: 1 x1 // a comment\n 2 x2 ;\n", f"line 1, column 11: '//': {STARRED}"),
+    ("opb", b"min: 1 x1 # a comment\n 2 x2 ;\n", f"line 1, column 11: '#': {STARRED}"),
+    ("opb", b"1 x1\n% a comment\n>= 1 ;\n", f"line 2, column 1: '%': {STARRED}"),
+    ("opb", b"1 x1 >= 1\nc a comment\n;\n", f"line 2, column 1: 'c': {STARRED}"),
+    ("opb", b"min: 1 x1\n  c a comment\n;\n", f"line 2, column 3: 'c': {STARRED}"),
+    ("opb", b"min: 1 x1 c ;\n", f"line 1, column 11: 'c': {RENAME}"),
+    ("opb", b"1\nc >= 1 ;\n", f"line 2, column 1: 'c': {RENAME}"),
+    ("opb", b"1 x1 >= 1 * a comment\n;\n", f"line 1, column 11: '*': {SEPARATE}"),
+    ("opb", b"min: 1 x1 * a comment\n2 x2 ;\n", f"line 1, column 11: '*': {SEPARATE}"),
+    ("opb", b"min: *a comment\n", f"line 1, column 6: '*a': {SEPARATE}"),
     ("opb", b"1 x1 1 x2 != 1 ;\n", f"line 1, column 11: '!=': {CHOOSE}"),
     ("opb", b"1 x1!=1 ;\n", f"line 1, column 5: '!=': {CHOOSE}"),
     ("opb", b"1 x1 <> 1 ;\n", f"line 1, column 6: '<>': {CHOOSE}"),
@@ -128,6 +166,33 @@ PLACED = [
     ("opb", b"1 x1 -2~x2 >= 1 ;\n", f"line 1, column 6: '-2~x2': {PART}"),
     ("opb", b"2 * x1 >= 1 ;\n", f"line 1, column 3: '*': {PART}"),
     ("opb", b"1 x1 * x2 >= 1 ;\n", f"line 1, column 6: '*': {NO_PRODUCT}"),
+    ("opb", b"1 x1 *x2 >= 1 ;\n", f"line 1, column 6: '*x2': {NO_PRODUCT}"),
+    ("opb", b"1 x1*~x2 >= 1 ;\n", f"line 1, column 3: 'x1*~x2': {NO_PRODUCT}"),
+    ("opb", b"x1*2 >= 1 ;\n", f"line 1, column 1: 'x1*2': {PART}"),
+    ("opb", b"1 x1 * 2 >= 1 ;\n", f"line 1, column 6: '*': {PART}"),
+    ("opb", b"3 x1^2 >= 1 ;\n", f"line 1, column 3: 'x1^2': {POWER}"),
+    ("opb", b"1 ~ x1 >= 1 ;\n", f"line 1, column 3: '~': {ATTACH}"),
+    ("opb", b"! x1 >= 1 ;\n", f"line 1, column 1: '!': {ATTACH}"),
+    ("opb", b"1 x1, 1 x2 >= 1 ;\n", f"line 1, column 3: 'x1,': {SPACE}"),
+    ("opb", b"1, x1 >= 1 ;\n", f"line 1, column 1: '1,': {SPACE}"),
+    ("opb", b"1 x1 >= 1, 1 x2 >= 1 ;\n", f"line 1, column 9: '1,': {END_STATEMENTS}"),
+    ("opb", "1\u00a0x1 >= 1 ;\n".encode(), f"line 1, column 1: '1\\xc2\\xa0x1': {SPACE}"),
+    ("opb", "1 x1 >=\u202f1 ;\n".encode(), f"line 1, column 8: '\\xe2\\x80\\xaf1': {SPACE}"),
+    ("opb", b"obj: 1 x1 ;\n1 x1 >= 1 ;\n", "line 1, column 1: 'obj:': write min:"),
+    ("opb", b"Objective: 1 x1 ;\n1 x1 >= 1 ;\n", "line 1, column 1: 'Objective:': write min:"),
+    ("opb", b"min: 1 x1 5 ;\n", f"line 1, column 13: ';': {DROP_CONSTANT}"),
+    ("opb", b"min: 5 2 x1 ;\n", f"line 1, column 8: '2': {DROP_CONSTANT}"),
+    ("opb", b"1 x1 +5 >= 1 ;\n", f"line 1, column 9: '>=': {MOVE_CONSTANT}"),
+    ("opb", b"1 x1 5 2 x2 >= 1 ;\n", f"line 1, column 8: '2': {MOVE_CONSTANT}"),
+    ("opb", b"1 x1 1 x2 1 ;\n", f"line 1, column 13: ';': {RELATE}"),
+    ("opb", b"min: 1 x1\nsubject to\n1 x1 >= 1 ;\n", f"line 2, column 1: 'subject': {END}"),
+    ("opb", b"1 x1 > = 1 ;\n", "line 1, column 6: '> =': write >="),
+    ("opb", b"1 x1 <\t= 1 ;\n", "line 1, column 6: '<\\t=': write <="),
+    ("opb", b"1 x1 <=> 1 x2 ;\n", "line 1, column 6: '<=>'"),
+    ("opb", b"1/2 x1 >= 1 ;\n", f"line 1, column 1: '1/2': {MAKE_WHOLE}"),
+    ("opb", b"1 x1 >= 2^3 ;\n", f"line 1, column 9: '2^3': {DIGITS}"),
+    ("opb", b"1 x1 >= 10**3 ;\n", f"line 1, column 9: '10**3': {DIGITS}"),
+    ("opb", b"1 x1 >= 1.0 ;\n", f"line 1, column 9: '1.0': {DIGITS}"),
     ("opb", b"min: 1.5 x1 ;\n", f"line 1, column 6: '1.5': {MAKE_WHOLE}"),
     ("opb", b"1 x1 >= 0.5 ;\n", f"line 1, column 9: '0.5': {MAKE_WHOLE}"),
     ("opb", b"1 apple >= 1 ;\n", f"line 1, column 3: 'apple': {RENAME}"),
@@ -177,6 +242,29 @@ PLACED = [
     ("cnf", b"# a comment\np cnf 2 1\n1 2 0\n", f"line 1, column 1: '#': {LETTERED}"),
     ("cnf", b"p cnf 2 1\n//2\n1 2 0\n", f"line 2, column 1: '//2': {LETTERED}"),
     ("cnf", b"p cnf 2 1\n1 2 0 c a comment\n", f"line 2, column 7: 'c': {LETTERED}"),
+    # comments of OPB and others
+    ("cnf", b"* 2 clauses\np cnf 2 1\n1 2 0\n", f"line 1, column 1: '*': {LETTERED}"),
+    ("cnf", b"p cnf 2 1\n* 2 clauses\n1 2 0\n", f"line 2, column 1: '*': {LETTERED}"),
+    ("cnf", b"p cnf 2 1\n1 2 0\n*a comment\n", f"line 3, column 1: '*a': {LETTERED}"),
+    ("cnf", b"p cnf 2 1\n1 2 0 * a comment\n", f"line 2, column 7: '*': {LETTERED}"),
+    ("icnf", b"* a comment\np inccnf\n1 2 0\n", f"line 1, column 1: '*': {LETTERED}"),
+    ("icnf", b"p inccnf\n1 2 0\n* a comment\na 1 0\n", f"line 3, column 1: '*': {LETTERED}"),
+    ("icnf", b"p inccnf\n1 2 0\na 1 0\n* a comment\na -1 0\n", f"line 4, column 1: '*': {LETTERED}"),
+    ("icnf", b"p inccnf\n1 2 0\na 1 0\n# a comment\na -1 0\n", f"line 4, column 1: '#': {LETTERED}"),
+    ("icnf", b"p inccnf\n1 2 0\na 1 0 // a comment\n", f"line 3, column 7: '//': {LETTERED}"),
+    ("cnf", b"p cnf 2 1\n1 0\n2 0\n# a comment\n", "line 3: the header says that the number of clauses is 1, but it is 2: write 2 there"),
+    # where % ends a text
+    ("cnf", b"% a comment\np cnf 2 1\n1 2 0\n", f"line 1, column 1: '%': {GO_ON}"),
+    ("icnf", b"c\n%\np inccnf\n1 2 0\n", f"line 2, column 1: '%': {GO_ON}"),
+    ("cnf", b"p cnf 2 2\n1 2 0\n % a comment\n-1 0\n", f"line 3, column 2: '%': {GO_ON}"),
+    ("cnf", b"p cnf 2 1\n1 2\n%\n0\n", f"line 2: {END_CLAUSES}"),
+    ("cnf", b"p cnf 2 1\n1 2\n% a comment\n-1 0\n", f"line 3, column 1: '%': {GO_ON}"),
+    ("cnf", b"p cnf 2 2\n1 2 0\np cnf 2 2\n1 0\n", f"line 3, column 1: 'p': {HEAD_ONCE}"),
+    ("cnf", b"p cnf 2 1\n1 2 0\np cnf 2 1\n1 0\n", f"line 3, column 1: 'p': {HEAD_ONCE}"),
+    ("cnf", b"p cnf 2 1\n1 2 0;\n", f"line 2, column 5: '0;': {END_CLAUSES}"),
+    ("cnf", b"p cnf 2 1\n1, 2, 0\n", f"line 2, column 1: '1,': {SPACE}"),
+    ("cnf", "p cnf 2 1\n1\u00a02 0\n".encode(), f"line 2, column 1: '1\\xc2\\xa02': {SPACE}"),
+    ("cnf", "p cnf 2 1\n\u22121 2 0\n".encode(), f"line 2, column 1: '\\xe2\\x88\\x921': {MINUS}"),
     ("icnf", b"p inccnf\na 1 0\n1 2 0\n", "line 3: put all clauses before the first cube"),
     ("opb", b"1 x1 x2 >= 1 ;", f"line 1, column 6: 'x2': {NO_PRODUCT}"),
     ("opb", b"min: 1 x1; 1 x1>=1;\n2 x1 3 ~x2\n* x3 x3\n  ~x1 >= 1 ;\n", f"line 4, column 3: '~x1': {NO_PRODUCT}"),

@@ -8,6 +8,7 @@ pbcube_join. Each runs its own rows, in a new folder with the files below.
 """
 import bz2
 import errno
+import gzip
 import lzma
 import os
 import shlex
@@ -22,7 +23,8 @@ sys.path.insert(0, str(Path(__file__).resolve().parents[1]))
 from lib import PROGRAMS, built, name_of, ran, reason, side_by_side, version
 from lib.formats import Refused, read
 from lib.hinted_texts import (
-    BEGUN, CUBE_LINE, IS_MARKED, IS_WCNF, LETTERED, MINIMISE, NO_PRODUCT, NO_SOFT, NUMBER, PART, PLACED, TO_MOST, ZERO,
+    BEGUN, BY_CR, BY_ZERO, BY_ZIP, CUBE_LINE, IS_MARKED, IS_WCNF, LETTERED, MINIMISE, NO_PRODUCT, NO_SOFT, NUMBER, OF_RUN, OF_TASK, PART,
+    PLACED, SPACE, TO_MOST, ZERO,
 )  # fmt: skip
 from lib.reports import ALL_REFUSED, TIE, digest, index_of, part, run_again
 
@@ -99,6 +101,10 @@ FILES = {
     "own_cube.icnf": "p inccnf\n1 2 0\na 1 0\n",
     "own_cubes.icnf": OWN_CUBES,
     "good.cubes": "a 1 0\n",
+    "marked_by_editor.cubes": "\ufeffa 1 0\n",
+    "starred.cubes": "a 1 0\n* a comment\n",
+    "blank.cubes": "a 1 0\na\u00a01 0\n",
+    "listed.cubes": "a 1 0\na 1, 2 0\n",
     "word.cubes": "a 1 0\na 1 x2 0\n",
     "zero.cubes": "a 1 0\na 1 -0\na x2 0\n",
     "marked.cubes": "a 1 0\n# a comment\n",
@@ -163,6 +169,20 @@ HINTED = {f"hinted/{place}": row for place, row in enumerate([*BEGUN, *PLACED])}
 BYTES = {
     "packed.xz": lzma.compress(TIE.encode()),
     "packed.bz2": bz2.compress(TIE.encode()),
+    "packed.zip": b"PK\x03\x04\x14\x00\x00\x08\r\x08tie.opb",
+    "packed.cubes.gz": gzip.compress(b"a 1 0\n"),
+    "packed.cubes.zip": b"PK\x03\x04\x14\r\x0b",
+    "returns.cubes": b"a 1 0\ra -1 0\r",
+    "packed-1.out": gzip.compress(SECOND.encode()),
+    "packed-2.out": b"PK\x03\x04\x14\r\n\x0b\x08",
+    "binary-1.out": b"o 3\x01\r\ns OPTIMUM FOUND\n",
+    "wide-1.out": SECOND.encode("utf-16"),
+    "marked-1.out": b"\xef\xbb\xbf" + SECOND.encode(),
+    "returns-1.out": SECOND.replace("\n", "\r").encode(),
+    "lines-1.out": SECOND.replace("\n", "\r\n").encode(),
+    "packed.part": gzip.compress((part("1 of 2", TIE, IN_THREE, " 1") + ATTAINED).encode()),
+    "packed.part.zip": b"PK\x03\x04\x14\r\n\x0b\x08",
+    "marked.part": b"\xef\xbb\xbf" + (part("1 of 2", TIE, IN_THREE, " 1") + ATTAINED).encode(),
     "returns.part": (part("1 of 2", TIE, IN_THREE, " 1") + ATTAINED).replace("\n", "\r\n").encode(),
     **{name: text for name, (_, text, _) in HINTED.items()},
 }
@@ -274,6 +294,13 @@ def told_version(name, why=f": {NO_ROOM}"):
     return [Row("--version", told), Row("-V", told), Row("--version", err=f"{name}: cannot write{why}\n", status=1, out_to=FULL)]
 
 
+# files of cubes that are no text, and what is said of each
+FOREIGN_CUBES = (
+    ("marked_by_editor.cubes", IS_MARKED),
+    ("packed.cubes.gz", "is compressed by gzip: gunzip it first"),
+    ("packed.cubes.zip", BY_ZIP),
+    ("returns.cubes", BY_CR),
+)
 # hints that several programs tell
 PRODUCT_HINT = f"line 1, column 6: 'x2': {NO_PRODUCT}"
 PRODUCT_IN_FILE = f"product.opb: {PRODUCT_HINT}"
@@ -331,12 +358,22 @@ PBCUBE = [
     hinted("--format cnf weighted.wcnf", "BadHeader", f"weighted.wcnf {IS_WCNF}"),
     hinted("--format cnf hard.wcnf", "BadHeader", f"hard.wcnf {IS_WCNF}"),
     hinted("packed.xz", "Unfinished", "packed.xz is compressed by xz: unxz it first"),
+    hinted("packed.zip", "Unfinished", f"packed.zip {BY_ZIP}"),
+    hinted("parts/first.report", "Syntax", f"parts/first.report {OF_TASK}"),
+    hinted("2", "Unfinished", f"2 {OF_RUN}"),
     hinted("packed.bz2", "Unfinished", "packed.bz2 is compressed by bzip2: bunzip2 it first"),
     *hinted_rows(),
     Row("--cubes second_over.cubes tie.opb", f"c refused cubes: BadVariable at line 2\n{UNSUPPORTED}", f"pbcube: {SECOND_OVER_HINT}\n"),
     hinted_on_cubes("word.cubes", "Syntax", f"line 2, column 5: 'x2': {NUMBER}"),
     hinted_on_cubes("zero.cubes", "Unfinished", f"line 2, column 5: '-0': {ZERO}"),
     hinted_on_cubes("marked.cubes", "Syntax", f"line 2, column 1: '#': {LETTERED}"),
+    hinted_on_cubes("starred.cubes", "Syntax", f"line 2, column 1: '*': {LETTERED}"),
+    hinted_on_cubes("blank.cubes", "Syntax", f"line 2, column 1: 'a\\xc2\\xa01': {SPACE}"),
+    hinted_on_cubes("listed.cubes", "Syntax", f"line 2, column 3: '1,': {SPACE}"),
+    *(
+        Row(f"--cubes {name} tie.opb", f"c refused cubes: Syntax at line 1\n{UNSUPPORTED}", f"pbcube: {name} {hint}\n")
+        for name, hint in FOREIGN_CUBES
+    ),
     hinted_on_cubes("headed.cubes", "Syntax", f"line 2, column 1: 'p': {CUBE_LINE}"),
     hinted_on_cubes("clause.cubes", "Syntax", f"line 2: {CUBE_LINE}"),
     hinted_on_cubes("open.cubes", "Unfinished", f"line 2: {CUBE_LINE}"),
@@ -473,6 +510,8 @@ PIECES = [
             ("--cubes word.cubes", "tie.opb", "word.cubes: Syntax at line 2", f"word.cubes: line 2, column 5: 'x2': {NUMBER}"),
             ("--split 4", "tie.opb", "the split is over more variables than there are", FEW_HINT),
             ("--format cnf", "tie.opb", "tie.opb: BadHeader at line 1", IS_OPB_HINT),
+            ("", "parts/first.report", "parts/first.report: Unfinished at line 1", f"parts/first.report {OF_TASK}"),
+            *((f"--cubes {it}", "tie.opb", f"{it}: Syntax at line 1", f"{it} {hint}") for it, hint in FOREIGN_CUBES),
         )
     ),
     # folders and files that cannot be made or written
@@ -512,6 +551,7 @@ def digest_of(name):
 
 
 NOTE = f"pbcube note of instance {digest_of('tie.opb')}\ncost 3\nvalues 010\n"
+ONE_PIECE_OF_TASK = ONE_PIECE.replace("pbcube", "pbcube_task", 1)
 WITHOUT_NOTES = "pbcube_task: cannot use tie.opb, so task 0 exchanges no assignments: "
 TASK = [
     Row("--task 0 --tasks 1 tie.opb", part("0 of 1", FILES["tie.opb"], "1 split 0 cubes none", " 0") + ATTAINED, status=10),
@@ -521,7 +561,28 @@ TASK = [
     Row(
         "--cubes good.cubes --workers 2 --task 1 --tasks 2 tie.opb",
         part("1 of 2", FILES["tie.opb"], f"2 split 0 cubes {digest_of('good.cubes')}", " 1") + ATTAINED,
-        status=10,
+        ONE_PIECE_OF_TASK,
+        10,
+    ),
+    # several workers on one piece of a task, or on two
+    *(
+        Row(f"--workers {workers} --split 1 --task {task} --tasks {tasks} tie.opb", part(f"{task} of {tasks}", TIE, IN_THREE, done) + claim, err, 10)
+        for workers, task, tasks, done, claim, err in (
+            (4, 1, 2, " 1", ATTAINED, ONE_PIECE_OF_TASK),
+            (2, 0, 3, " 0", FIRST_ATTAINED, ONE_PIECE_OF_TASK),
+            (1, 1, 2, " 1", ATTAINED, ""),
+        )
+    ),
+    Row(
+        "--workers 4 --task 0 --tasks 1 tie.opb",
+        part("0 of 1", TIE, "1 split 0 cubes none", " 0") + ATTAINED,
+        ONE_PIECE_OF_TASK,
+        10,
+    ),
+    Row(
+        "--workers 4 --task 5 --tasks 9 tie.opb",
+        part("5 of 9", TIE, "1 split 0 cubes none", "") + "s UNKNOWN\n",
+        "pbcube_task: none of the 1 pieces is of task 5\n",
     ),
     Row(
         "--format icnf --task 0 --tasks 4294967295 own_cube.icnf",
@@ -589,6 +650,8 @@ TASK = [
             ("--cubes second_over.cubes", "tie.opb", " cubes: BadVariable at line 2", SECOND_OVER_HINT),
             ("--split 4", "tie.opb", " split: BadSplit", FEW_HINT),
             ("--format cnf", "tie.opb", ": BadHeader at line 1", IS_OPB_HINT),
+            ("", "out/0.out", ": Unfinished at line 1", f"out/0.out {OF_RUN}"),
+            *((f"--cubes {it}", "tie.opb", " cubes: Syntax at line 1", f"{it} {hint}") for it, hint in FOREIGN_CUBES),
         )
     ),
     Row("--task 0 --tasks 1 product.opb", err=f"pbcube_task: cannot write: {NO_ROOM}\n", status=1, out_to=FULL),
@@ -706,7 +769,7 @@ OF_TWO_TASKS = [
     ("tie.opb", [of_task(0, " 0 2", UNKNOWN), of_task(1, " 1", UNKNOWN)], NONE, "", 20),
     ("free.opb", [of_task(0, " 0 2", UNKNOWN, text=FREE), of_task(1, " 1", FEASIBLE, text=FREE)], FEASIBLE, "", 10),
     ("tie.opb", [of_task(0, " 0 2", FIRST_ATTAINED, text=FREE)], 0, "the part is of another instance"),
-    ("tie.opb", [of_task(0, " 0", FIRST_ATTAINED, tasks=3)], 0, "the part is of another number of tasks"),
+    ("tie.opb", [of_task(0, " 0", FIRST_ATTAINED, tasks=3)], 0, "the part is of 3 tasks, and --tasks tells 2"),
     *(
         ("tie.opb", [FIRST_PART, of_task(1, " 1", ATTAINED, division=other)], 1, "the first part is of other pieces", 0)
         for other in ("4 split 1 cubes none", f"3 split 1 cubes {digest(FREE)}")
@@ -788,6 +851,19 @@ JOIN = [
     rejected("--pieces 3 tie.opb told-1.out", f"told-1.out: Syntax at line 4: the line is '{ONE_PIECE[:60]}'"),
     rejected("--pieces 3 tie.opb torn-1.out", "torn-1.out: Unfinished at line 3"),
     rejected("--pieces 3 tie.opb failed-1.out", "failed-1.out: Syntax at line 1: its first line is 'Killed\\x07'"),
+    # reports that are no text, or not as this system writes texts
+    *(
+        rejected(f"--pieces 3 tie.opb {name}", f"{name}: {fault}: {clue}")
+        for name, fault, clue in (
+            ("packed-1.out", "Syntax at line 1", "it is compressed by gzip: gunzip it first"),
+            ("packed-2.out", "Syntax at line 1", f"it {BY_ZIP}"),
+            ("binary-1.out", "Syntax at line 1", "the line is 'o 3\\x01\\r'"),
+            ("wide-1.out", "Syntax at line 1", f"it {IS_MARKED}"),
+            ("marked-1.out", "Syntax at line 1", f"it {IS_MARKED}"),
+            ("returns-1.out", "Syntax at line 1", f"it {BY_CR}"),
+            ("lines-1.out", "Syntax at line 1", "its lines end with carriage returns: end them with LF alone"),
+        )
+    ),
     rejected("--pieces 3 tie.opb silent-1.out", "silent-1.out: NoStatus at line 2: its first line is 'c a solver'"),
     Row("--pieces 3 tie.opb empty-1.out", "s UNKNOWN\n", states([0, 1, 2])),
     rejected("--pieces 3 tie.opb blank-1.out", "blank-1.out: NoStatus at line 1"),
@@ -859,7 +935,7 @@ JOIN = [
         )
     ),
     rejected("--tasks 2 tie.opb no_pieces.part", "no_pieces.part: the part is of no pieces"),
-    rejected("--tasks 3 tie.opb cut.part", "cut.part: the part is of another number of tasks"),
+    rejected("--tasks 3 tie.opb cut.part", "cut.part: the part is of 2 tasks, and --tasks tells 3"),
     rejected("--tasks 2 tie.opb unnamed.part divided.part", "divided.part: the first part is of other pieces: see unnamed.part"),
     rejected("--tasks 2 tie.opb claims.part", "claims.part: a part has no such answer"),
     rejected("--tasks 2 tie.opb torn.part", "torn.part: Unfinished at line 7"),
@@ -886,6 +962,9 @@ JOIN = [
             ("told_after.part", "Syntax at line 8", ": the line is 'pbcube_task: cannot exchange notes'"),
             ("untold.part", "Syntax at line 9", ": the line is 'open'"),
             ("short.part", "Heading at line 4", ""),
+            ("packed.part", "Heading at line 1", ": it is compressed by gzip: gunzip it first"),
+            ("packed.part.zip", "Heading at line 1", f": it {BY_ZIP}"),
+            ("marked.part", "Heading at line 1", f": it {IS_MARKED}"),
             ("returns.part", "Heading at line 1", ": its lines end with carriage returns: end them with LF alone"),
         )
     ),
@@ -898,6 +977,14 @@ JOIN = [
             ("--tasks 1 product.opb", "product.opb: NonLinear at line 1", PRODUCT_IN_FILE),
             ("--pieces 3 product.opb", "product.opb: NonLinear at line 1", PRODUCT_IN_FILE),
             ("--format cnf --pieces 3 tie.opb", "tie.opb: BadHeader at line 1", IS_OPB_HINT),
+            # reports without the instance
+            (
+                "--tasks 2 parts/first.report parts/second.report",
+                "parts/first.report: Unfinished at line 1",
+                f"parts/first.report {OF_TASK}: FILE, the instance, comes first",
+            ),
+            ("--pieces 3 2 out/0.out", "2: Unfinished at line 1", f"2 {OF_RUN}: FILE, the instance, comes first"),
+            ("--format cnf --tasks 1 refused.part", "refused.part: BadHeader at line 2", f"refused.part {OF_RUN}: FILE, the instance, comes first"),
         )
     ),
     Row("--tasks 2 tie.opb parts", err=f"pbcube_join: cannot write: {NO_ROOM}\n", status=1, out_to=FULL),

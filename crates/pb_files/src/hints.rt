@@ -15,6 +15,18 @@ pub fn hint_on_instance(
     written(alloc, HintLine::of_file(file, hint))
 }
 
+/// The same, where the names of reports follow that of the instance.
+pub fn hint_on_first(
+    alloc: Global,
+    file: &str,
+    format: Format,
+    text: &[u8],
+    fault: ReadFault,
+) -> Option<String> {
+    let hint = hint_on(format, text, fault)?;
+    written(alloc, HintLine::of_first(file, hint))
+}
+
 /// What may help where the file of this name cannot be read.
 pub fn hint_on_name(name: &str) -> Option<&'static str> {
     if name == "-" {
@@ -33,7 +45,7 @@ pub fn hint_on_cube_file(
     fault: ReadFault,
 ) -> Option<String> {
     let hint = hint_on_cubes(text, vars, fault)?;
-    written(alloc, HintLine::OfFile(name, hint))
+    written(alloc, HintLine::of_file(name, hint))
 }
 
 /// What may help where cubes and a split do not divide the instance of `vars` variables in this file, though each can be read.

@@ -5,10 +5,9 @@ ghost use Rattle.pb_files.specs.Texts.{texts};
 
 use crate::clue::Clue;
 use crate::files::Files;
-use crate::hints::hint_on_instance;
+use crate::hints::hint_on_first;
 use crate::lines::tasks_told;
 use crate::listing::piece_number;
-use crate::quote::Quote;
 use crate::reports_fault::{Refusal, ReportsFault};
 use crate::whole::Whole;
 use pb_join::PieceReport;
@@ -49,7 +48,7 @@ pub fn read_instance<'a, F: Files>(
         }
         Err(fault) if fault.kind == ReadKind::Memory => Err(ReportsFault::Memory),
         Err(fault) => {
-            let hint = hint_on_instance(alloc, file, format, &text, fault);
+            let hint = hint_on_first(alloc, file, format, &text, fault);
             Err(ReportsFault::Refused(file, fault, hint))
         }
     }
@@ -154,23 +153,16 @@ fn read_one<F: Files>(
     }
 }
 
-/// Why a text with this fault is not taken. Where it says nothing of the answer, its first line may tell why.
+/// Why a text with this fault is not taken. Where it says nothing of the answer, its first bytes may tell why, and else the line of
+/// the fault, where that is no line of a report.
 fn refusal_of(fault: ReportFault, text: &[u8]) -> Refusal {
     let begun = text.trim_ascii_start();
     if !begun.is_empty() && !tells_status(begun) {
-        return Refusal::Foreign(fault, Quote::of_first_line(begun));
+        return Refusal::Stray(fault, Clue::of_foreign(begun));
     }
-    match stray_line(fault, text) {
-        Some(clue) => Refusal::Stray(fault, clue),
-        None => Refusal::Faulty(fault),
-    }
-}
-
-/// What the line of the fault tells, where it is no line of a report.
-fn stray_line(fault: ReportFault, text: &[u8]) -> Option<Clue> {
     match fault.kind {
-        ReportKind::Syntax => Clue::of(text, fault.line, false),
-        _ => None,
+        ReportKind::Syntax => Refusal::at_line(fault, Clue::of(text, fault.line, false)),
+        _ => Refusal::Faulty(fault),
     }
 }
 

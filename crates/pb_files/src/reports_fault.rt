@@ -42,10 +42,7 @@ pub enum Refusal {
     /// Its lines are no report.
     #[error("{0}")]
     Faulty(ReportFault),
-    /// Its lines are no report, as the first of them may tell.
-    #[error("{0}: its first line is {1}")]
-    Foreign(ReportFault, Quote),
-    /// Its lines are no report, as the line of the fault may tell.
+    /// Its lines are no report, as its bytes or the line of the fault may tell.
     #[error("{0}: {1}")]
     Stray(ReportFault, Clue),
     /// No piece can have its report.
@@ -75,12 +72,25 @@ pub enum Refusal {
     /// It is the report of no task, and others are reports of tasks.
     #[error("it is the report of a whole run or of a join, and of no task: leave this file out")]
     OfNoTask,
+    /// It is of the first of these numbers of tasks, and the words tell the second.
+    #[error("the part is of {0} tasks, and --tasks tells {1}")]
+    OfOtherTasks(u32, u32),
     /// No part can have its report.
     #[error("{0}")]
     RejectedPart(PartRejection),
     /// It is no index of the instance.
     #[error("{0}")]
     Index(IndexFault),
+}
+
+impl Refusal {
+    /// Why a text is no report that has this fault, with what its line may tell.
+    pub fn at_line(fault: ReportFault, clue: Option<Clue>) -> Refusal {
+        match clue {
+            Some(clue) => Refusal::Stray(fault, clue),
+            None => Refusal::Faulty(fault),
+        }
+    }
 }
 
 /// What keeps reports from being joined, with the name of the file where it was met.

@@ -86,6 +86,24 @@ pub enum Advice {
     /// A comment begins as one of another format, or stands behind a clause.
     #[error("begin a comment with {0}, on a line of its own")]
     Comment(&'static str),
+    /// A line begins with the mark that ends a text of clauses, and more lines follow.
+    #[error("a line that begins with % ends the text: begin a comment with c")]
+    GoOn,
+    /// A header stands behind another one.
+    #[error("one header stands before all clauses: leave this one out")]
+    HeadOnce,
+    /// A blank is none of ASCII, or a comma separates words.
+    #[error("separate words by spaces of ASCII alone")]
+    Space,
+    /// A mark of negation stands alone.
+    #[error("write ~ with its variable, without a space, as ~x1")]
+    Attach,
+    /// The objective has a number without a literal.
+    #[error("no constant stands in the objective: leave it out, and add it to each cost")]
+    DropConstant,
+    /// The sum of a constraint has one.
+    #[error("no constant stands in a sum: subtract it from the number on the right")]
+    MoveConstant,
     /// A literal of a clause is no number.
     #[error("write a literal as the number of its variable, as 2, or -2 for its negation")]
     Number,
@@ -98,4 +116,11 @@ pub enum Advice {
     /// The line does not keep to this rule.
     #[error("{0}")]
     Keep(Rule),
+}
+
+impl Advice {
+    /// Whether it tells of a whole line: a comment, or a header.
+    pub fn is_on_line(self) -> bool {
+        matches!(self, Advice::Comment(_) | Advice::HeadOnce)
+    }
 }

@@ -2,7 +2,7 @@
 ghost use Rattle.std.specs.Prelude.{◌≡◌};
 ghost use Rattle.pb_hint.specs.Beginnings.{is_of};
 
-use crate::opb::ends_word;
+use crate::opb::{are_digits, ends_word, unsigned};
 use crate::spelling::is_part_of_term;
 use bstr::ByteSlice;
 use pb_read::Format;
@@ -23,12 +23,24 @@ pub enum Beginning {
     /// It has the first bytes of what zstd writes.
     #[error("is compressed by zstd: unzstd it first")]
     Zstd,
+    /// It has the first bytes of what zip writes.
+    #[error("is compressed by zip: unzip it first")]
+    Zip,
     /// It has the bytes that editors put before texts in Unicode.
     #[error("begins with a byte order mark: save it as ASCII, without one")]
     ByteOrderMark,
     /// It has CR where LF should end a line, and no LF.
     #[error("ends lines with CR alone: end them with LF")]
     CarriageReturns,
+    /// Its first line, which is no comment, has a zero byte.
+    #[error("has a zero byte in its first line, as no text in ASCII has")]
+    ZeroByte,
+    /// It begins as the report of a task does.
+    #[error("is the report of a task, and no instance")]
+    TaskReport,
+    /// Its first line that is no comment is one of a report.
+    #[error("is the report of a run, and no instance")]
+    RunReport,
     /// Its first line that is no comment is the header of WCNF, or a hard clause of its newer form.
     #[error("begins as WCNF, which is not read: write it as OPB, with the weights in min:")]
     Wcnf,
@@ -59,6 +71,11 @@ pub enum Beginning {
 }
 
 impl Beginning {
+    /// Whether it is that of a report.
+    pub fn is_report(self) -> bool {
+        matches!(self, Beginning::TaskReport | Beginning::RunReport)
+    }
+
     /// Whether a text of this format begins so.
     pub fn is_of(self, format: Format) -> bool
         ensures { result ≡ is_of self format }
@@ -68,8 +85,12 @@ impl Beginning {
             | Beginning::Xz
             | Beginning::Bzip2
             | Beginning::Zstd
+            | Beginning::Zip
             | Beginning::ByteOrderMark
             | Beginning::CarriageReturns
+            | Beginning::ZeroByte
+            | Beginning::TaskReport
+            | Beginning::RunReport
             | Beginning::Wcnf
             | Beginning::Lp
             | Beginning::Mps
@@ -85,7 +106,7 @@ impl Beginning {
 
 /// What the text begins as, where its first bytes or its first lines tell.
 pub fn begins_as(text: &[u8]) -> Option<Beginning> {
-    if let Some(begins) = first_bytes(text) {
+    if let Some(begins) = foreign_bytes(text) {
         return Some(begins);
     }
     for line in text.lines() {
@@ -139,8 +160,27 @@ pub fn is_among(word: &[u8], words: &[&str]) -> bool {
         .any(|it| word.eq_ignore_ascii_case(it.as_bytes()))
 }
 
-/// What a text is by its first bytes, or by the ends of its lines.
-fn first_bytes(text: &[u8]) -> Option<Beginning> {
+/// What a text is by its first bytes, or by the ends of its lines, if that is neither a text of a format here nor a report.
+pub fn foreign_bytes(text: &[u8]) -> Option<Beginning> {
+    if let Some(begins) = packed(text) {
+        Some(begins)
+    } else if is_marked(text) {
+        Some(Beginning::ByteOrderMark)
+    } else if text.starts_with(b"<?xml") {
+        Some(Beginning::Unread("XML"))
+    } else if text.starts_with(b"%PDF") {
+        Some(Beginning::Unread("PDF"))
+    } else if has_zero_byte(text) {
+        Some(Beginning::ZeroByte)
+    } else if has_carriage_returns(text) {
+        Some(Beginning::CarriageReturns)
+    } else {
+        None
+    }
+}
+
+/// By what a text is compressed.
+fn packed(text: &[u8]) -> Option<Beginning> {
     if text.starts_with(b"\x1f\x8b") {
         Some(Beginning::Gzip)
     } else if text.starts_with(b"\xfd7zXZ\x00") {
@@ -149,22 +189,32 @@ fn first_bytes(text: &[u8]) -> Option<Beginning> {
         Some(Beginning::Bzip2)
     } else if text.starts_with(b"\x28\xb5\x2f\xfd") {
         Some(Beginning::Zstd)
-    } else if is_marked(text) {
-        Some(Beginning::ByteOrderMark)
-    } else if text.starts_with(b"<?xml") {
-        Some(Beginning::Unread("XML"))
-    } else if text.starts_with(b"%PDF") {
-        Some(Beginning::Unread("PDF"))
-    } else if has_carriage_returns(text) {
-        Some(Beginning::CarriageReturns)
+    } else if text.starts_with(b"PK\x03\x04") {
+        Some(Beginning::Zip)
     } else {
         None
     }
 }
 
+/// Whether the first line has a zero byte, and is no comment.
+fn has_zero_byte(text: &[u8]) -> bool {
+    match text.lines().next() {
+        Some(line) => !is_comment(line) && line.find_byte(0).is_some(),
+        None => false,
+    }
+}
+
 /// Whether CR stands between other bytes of a text that has no LF.
 fn has_carriage_returns(text: &[u8]) -> bool {
-    text.find_byte(b'\n').is_none() && text.trim().find_byte(b'\r').is_some()
+    text.find_byte(b'\n').is_none()
+        && text.trim().find_byte(b'\r').is_some()
+        && !has_control_bytes(text)
+}
+
+/// Whether some byte is a control character that stands in no text: none of those that are blanks.
+pub fn has_control_bytes(text: &[u8]) -> bool {
+    text.iter()
+        .any(|byte| byte.is_ascii_control() && !byte.is_ascii_whitespace())
 }
 
 /// Whether a byte order mark of UTF-8 or of UTF-16 comes first.
@@ -188,9 +238,14 @@ fn header(line: &[u8]) -> Option<Beginning> {
     }
 }
 
-/// Which format that is not read has such a line at its beginning. No line of OPB, CNF or iCNF that is accepted begins so.
+/// What has such a line at its beginning and is not read: a report, or another format. No line of OPB, CNF or iCNF that is accepted
+/// begins so, but for a comment of CNF.
 fn unread(line: &[u8]) -> Option<Beginning> {
-    if is_flatzinc(line) {
+    if is_of_task(line) {
+        Some(Beginning::TaskReport)
+    } else if is_of_run(line) {
+        Some(Beginning::RunReport)
+    } else if is_flatzinc(line) {
         Some(Beginning::FlatZinc)
     } else if is_cudf(line) {
         Some(Beginning::Cudf)
@@ -202,6 +257,28 @@ fn unread(line: &[u8]) -> Option<Beginning> {
         None
     }
 }
+
+/// Whether a line is the first one of the report of a task.
+fn is_of_task(line: &[u8]) -> bool {
+    let mut words = line.fields();
+    line.starts_with(b"c part ")
+        && words.nth(3) == Some(b"of".as_slice())
+        && words.nth(1) == Some(b"of".as_slice())
+        && words.next() == Some(b"instance".as_slice())
+}
+
+/// Whether a line of a report tells a cost or a status.
+fn is_of_run(line: &[u8]) -> bool {
+    match line.strip_prefix(b"o ") {
+        Some(cost) => are_digits(unsigned(cost)),
+        None => STATUSES.iter().any(|it| it.as_bytes() == line),
+    }
+}
+
+/// The lines of a report that tell a status.
+const STATUSES: [&str; 5] = [
+    "s OPTIMUM FOUND", "s SATISFIABLE", "s UNSATISFIABLE", "s UNKNOWN", "s UNSUPPORTED",
+];
 
 /// Whether a line begins a declaration of FlatZinc, or is a constraint of it. A comment of CNF may begin with that word too.
 fn is_flatzinc(line: &[u8]) -> bool {

@@ -4,7 +4,7 @@ use crate::advice::Advice;
 use crate::opb::are_digits;
 use crate::places::moved;
 use crate::rules::Rule;
-use crate::spelling::begins_comment;
+use crate::spelling::{advice_on_unicode, begins_comment};
 use bstr::ByteSlice;
 use std::ops::Range;
 
@@ -61,8 +61,16 @@ fn may_stand(line: &[u8], bounds: Range<usize>, may_be_mark: bool) -> bool {
 /// What to write in place of such a word. Where there are cubes, a word of letters is taken for the `a` of a cube.
 pub fn advice_on(word: &[u8], has_cubes: bool) -> Advice {
     let is_name = word.first().is_some_and(|byte| byte.is_ascii_alphabetic());
-    if begins_comment(word) {
+    if let Some(advice) = advice_on_unicode(word) {
+        advice
+    } else if begins_comment(word) {
         Advice::Comment("c")
+    } else if word.ends_with(b";") {
+        Advice::Keep(Rule::EndClauses)
+    } else if word.find_byte(b',').is_some() {
+        Advice::Space
+    } else if !has_cubes && word == b"p".as_slice() {
+        Advice::HeadOnce
     } else if word.strip_prefix(b"-").is_some_and(are_digits) {
         Advice::Zero
     } else if has_cubes && is_name && !word.starts_with(b"x") {
@@ -72,6 +80,26 @@ pub fn advice_on(word: &[u8], has_cubes: bool) -> Advice {
     } else {
         Advice::Number
     }
+}
+
+/// The `%` that ends the text, where it begins a line with more words, or a line behind it has a word other than 0.
+pub fn early_end(text: &[u8]) -> Option<Range<usize>> {
+    let mut start: usize = 0;
+    let mut end = None;
+    for line in text.lines_with_terminator() {
+        let front = line.trim_start();
+        let at = start.saturating_add(line.len().saturating_sub(front.len()));
+        if end.is_none() && front.starts_with(b"%") {
+            end = Some(at..at.saturating_add(1));
+            if front.trim_end() != b"%".as_slice() {
+                return end;
+            }
+        } else if end.is_some() && !line.fields().all(|word| word == b"0".as_slice()) {
+            return end;
+        }
+        start = start.saturating_add(line.len());
+    }
+    None
 }
 
 /// How many clauses end in the text, which has a header. A line that begins with `%` ends the text.

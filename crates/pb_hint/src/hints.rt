@@ -4,7 +4,7 @@ ghost use Rattle.pb_hint.specs.Beginnings.{is_of};
 ghost use Rattle.pb_hint.specs.Places.{StandsIn};
 
 use crate::advice::Advice;
-use crate::beginnings::{Beginning, begins_as};
+use crate::beginnings::{Beginning, begins_as, foreign_bytes};
 use crate::places::{Place, locate, moved, start_of_line};
 use crate::rules::Rule;
 use crate::{dimacs, opb, products, variables};
@@ -55,6 +55,9 @@ pub fn hint_on_cubes<'t>(text: &'t [u8], vars: u32, fault: ReadFault) -> Option<
     ensures place { (place : _) → result ≡ Some (Hint.At place) → StandsIn text.now place }
     ensures advised { (place : _) → (advice : _) → result ≡ Some (Hint.Mend place advice) → StandsIn text.now place }
 {
+    if let Some(begins) = foreign_bytes(text) {
+        return Some(Hint::Begins(begins));
+    }
     match word_in_cubes(text, vars, fault) {
         Some(word) => hint_at(text, word),
         None => Some(Hint::Keep(fault.line, broken_rule_of_cubes(fault.kind)?)),
@@ -99,7 +102,10 @@ fn word_at_fault(format: Format, text: &[u8], fault: ReadFault) -> Option<Culpri
                 Some(advice),
             )
         }
-        ReadKind::BadHeader | ReadKind::TooManyClauses => stray_comment(rest)?,
+        ReadKind::BadHeader
+        | ReadKind::TooFewClauses
+        | ReadKind::TooManyClauses
+        | ReadKind::ClauseAfterCube => stray_comment(rest)?,
         _ => return None,
     };
     let bounds = moved(bounds, start);
@@ -108,26 +114,33 @@ fn word_at_fault(format: Format, text: &[u8], fault: ReadFault) -> Option<Culpri
 
 /// The first word of clauses or cubes that cannot stand where it does.
 fn misplaced_in_lists(text: &[u8], has_cubes: bool) -> Option<(Range<usize>, Option<Advice>)> {
-    let bounds = dimacs::misplaced(text, has_cubes)?;
-    let word = text.get(bounds.start..bounds.end)?;
-    let advice = dimacs::advice_on(word, has_cubes);
-    Some((bounds, Some(advice)))
+    match dimacs::misplaced(text, has_cubes) {
+        Some(bounds) => {
+            let word = text.get(bounds.start..bounds.end)?;
+            let advice = dimacs::advice_on(word, has_cubes);
+            Some((bounds, Some(advice)))
+        }
+        None => early_end(text),
+    }
 }
 
-/// Such a word where it begins a comment.
+/// Such a word on the first line where it begins a comment or a second header, or a line that ends the text before its last one.
 fn stray_comment(text: &[u8]) -> Option<(Range<usize>, Option<Advice>)> {
-    let (bounds, advice) = misplaced_in_lists(text, false)?;
-    match advice {
-        Some(Advice::Comment(_)) => Some((bounds, advice)),
-        _ => None,
+    match misplaced_in_lists(text.lines().next()?, false) {
+        Some((bounds, Some(advice))) if advice.is_on_line() => Some((bounds, Some(advice))),
+        _ => early_end(text),
     }
+}
+
+/// The word that ends the text before its last line.
+fn early_end(text: &[u8]) -> Option<(Range<usize>, Option<Advice>)> {
+    Some((dimacs::early_end(text)?, Some(Advice::GoOn)))
 }
 
 /// The first token of OPB that cannot stand where it does.
 fn token_at_fault(text: &[u8]) -> Option<Culprit> {
     let token = opb::misplaced(text)?;
-    let word = text.get(token.bounds.start..token.bounds.end)?;
-    let advice = token.advice(word);
+    let advice = token.advice(text);
     let bounds = token.bounds;
     Some(Culprit { bounds, advice })
 }

@@ -14,7 +14,7 @@ mod spelling;
 mod variables;
 
 pub use advice::Advice;
-pub use beginnings::Beginning;
+pub use beginnings::{Beginning, foreign_bytes, has_control_bytes};
 pub use hints::{Hint, hint_on, hint_on_cubes};
 pub use lines::HintLine;
 pub use places::Place;

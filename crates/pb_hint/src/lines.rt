@@ -9,6 +9,9 @@ pub enum HintLine<'t> {
     /// The file of this name begins as a text of another format.
     #[error("{0} {1}")]
     Begins(&'t str, Beginning),
+    /// The file of this name begins as a report, and stands where the instance has to stand, before all reports.
+    #[error("{0} {1}: FILE, the instance, comes first")]
+    ReportFirst(&'t str, Beginning),
     /// The hint on the text of the one instance.
     #[error("{0}")]
     OfInstance(Hint<'t>),
@@ -47,6 +50,14 @@ impl<'t> HintLine<'t> {
         match hint {
             Hint::Begins(begins) => HintLine::Begins(file, begins),
             hint => HintLine::OfFile(file, hint),
+        }
+    }
+
+    /// The line with this hint on the instance in the file of this name, where reports are named behind it.
+    pub fn of_first(file: &'t str, hint: Hint<'t>) -> HintLine<'t> {
+        match hint {
+            Hint::Begins(begins) if begins.is_report() => HintLine::ReportFirst(file, begins),
+            hint => HintLine::of_file(file, hint),
         }
     }
 

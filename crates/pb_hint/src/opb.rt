@@ -1,8 +1,12 @@
 //! Finding the first token of OPB that cannot stand where it does.
 //! Source: [OPB]
 use crate::advice::Advice;
+use crate::beginnings::is_among;
 use crate::places::moved;
-use crate::spelling::{advice_on_spelling, begins_comment, is_negated, is_part_of_term};
+use crate::rules::Rule;
+use crate::spelling::{
+    advice_on_spelling, begins_comment, is_comment_mark, is_negated, is_part_of_term,
+};
 use bstr::ByteSlice;
 use std::ops::Range;
 
@@ -13,8 +17,8 @@ enum Expected {
     Start,
     /// A number of a term, or the end of the objective.
     ObjectiveNumber,
-    /// The first literal of a term, of the objective or of a constraint.
-    Literal { objective: bool },
+    /// The first literal of a term, of the objective or of a constraint. The term is the first one or not.
+    Literal { objective: bool, is_first: bool },
     /// What follows a literal: one more, the next term, or in a constraint the relation.
     AfterLiteral { objective: bool },
     /// The number behind the relation.
@@ -31,8 +35,19 @@ pub struct StrayToken {
 }
 
 impl StrayToken {
-    /// What to write in place of this word, which is the token.
-    pub fn advice(&self, word: &[u8]) -> Option<Advice> {
+    /// What to write in place of the token of the text.
+    pub fn advice(&self, text: &[u8]) -> Option<Advice> {
+        let word = text.get(self.bounds.start..self.bounds.end)?;
+        let next = next_word(text.get(self.bounds.end..)?);
+        if self.is_comment(text, word) {
+            return Some(Advice::Comment("*"));
+        }
+        if let Some(advice) = self.advice_on_star(word, next) {
+            return Some(advice);
+        }
+        if self.is_listed(word) {
+            return Some(Advice::Keep(Rule::EndStatements));
+        }
         if let Some(advice) = advice_on_spelling(word) {
             return Some(advice);
         }
@@ -42,17 +57,53 @@ impl StrayToken {
         if is_part_of_term(word) || is_negated(word) {
             return Some(self.advice_on_literal(word));
         }
+        self.advice_on_word(word, next)
+    }
+
+    /// Whether the word begins a comment. A `c` may be the name of a variable too, but not at the start of a line.
+    fn is_comment(&self, text: &[u8], word: &[u8]) -> bool {
+        is_comment_mark(word)
+            || (word == b"c".as_slice()
+                && !matches!(self.expected, Expected::Literal { .. })
+                && begins_line(text, self.bounds.start))
+    }
+
+    /// What to write in place of a word that begins with `*`, with this word behind it: a product, or a comment behind a statement.
+    fn advice_on_star(&self, word: &[u8], next: &[u8]) -> Option<Advice> {
+        let rest = word.strip_prefix(b"*")?;
+        let factor = if rest.is_empty() { next } else { rest };
+        match self.expected {
+            Expected::Literal { .. } => Some(Advice::Part),
+            Expected::AfterLiteral { .. } if is_part_of_term(factor) => Some(Advice::Linearise),
+            Expected::AfterLiteral { .. } if is_number(factor) => Some(Advice::Part),
+            _ => Some(Advice::Separate),
+        }
+    }
+
+    /// Whether the word is a number on the right with a comma behind it, as between constraints in one line.
+    fn is_listed(&self, word: &[u8]) -> bool {
+        match word.strip_suffix(b",") {
+            Some(number) => self.expected == Expected::Bound && is_number(number),
+            None => false,
+        }
+    }
+
+    /// What to write in place of this word, which is the token, with this word behind it.
+    fn advice_on_word(&self, word: &[u8], next: &[u8]) -> Option<Advice> {
+        let is_end = word == b";".as_slice();
         match self.expected {
             Expected::Start => advice_on_beginning(word),
-            Expected::Literal { .. } if word == b"*".as_slice() => Some(Advice::Part),
-            Expected::AfterLiteral { .. } if word == b"*".as_slice() => Some(Advice::Linearise),
-            Expected::AfterLiteral { objective: false } | Expected::Bound
-                if word == b";".as_slice() => { Some(Advice::Relate) }
-            Expected::End if is_number(word) => Some(Advice::End),
-            Expected::End | Expected::AfterLiteral { objective: true } if word.ends_with(b":") => {
-                Some(Advice::End)
+            Expected::AfterLiteral { objective: false } | Expected::Bound if is_end => {
+                Some(Advice::Relate)
             }
-            Expected::Literal { .. } if is_number(word) => Some(Advice::Rename),
+            Expected::Literal { objective: true, .. } if is_end => Some(Advice::DropConstant),
+            Expected::Literal { objective: false, .. } if is_end => Some(Advice::Relate),
+            Expected::End if is_number(word) => Some(Advice::End),
+            Expected::End | Expected::AfterLiteral { objective: true }
+                if word.ends_with(b":") || is_among(word, &SUBJECT_TO) => { Some(Advice::End) }
+            Expected::Literal { objective, .. } if is_number(word) => {
+                Some(advice_on_number_of(objective, next))
+            }
             Expected::Literal { .. } | Expected::AfterLiteral { .. } if is_name(word) => {
                 Some(Advice::Rename)
             }
@@ -64,8 +115,9 @@ impl StrayToken {
     fn advice_on_relation(&self) -> Advice {
         match self.expected {
             Expected::ObjectiveNumber
-            | Expected::Literal { objective: true }
+            | Expected::Literal { objective: true, .. }
             | Expected::AfterLiteral { objective: true } => Advice::EndObjective,
+            Expected::Literal { is_first: false, .. } => Advice::MoveConstant,
             _ => Advice::Turn,
         }
     }
@@ -81,14 +133,44 @@ impl StrayToken {
     }
 }
 
+/// Words that stand in other formats between the objective and the constraints.
+const SUBJECT_TO: [&str; 4] = ["subject", "such", "s.t.", "st"];
+
+/// What to write in place of a number behind another one, with this word behind it.
+fn advice_on_number_of(objective: bool, next: &[u8]) -> Advice {
+    if !is_part_of_term(next) {
+        Advice::Rename
+    } else if objective {
+        Advice::DropConstant
+    } else {
+        Advice::MoveConstant
+    }
+}
+
+/// The first word of the text.
+fn next_word(text: &[u8]) -> &[u8] {
+    text.split(|byte| ends_word(*byte))
+        .find(|word| !word.is_empty())
+        .unwrap_or_default()
+}
+
+/// Whether only blanks stand before this place on its line.
+fn begins_line(text: &[u8], at: usize) -> bool {
+    let before = text.get(..at).unwrap_or_default();
+    match before.lines_with_terminator().last() {
+        Some(line) => line.ends_with(b"\n") || line.trim().is_empty(),
+        None => true,
+    }
+}
+
 /// What to write in place of a word with which no statement begins.
 fn advice_on_beginning(word: &[u8]) -> Option<Advice> {
-    if word.starts_with(b"*") {
-        Some(Advice::Separate)
-    } else if begins_comment(word) {
+    if begins_comment(word) {
         Some(Advice::Comment("*"))
     } else if word == b";".as_slice() {
         Some(Advice::EndOnce)
+    } else if is_among(word, &["obj:", "objective:"]) {
+        Some(Advice::Write("min:"))
     } else if word.ends_with(b":") {
         Some(Advice::Unname)
     } else if is_name(word) {
@@ -185,6 +267,15 @@ fn after_mark(line: &[u8], at: usize, expected: Expected) -> Result<Expected, St
     let before = at.checked_sub(1).and_then(|it| line.get(it)).copied();
     let relation = match line.get(at).copied() {
         Some(b';') => return after_end(at..next, expected),
+        // No relation: it is shown whole, and so is a relation with a blank in it.
+        Some(b'>') if before == Some(b'=') && begins_equivalence(line, last) => {
+            let bounds = last.saturating_sub(1)..next;
+            return Err(StrayToken { bounds, expected });
+        }
+        Some(b'>' | b'<') if parted(line, next).is_some() => {
+            let bounds = at..parted(line, next).unwrap_or(next);
+            return Err(StrayToken { bounds, expected });
+        }
         // One mark too many is shown with the one before it.
         Some(b'>' | b'<' | b'=') if before == Some(b'=') => {
             let bounds = last..next;
@@ -211,6 +302,19 @@ fn after_mark(line: &[u8], at: usize, expected: Expected) -> Result<Expected, St
     }
 }
 
+/// Whether the `=` at this place stands behind a `<`, as in `<=>`.
+fn begins_equivalence(line: &[u8], at: usize) -> bool {
+    at.checked_sub(1).and_then(|it| line.get(it)) == Some(&b'<')
+}
+
+/// The end of the `=` that follows this place behind blanks, of which there is at least one.
+fn parted(line: &[u8], at: usize) -> Option<usize> {
+    let rest = line.get(at..)?;
+    let front = rest.trim_start();
+    let blanks = rest.len().saturating_sub(front.len());
+    (blanks > 0 && front.starts_with(b"=")).then_some(at.saturating_add(blanks).saturating_add(1))
+}
+
 fn after_end(bounds: Range<usize>, expected: Expected) -> Result<Expected, StrayToken> {
     match expected {
         Expected::ObjectiveNumber | Expected::AfterLiteral { objective: true } | Expected::End =>
@@ -232,13 +336,20 @@ fn after_word(
     }
     match expected {
         Expected::Start if word == b"min:".as_slice() => Ok(Expected::ObjectiveNumber),
-        Expected::Start if is_number(word) => Ok(Expected::Literal { objective: false }),
-        Expected::ObjectiveNumber if is_number(word) => Ok(Expected::Literal { objective: true }),
-        Expected::Literal { objective } | Expected::AfterLiteral { objective }
+        Expected::Start if is_number(word) => Ok(Expected::Literal {
+            objective: false,
+            is_first: true,
+        }),
+        Expected::ObjectiveNumber if is_number(word) => Ok(Expected::Literal {
+            objective: true,
+            is_first: true,
+        }),
+        Expected::Literal { objective, .. } | Expected::AfterLiteral { objective }
             if is_literal(word) => { Ok(Expected::AfterLiteral { objective }) }
-        Expected::AfterLiteral { objective } if is_number(word) => {
-            Ok(Expected::Literal { objective })
-        }
+        Expected::AfterLiteral { objective } if is_number(word) => Ok(Expected::Literal {
+            objective,
+            is_first: false,
+        }),
         Expected::Bound if is_number(word) => Ok(Expected::End),
         _ => Err(StrayToken { bounds, expected }),
     }

@@ -26,13 +26,36 @@ pub fn advice_on_spelling(word: &[u8]) -> Option<Advice> {
     if is_among(name, &["max", "maximize", "maximise"]) {
         return Some(Advice::Minimise);
     }
+    if let Some(advice) = advice_on_factors(unsigned(word)) {
+        return Some(advice);
+    }
     advice_on_number(unsigned(word))
+}
+
+/// What to write in place of a literal with a comma behind it, or with a factor or an exponent. The word has no sign before it.
+fn advice_on_factors(word: &[u8]) -> Option<Advice> {
+    let end = word.find_byteset(b",*^")?;
+    let (literal, rest) = word.split_at_checked(end)?;
+    if !is_literal(literal) {
+        return None;
+    }
+    match rest {
+        [b','] => Some(Advice::Space),
+        [b'^', ..] | [b'*', b'*', ..] => Some(Advice::Write("the literal alone, whose powers are the same")),
+        [b'*', factor @ ..] if is_literal(factor) => Some(Advice::Linearise),
+        [b'*', factor @ ..] if are_digits(factor) => Some(Advice::Part),
+        _ => None,
+    }
 }
 
 /// What to write in place of signs and relations.
 fn advice_on_mark(word: &[u8]) -> Option<Advice> {
+    if word.find_byteset(b" \t").is_some() {
+        return advice_on_parted(word);
+    }
     match word {
         b"+" | b"-" => Some(Advice::Sign),
+        b"~" | b"!" => Some(Advice::Attach),
         b">" => Some(Advice::AtLeast),
         b"<" => Some(Advice::AtMost),
         b"=>" => Some(Advice::Write(">=")),
@@ -40,6 +63,15 @@ fn advice_on_mark(word: &[u8]) -> Option<Advice> {
         b"==" => Some(Advice::Write("=")),
         b"!=" | b"<>" => Some(Advice::Choose),
         _ => None,
+    }
+}
+
+/// What to write in place of a relation with a blank in it.
+fn advice_on_parted(word: &[u8]) -> Option<Advice> {
+    if word.starts_with(b">") {
+        Some(Advice::Write(">="))
+    } else {
+        Some(Advice::Write("<="))
     }
 }
 
@@ -54,8 +86,16 @@ const MINUS: &[u8] = b"\xe2\x88\x92";
 
 const DASH: &[u8] = b"\xe2\x80\x93";
 
+/// Blanks that are not ASCII, and that editors and web pages put between words.
+const BLANKS: [&[u8]; 5] = [
+    b"\xc2\xa0", b"\xe2\x80\x89", b"\xe2\x80\x8b", b"\xe2\x80\xaf", b"\xe3\x80\x80",
+];
+
 /// What to write in place of a word with such a sign.
-fn advice_on_unicode(word: &[u8]) -> Option<Advice> {
+pub fn advice_on_unicode(word: &[u8]) -> Option<Advice> {
+    if BLANKS.iter().any(|blank| word.contains_str(*blank)) {
+        return Some(Advice::Space);
+    }
     if word.contains_str(AT_LEAST) {
         Some(Advice::Write(">="))
     } else if word.contains_str(AT_MOST) {
@@ -81,9 +121,12 @@ fn advice_on_number(word: &[u8]) -> Option<Advice> {
         return Some(Advice::Part);
     }
     match rest {
-        [b'.', fraction @ ..] if fraction.is_empty() || are_digits(fraction) => {
-            Some(Advice::MakeWhole)
+        [b'.', fraction @ ..] if fraction.iter().all(|digit| *digit == b'0') => {
+            Some(Advice::Digits)
         }
+        [b'.' | b'/', fraction @ ..] if are_digits(fraction) => Some(Advice::MakeWhole),
+        [b'^', ..] | [b'*', b'*', ..] => Some(Advice::Digits),
+        [b','] => Some(Advice::Space),
         [b'e' | b'E' | b',' | b'_' | b'.', more @ ..] if is_of_number(more) => Some(Advice::Digits),
         _ => None,
     }
@@ -110,8 +153,15 @@ pub fn is_negated(word: &[u8]) -> bool {
 
 /// Whether the word begins a comment, in some format or language.
 pub fn begins_comment(word: &[u8]) -> bool {
-    word == b"c".as_slice()
+    word == b"c".as_slice() || word.starts_with(b"*") || is_comment_mark(word)
+}
+
+/// Whether the word begins a comment, and nothing else in any place.
+pub fn is_comment_mark(word: &[u8]) -> bool {
+    word == b"--".as_slice()
         || word.starts_with(b"#")
         || word.starts_with(b"%")
         || word.starts_with(b"//")
+        || word.starts_with(b"/*")
+        || word.starts_with(b"\\")
 }

@@ -2,6 +2,7 @@
 ghost use Rattle.std.specs.Prelude.{◌≡◌, IfSome};
 ghost use Rattle.std.specs.IoError.{error_kind};
 
+use pb_inst::Workers;
 use std::fmt::Display;
 use std::io::{Error, ErrorKind, Write};
 
@@ -27,5 +28,16 @@ pub fn tell_failure<F: Display + Drop, E: Write>(
 pub fn tell_hint<H: Display + Drop, E: Write>(program: &str, hint: Option<H>, err: &mut E) {
     if let Some(hint) = hint {
         let _ = writeln!(err, "{program}: {hint}");
+    }
+}
+
+/// Writes one line to the standard error where so many workers have one piece and there are several of them. Faults of the standard
+/// error are ignored.
+pub fn tell_of_one_piece<E: Write>(program: &str, workers: Workers, err: &mut E) {
+    if workers.get() > 1 {
+        let _ = writeln!(
+            err,
+            "{program}: one worker searches the one piece: --split divides the work among several"
+        );
     }
 }

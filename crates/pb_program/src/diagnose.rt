@@ -2,20 +2,17 @@
 use crate::args::Line;
 use crate::files::Rewind;
 use pb_hint::{HintLine, hint_on, hint_on_cubes};
-use pb_line::tell_hint;
+use pb_line::{tell_hint, tell_of_one_piece};
 use pb_read::{Format, ReadFault, read, read_cubes};
 use std::alloc::Global;
 use std::io::{Read, Write};
 
 /// Writes one line to the standard error where several workers have one piece. The cubes of an iCNF text are not known yet.
-pub fn tell_of_one_piece<E: Write>(line: &Line<'_>, err: &mut E) {
+pub fn tell_if_undivided<E: Write>(line: &Line<'_>, err: &mut E) {
     let options = &line.options;
     let has_cubes = line.cubes.is_some() || options.format == Format::Icnf;
-    if options.workers.get() > 1 && options.split == 0 && !has_cubes {
-        let _ = writeln!(
-            err,
-            "pbcube: one worker searches the one piece: --split divides the work among several"
-        );
+    if options.split == 0 && !has_cubes {
+        tell_of_one_piece("pbcube", options.workers, err);
     }
 }
 
@@ -71,6 +68,6 @@ fn tell_of_instance<E: Write>(line: &Line<'_>, text: &[u8], fault: ReadFault, er
 /// Writes the hint on the cubes in the file of this name, if there is one.
 fn tell_of_cubes<E: Write>(name: &str, text: &[u8], vars: u32, fault: ReadFault, err: &mut E) {
     if let Some(hint) = hint_on_cubes(text, vars, fault) {
-        tell_hint("pbcube", Some(HintLine::OfFile(name, hint)), err);
+        tell_hint("pbcube", Some(HintLine::of_file(name, hint)), err);
     }
 }

@@ -10,7 +10,7 @@ ghost use Rattle.pb_solve.specs.Run.{Reports, ReportsFound};
 ghost use Rattle.pb_program.specs.Ending.{Ends, EndsWithoutMemory};
 
 use crate::args::Line;
-use crate::diagnose::{diagnose, tell_of_one_piece};
+use crate::diagnose::{diagnose, tell_if_undivided};
 use crate::faults::{ProgramFault, tell};
 use crate::files::{Files, Rewind};
 use crate::parse::line;
@@ -148,7 +148,7 @@ fn end_of_run<I: Read + Rewind, E: Write>(
     if ran.status == Status::Unsupported {
         diagnose(alloc, line, input, cubes, err);
     } else {
-        tell_of_one_piece(line, err);
+        tell_if_undivided(line, err);
     }
     ran.status.exit_status()
 }

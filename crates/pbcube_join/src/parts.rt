@@ -183,7 +183,7 @@ fn join_part_reports<'a, W: Write>(
         }),
         Err(fault) => {
             let other = name_of_other(&fault, &read);
-            Err(fault_of(fault, read.names, other))
+            Err(fault_of(fault, read, tasks, other))
         }
     }
 }
@@ -212,22 +212,34 @@ fn name_of_other(fault: &PartsFault, read: &PartReports) -> Option<String> {
     read.names.get(other)?.clone().ok()
 }
 
-/// Why the reports of parts from the files of these names were not joined. The rejected one may not go with that in another file.
+/// Why these reports of parts were not joined as those of `tasks` tasks. The rejected one may not go with that in another file.
 fn fault_of<'a>(
     fault: PartsFault,
-    mut names: Vec<String>,
+    mut read: PartReports,
+    tasks: u32,
     other: Option<String>,
 ) -> ReportsFault<'a>
-    requires { (place : ℕ) → (why : Why) → fault ≡ PartsFault.Report place why → place < length names.items }
+    requires { (place : ℕ) → (why : Why) → fault ≡ PartsFault.Report place why → place < length read.names.items }
     ensures { fault ≡ PartsFault.Write → result ≡ ReportsFault.CannotWrite }
 {
     match fault {
         PartsFault::Write => ReportsFault::CannotWrite,
         PartsFault::Memory => ReportsFault::Memory,
         PartsFault::Report { place, why } => {
-            let name = names.swap_remove(place);
-            ReportsFault::of_report(name, Refusal::RejectedPart(why), other)
+            let why = refusal_of(why, read.parts.get(place), tasks);
+            let name = read.names.swap_remove(place);
+            ReportsFault::of_report(name, why, other)
         }
+    }
+}
+
+/// Why this report of a part is refused, with the numbers of tasks where it is of another one than `tasks`.
+fn refusal_of(why: PartRejection, part: Option<&PartReport>, tasks: u32) -> Refusal {
+    match part {
+        Some(part) if why == PartRejection::OtherTasks => {
+            Refusal::OfOtherTasks(part.heading.division.tasks, tasks)
+        }
+        _ => Refusal::RejectedPart(why),
     }
 }
 

@@ -6,6 +6,7 @@ use crate::places::Places;
 use pb_files::Prepared;
 use pb_inst::Best;
 use pb_line::tasks::Line;
+use pb_line::tell_of_one_piece;
 use pb_notes::{Notes, note_room, write_note};
 use pb_workers::{Correspondence, NoNotes, OpenGate, SolveFault, Task, TaskAnswer, solve_task};
 use std::alloc::Global;
@@ -27,7 +28,11 @@ pub fn search<'i, R: Threads + Sync, N: Notes + Sync + Drop, P: Places<N>, E: Wr
     ensures answer { IfOk result (λ answer. IsAnswerOfTask prepared.now.instance prepared.now.pieces (record { number = line.now.task; tasks = line.now.tasks }) answer.done.items answer.cut.items answer.best.held) }
     ensures no_budget { IfNone line.now.nodes (IfOk result (λ answer. answer.cut.items ≡ [])) }
 {
-    match place_of(alloc, line, prepared.pieces.len(), places, err)? {
+    let pieces = prepared.pieces.len();
+    if has_one_piece(line, pieces) {
+        tell_of_one_piece("pbcube_task", line.workers, err);
+    }
+    match place_of(alloc, line, pieces, places, err)? {
         Some(notes) => search_with_notes(rt, alloc, line, prepared, &notes),
         None => search_with(
             rt,
@@ -37,6 +42,12 @@ pub fn search<'i, R: Threads + Sync, N: Notes + Sync + Drop, P: Places<N>, E: Wr
             None::<&Correspondence<'_, NoNotes>>,
         ),
     }
+}
+
+/// Whether the line's task has one of these pieces, and no second one.
+fn has_one_piece(line: &Line<'_>, pieces: u32) -> bool {
+    let rest = pieces.saturating_sub(line.task);
+    rest > 0 && rest <= line.tasks
 }
 
 /// The notes of the tasks, where the line names a folder and this task has a piece. A folder that cannot be used is reported.
