@@ -103,6 +103,7 @@ FILES = {
     "good.cubes": "a 1 0\n",
     "marked_by_editor.cubes": "\ufeffa 1 0\n",
     "starred.cubes": "a 1 0\n* a comment\n",
+    "instance.cubes": "* #variable= 3 #constraint= 1\n1 x1 >= 1 ;\n",
     "blank.cubes": "a 1 0\na\u00a01 0\n",
     "listed.cubes": "a 1 0\na 1, 2 0\n",
     "word.cubes": "a 1 0\na 1 x2 0\n",
@@ -368,6 +369,11 @@ PBCUBE = [
     hinted_on_cubes("zero.cubes", "Unfinished", f"line 2, column 5: '-0': {ZERO}"),
     hinted_on_cubes("marked.cubes", "Syntax", f"line 2, column 1: '#': {LETTERED}"),
     hinted_on_cubes("starred.cubes", "Syntax", f"line 2, column 1: '*': {LETTERED}"),
+    Row(
+        "--cubes instance.cubes tie.opb",
+        f"c refused cubes: Syntax at line 1\n{UNSUPPORTED}",
+        f"pbcube: instance.cubes: line 1: {CUBE_LINE}\n",
+    ),
     hinted_on_cubes("blank.cubes", "Syntax", f"line 2, column 1: 'a\\xc2\\xa01': {SPACE}"),
     hinted_on_cubes("listed.cubes", "Syntax", f"line 2, column 3: '1,': {SPACE}"),
     *(

@@ -27,7 +27,8 @@ impl Clue {
         if let Some(begins) = foreign_bytes(text) {
             return Some(Clue::Begins(begins));
         }
-        if has_returns(text) {
+        let has_returns = text.windows(2).any(|pair| pair == b"\r\n".as_slice());
+        if has_returns && !has_control_bytes(text) {
             return Some(Clue::CarriageReturns);
         }
         let place = usize::try_from(line.checked_sub(1)?).ok()?;
@@ -43,11 +44,6 @@ impl Clue {
             None => Clue::FirstLine(Quote::of_first_line(text)),
         }
     }
-}
-
-/// Whether lines of the text, if it is one, end with CR and LF.
-fn has_returns(text: &[u8]) -> bool {
-    text.windows(2).any(|pair| pair == b"\r\n".as_slice()) && !has_control_bytes(text)
 }
 
 /// Whether a line begins as one of a report may.

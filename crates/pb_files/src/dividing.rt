@@ -84,7 +84,7 @@ fn read_given<'a, F: Folders>(
         Ok(found) => found,
         Err(fault) if fault.kind == ReadKind::Memory => return Err(DivisionFault::Memory),
         Err(fault) => {
-            let hint = hint_on_instance(alloc, file, format, &text, fault);
+            let hint = hint_on_instance(alloc, file, format, &text, fault, false);
             return Err(DivisionFault::Refused(file, Refusal::Input(fault), hint));
         }
     };

@@ -3,28 +3,23 @@ use pb_hint::{HintLine, hint_on, hint_on_cubes};
 use pb_read::{Format, ReadFault};
 use std::alloc::Global;
 
-/// What may help with the instance in this file, whose text was refused, if there is a hint to give and memory for it.
+/// What may help with the instance in this file, whose text was refused, if there is a hint to give and memory for it. The names of
+/// reports may follow that of the instance.
 pub fn hint_on_instance(
     alloc: Global,
     file: &str,
     format: Format,
     text: &[u8],
     fault: ReadFault,
+    reports_follow: bool,
 ) -> Option<String> {
     let hint = hint_on(format, text, fault)?;
-    written(alloc, HintLine::of_file(file, hint))
-}
-
-/// The same, where the names of reports follow that of the instance.
-pub fn hint_on_first(
-    alloc: Global,
-    file: &str,
-    format: Format,
-    text: &[u8],
-    fault: ReadFault,
-) -> Option<String> {
-    let hint = hint_on(format, text, fault)?;
-    written(alloc, HintLine::of_first(file, hint))
+    let line = if reports_follow {
+        HintLine::of_first(file, hint)
+    } else {
+        HintLine::of_file(file, hint)
+    };
+    written(alloc, line)
 }
 
 /// What may help where the file of this name cannot be read.

@@ -5,7 +5,7 @@ ghost use Rattle.pb_files.specs.Texts.{texts};
 
 use crate::clue::Clue;
 use crate::files::Files;
-use crate::hints::hint_on_first;
+use crate::hints::hint_on_instance;
 use crate::lines::tasks_told;
 use crate::listing::piece_number;
 use crate::reports_fault::{Refusal, ReportsFault};
@@ -48,7 +48,7 @@ pub fn read_instance<'a, F: Files>(
         }
         Err(fault) if fault.kind == ReadKind::Memory => Err(ReportsFault::Memory),
         Err(fault) => {
-            let hint = hint_on_first(alloc, file, format, &text, fault);
+            let hint = hint_on_instance(alloc, file, format, &text, fault, true);
             Err(ReportsFault::Refused(file, fault, hint))
         }
     }
@@ -160,9 +160,13 @@ fn refusal_of(fault: ReportFault, text: &[u8]) -> Refusal {
     if !begun.is_empty() && !tells_status(begun) {
         return Refusal::Stray(fault, Clue::of_foreign(begun));
     }
-    match fault.kind {
-        ReportKind::Syntax => Refusal::at_line(fault, Clue::of(text, fault.line, false)),
-        _ => Refusal::Faulty(fault),
+    let clue = match fault.kind {
+        ReportKind::Syntax => Clue::of(text, fault.line, false),
+        _ => None,
+    };
+    match clue {
+        Some(clue) => Refusal::Stray(fault, clue),
+        None => Refusal::Faulty(fault),
     }
 }
 

@@ -83,16 +83,6 @@ pub enum Refusal {
     Index(IndexFault),
 }
 
-impl Refusal {
-    /// Why a text is no report that has this fault, with what its line may tell.
-    pub fn at_line(fault: ReportFault, clue: Option<Clue>) -> Refusal {
-        match clue {
-            Some(clue) => Refusal::Stray(fault, clue),
-            None => Refusal::Faulty(fault),
-        }
-    }
-}
-
 /// What keeps reports from being joined, with the name of the file where it was met.
 #[derive(Debug, Drop, Error)]
 pub enum ReportsFault<'a> {

@@ -117,10 +117,3 @@ pub enum Advice {
     #[error("{0}")]
     Keep(Rule),
 }
-
-impl Advice {
-    /// Whether it tells of a whole line: a comment, or a header.
-    pub fn is_on_line(self) -> bool {
-        matches!(self, Advice::Comment(_) | Advice::HeadOnce)
-    }
-}

@@ -213,8 +213,7 @@ fn has_carriage_returns(text: &[u8]) -> bool {
 
 /// Whether some byte is a control character that stands in no text: none of those that are blanks.
 pub fn has_control_bytes(text: &[u8]) -> bool {
-    text.iter()
-        .any(|byte| byte.is_ascii_control() && !byte.is_ascii_whitespace())
+    text.iter().any(|byte| byte.is_ascii_control() && !byte.is_ascii_whitespace())
 }
 
 /// Whether a byte order mark of UTF-8 or of UTF-16 comes first.
@@ -277,7 +276,11 @@ fn is_of_run(line: &[u8]) -> bool {
 
 /// The lines of a report that tell a status.
 const STATUSES: [&str; 5] = [
-    "s OPTIMUM FOUND", "s SATISFIABLE", "s UNSATISFIABLE", "s UNKNOWN", "s UNSUPPORTED",
+    "s OPTIMUM FOUND",
+    "s SATISFIABLE",
+    "s UNSATISFIABLE",
+    "s UNKNOWN",
+    "s UNSUPPORTED",
 ];
 
 /// Whether a line begins a declaration of FlatZinc, or is a constraint of it. A comment of CNF may begin with that word too.

@@ -1,10 +1,10 @@
 //! Finding the first word of a formula or of cubes that cannot stand there.
 //! Source: [DIMACS], [ICNF]
 use crate::advice::Advice;
-use crate::opb::are_digits;
+use crate::opb::{are_digits, is_relation};
 use crate::places::moved;
 use crate::rules::Rule;
-use crate::spelling::{advice_on_unicode, begins_comment};
+use crate::spelling::{advice_on_unicode, begins_comment, begins_comment_line, is_operator};
 use bstr::ByteSlice;
 use std::ops::Range;
 
@@ -58,28 +58,45 @@ fn may_stand(line: &[u8], bounds: Range<usize>, may_be_mark: bool) -> bool {
     }
 }
 
-/// What to write in place of such a word. Where there are cubes, a word of letters is taken for the `a` of a cube.
-pub fn advice_on(word: &[u8], has_cubes: bool) -> Advice {
-    let is_name = word.first().is_some_and(|byte| byte.is_ascii_alphabetic());
-    if let Some(advice) = advice_on_unicode(word) {
-        advice
-    } else if begins_comment(word) {
-        Advice::Comment("c")
-    } else if word.ends_with(b";") {
-        Advice::Keep(Rule::EndClauses)
-    } else if word.find_byte(b',').is_some() {
-        Advice::Space
-    } else if !has_cubes && word == b"p".as_slice() {
-        Advice::HeadOnce
-    } else if word.strip_prefix(b"-").is_some_and(are_digits) {
-        Advice::Zero
-    } else if has_cubes && is_name && !word.starts_with(b"x") {
-        Advice::Keep(Rule::CubeLine)
-    } else if word == b"a".as_slice() {
-        Advice::Cube
-    } else {
-        Advice::Number
+/// What to write in place of such a word, if it begins its line or not. Where there are cubes, a word of letters is taken for the
+/// `a` of a cube.
+pub fn advice_on(word: &[u8], is_first: bool, has_cubes: bool) -> Option<Advice> {
+    if is_comment(word, is_first) {
+        return Some(Advice::Comment("c"));
     }
+    if let Some(advice) = advice_on_unicode(word) {
+        return Some(advice);
+    }
+    let is_name = word.first().is_some_and(|byte| byte.is_ascii_alphabetic());
+    if word.find_byte(b';').is_some() {
+        Some(Advice::Keep(Rule::EndClauses))
+    } else if is_list(word) {
+        Some(Advice::Space)
+    } else if word == b"p".as_slice() {
+        Some(Advice::HeadOnce)
+    } else if word.strip_prefix(b"-").is_some_and(are_digits) {
+        Some(Advice::Zero)
+    } else if has_cubes && is_name && !word.starts_with(b"x") {
+        Some(Advice::Keep(Rule::CubeLine))
+    } else if word == b"a".as_slice() {
+        Some(Advice::Cube)
+    } else if is_operator(word) || word == b"e".as_slice() || is_relation(word) {
+        None
+    } else {
+        Some(Advice::Number)
+    }
+}
+
+/// Whether the word begins a comment, if it begins its line or not.
+fn is_comment(word: &[u8], is_first: bool) -> bool {
+    let is_mark = word == b"c".as_slice() || word.starts_with(b"*") || begins_comment(word);
+    is_mark || (is_first && (word == b";".as_slice() || begins_comment_line(word)))
+}
+
+/// Whether commas separate numbers in the word.
+fn is_list(word: &[u8]) -> bool {
+    word.find_byte(b',').is_some()
+        && word.iter().all(|byte| byte.is_ascii_digit() || matches!(*byte, b',' | b'-'))
 }
 
 /// The `%` that ends the text, where it begins a line with more words, or a line behind it has a word other than 0.
@@ -94,7 +111,10 @@ pub fn early_end(text: &[u8]) -> Option<Range<usize>> {
             if front.trim_end() != b"%".as_slice() {
                 return end;
             }
-        } else if end.is_some() && !line.fields().all(|word| word == b"0".as_slice()) {
+        } else if end.is_some()
+            && !front.starts_with(b"c")
+            && !line.fields().all(|word| word == b"0".as_slice())
+        {
             return end;
         }
         start = start.saturating_add(line.len());

@@ -58,6 +58,9 @@ pub fn hint_on_cubes<'t>(text: &'t [u8], vars: u32, fault: ReadFault) -> Option<
     if let Some(begins) = foreign_bytes(text) {
         return Some(Hint::Begins(begins));
     }
+    if begins_as(text) == Some(Beginning::Opb) {
+        return Some(Hint::Keep(fault.line, Rule::CubeLine));
+    }
     match word_in_cubes(text, vars, fault) {
         Some(word) => hint_at(text, word),
         None => Some(Hint::Keep(fault.line, broken_rule_of_cubes(fault.kind)?)),
@@ -102,10 +105,10 @@ fn word_at_fault(format: Format, text: &[u8], fault: ReadFault) -> Option<Culpri
                 Some(advice),
             )
         }
-        ReadKind::BadHeader
-        | ReadKind::TooFewClauses
-        | ReadKind::TooManyClauses
-        | ReadKind::ClauseAfterCube => stray_comment(rest)?,
+        ReadKind::BadHeader | ReadKind::TooFewClauses => stray_comment(rest)?,
+        ReadKind::TooManyClauses | ReadKind::ClauseAfterCube => {
+            stray_line(rest, format == Format::Icnf)?
+        }
         _ => return None,
     };
     let bounds = moved(bounds, start);
@@ -117,19 +120,29 @@ fn misplaced_in_lists(text: &[u8], has_cubes: bool) -> Option<(Range<usize>, Opt
     match dimacs::misplaced(text, has_cubes) {
         Some(bounds) => {
             let word = text.get(bounds.start..bounds.end)?;
-            let advice = dimacs::advice_on(word, has_cubes);
-            Some((bounds, Some(advice)))
+            let is_first = opb::begins_line(text, bounds.start);
+            let advice = dimacs::advice_on(word, is_first, has_cubes);
+            Some((bounds, advice))
         }
         None => early_end(text),
     }
 }
 
-/// Such a word on the first line where it begins a comment or a second header, or a line that ends the text before its last one.
+/// Such a word on the first line where it begins a comment, or a line that ends the text before its last one.
 fn stray_comment(text: &[u8]) -> Option<(Range<usize>, Option<Advice>)> {
     match misplaced_in_lists(text.lines().next()?, false) {
-        Some((bounds, Some(advice))) if advice.is_on_line() => Some((bounds, Some(advice))),
+        Some((bounds, Some(Advice::Comment(mark)))) => {
+            Some((bounds, Some(Advice::Comment(mark))))
+        }
         _ => early_end(text),
     }
+}
+
+/// Such a word on the first line, which stands where no clause may stand. What to write in its place is told if it begins no clause.
+fn stray_line(text: &[u8], has_cubes: bool) -> Option<(Range<usize>, Option<Advice>)> {
+    let (bounds, advice) = misplaced_in_lists(text.lines().next()?, has_cubes)?;
+    let advice = advice.filter(|it| *it != Advice::Number && *it != Advice::Cube);
+    Some((bounds, advice))
 }
 
 /// The word that ends the text before its last line.
@@ -150,7 +163,10 @@ fn word_in_cubes(text: &[u8], vars: u32, fault: ReadFault) -> Option<Culprit> {
     let start = start_of_line(text, fault.line);
     let rest = text.get(start..)?;
     let (bounds, advice) = match fault.kind {
-        ReadKind::Syntax | ReadKind::Unfinished => misplaced_in_lists(rest.lines().next()?, true)?,
+        ReadKind::Syntax | ReadKind::Unfinished => {
+            let (bounds, advice) = misplaced_in_lists(rest.lines().next()?, true)?;
+            (bounds, advice.map(of_cubes))
+        }
         ReadKind::BadVariable => {
             let greatest = u64::from(vars);
             let bounds = variables::misnumbered(Format::Icnf, rest, greatest)?;
@@ -160,6 +176,14 @@ fn word_in_cubes(text: &[u8], vars: u32, fault: ReadFault) -> Option<Culprit> {
     };
     let bounds = moved(bounds, start);
     Some(Culprit { bounds, advice })
+}
+
+/// What to write in a file of cubes, which has no header.
+fn of_cubes(advice: Advice) -> Advice {
+    match advice {
+        Advice::HeadOnce => Advice::Keep(Rule::CubeLine),
+        other => other,
+    }
 }
 
 /// The rule that a text of this format does not keep to where it has such a fault.

@@ -5,7 +5,8 @@ use crate::beginnings::is_among;
 use crate::places::moved;
 use crate::rules::Rule;
 use crate::spelling::{
-    advice_on_spelling, begins_comment, is_comment_mark, is_negated, is_part_of_term,
+    advice_on_spelling, begins_comment, begins_comment_line, is_negated, is_operator,
+    is_part_of_term,
 };
 use bstr::ByteSlice;
 use std::ops::Range;
@@ -39,8 +40,11 @@ impl StrayToken {
     pub fn advice(&self, text: &[u8]) -> Option<Advice> {
         let word = text.get(self.bounds.start..self.bounds.end)?;
         let next = next_word(text.get(self.bounds.end..)?);
-        if self.is_comment(text, word) {
+        if self.is_comment(text, word, next) {
             return Some(Advice::Comment("*"));
+        }
+        if self.is_second_relation(word) {
+            return Some(Advice::Turn);
         }
         if let Some(advice) = self.advice_on_star(word, next) {
             return Some(advice);
@@ -57,15 +61,26 @@ impl StrayToken {
         if is_part_of_term(word) || is_negated(word) {
             return Some(self.advice_on_literal(word));
         }
+        if is_literal(next) && (word == b"~".as_slice() || word == b"!".as_slice()) {
+            return Some(Advice::Attach);
+        }
         self.advice_on_word(word, next)
     }
 
-    /// Whether the word begins a comment. A `c` may be the name of a variable too, but not at the start of a line.
-    fn is_comment(&self, text: &[u8], word: &[u8]) -> bool {
-        is_comment_mark(word)
-            || (word == b"c".as_slice()
-                && !matches!(self.expected, Expected::Literal { .. })
-                && begins_line(text, self.bounds.start))
+    /// Whether the word begins a comment, with this word behind it. A `c` may be the name of a variable too, and `%` an operator.
+    fn is_comment(&self, text: &[u8], word: &[u8], next: &[u8]) -> bool {
+        match self.expected {
+            Expected::Start | Expected::End => begins_comment_line(word),
+            Expected::Literal { .. } => begins_comment(word),
+            _ if begins_line(text, self.bounds.start) => begins_comment_line(word),
+            _ => begins_comment(word) && !is_number(next),
+        }
+    }
+
+    /// Whether the word is `>` or `<` behind a relation.
+    fn is_second_relation(&self, word: &[u8]) -> bool {
+        matches!(self.expected, Expected::Bound | Expected::End)
+            && (word == b">".as_slice() || word == b"<".as_slice())
     }
 
     /// What to write in place of a word that begins with `*`, with this word behind it: a product, or a comment behind a statement.
@@ -96,17 +111,22 @@ impl StrayToken {
             Expected::AfterLiteral { objective: false } | Expected::Bound if is_end => {
                 Some(Advice::Relate)
             }
-            Expected::Literal { objective: true, .. } if is_end => Some(Advice::DropConstant),
-            Expected::Literal { objective: false, .. } if is_end => Some(Advice::Relate),
+            Expected::Literal {
+                objective: true,
+                ..
+            } if is_end => Some(Advice::DropConstant),
+            Expected::Literal {
+                objective: false,
+                ..
+            } if is_end => Some(Advice::Relate),
             Expected::End if is_number(word) => Some(Advice::End),
             Expected::End | Expected::AfterLiteral { objective: true }
                 if word.ends_with(b":") || is_among(word, &SUBJECT_TO) => { Some(Advice::End) }
             Expected::Literal { objective, .. } if is_number(word) => {
                 Some(advice_on_number_of(objective, next))
             }
-            Expected::Literal { .. } | Expected::AfterLiteral { .. } if is_name(word) => {
-                Some(Advice::Rename)
-            }
+            Expected::Literal { .. } | Expected::AfterLiteral { .. }
+                if is_name(word) && !is_operator(word) => { Some(Advice::Rename) }
             _ => None,
         }
     }
@@ -115,9 +135,15 @@ impl StrayToken {
     fn advice_on_relation(&self) -> Advice {
         match self.expected {
             Expected::ObjectiveNumber
-            | Expected::Literal { objective: true, .. }
+            | Expected::Literal {
+                objective: true,
+                ..
+            }
             | Expected::AfterLiteral { objective: true } => Advice::EndObjective,
-            Expected::Literal { is_first: false, .. } => Advice::MoveConstant,
+            Expected::Literal {
+                is_first: false,
+                ..
+            } => Advice::MoveConstant,
             _ => Advice::Turn,
         }
     }
@@ -155,7 +181,7 @@ fn next_word(text: &[u8]) -> &[u8] {
 }
 
 /// Whether only blanks stand before this place on its line.
-fn begins_line(text: &[u8], at: usize) -> bool {
+pub fn begins_line(text: &[u8], at: usize) -> bool {
     let before = text.get(..at).unwrap_or_default();
     match before.lines_with_terminator().last() {
         Some(line) => line.ends_with(b"\n") || line.trim().is_empty(),
@@ -165,9 +191,7 @@ fn begins_line(text: &[u8], at: usize) -> bool {
 
 /// What to write in place of a word with which no statement begins.
 fn advice_on_beginning(word: &[u8]) -> Option<Advice> {
-    if begins_comment(word) {
-        Some(Advice::Comment("*"))
-    } else if word == b";".as_slice() {
+    if word == b";".as_slice() {
         Some(Advice::EndOnce)
     } else if is_among(word, &["obj:", "objective:"]) {
         Some(Advice::Write("min:"))
@@ -248,7 +272,7 @@ fn misplaced_on(line: &[u8], expected: Expected) -> Result<Expected, StrayToken>
 }
 
 /// Whether the word is the relation of a constraint.
-fn is_relation(word: &[u8]) -> bool {
+pub fn is_relation(word: &[u8]) -> bool {
     word == b">=".as_slice() || word == b"<=".as_slice() || word == b"=".as_slice()
 }
 
@@ -262,33 +286,13 @@ pub fn ends_word(byte: u8) -> bool {
 
 /// What is expected after the mark at this place, if it is one: the end of a statement or a relation.
 fn after_mark(line: &[u8], at: usize, expected: Expected) -> Result<Expected, StrayToken> {
+    if let Some(bounds) = no_relation(line, at) {
+        return Err(StrayToken { bounds, expected });
+    }
     let next = at.saturating_add(1);
-    let last = at.saturating_sub(1);
     let before = at.checked_sub(1).and_then(|it| line.get(it)).copied();
     let relation = match line.get(at).copied() {
         Some(b';') => return after_end(at..next, expected),
-        // No relation: it is shown whole, and so is a relation with a blank in it.
-        Some(b'>') if before == Some(b'=') && begins_equivalence(line, last) => {
-            let bounds = last.saturating_sub(1)..next;
-            return Err(StrayToken { bounds, expected });
-        }
-        Some(b'>' | b'<') if parted(line, next).is_some() => {
-            let bounds = at..parted(line, next).unwrap_or(next);
-            return Err(StrayToken { bounds, expected });
-        }
-        // One mark too many is shown with the one before it.
-        Some(b'>' | b'<' | b'=') if before == Some(b'=') => {
-            let bounds = last..next;
-            return Err(StrayToken { bounds, expected });
-        }
-        Some(b'<') if line.get(next) == Some(&b'>') => {
-            let bounds = at..next.saturating_add(1);
-            return Err(StrayToken { bounds, expected });
-        }
-        Some(b'>' | b'<') if line.get(next) != Some(&b'=') => {
-            let bounds = at..next;
-            return Err(StrayToken { bounds, expected });
-        }
         Some(b'>' | b'<') => at..next.saturating_add(1),
         Some(b'=') if before != Some(b'>') && before != Some(b'<') => at..next,
         _ => return Ok(expected),
@@ -302,17 +306,52 @@ fn after_mark(line: &[u8], at: usize, expected: Expected) -> Result<Expected, St
     }
 }
 
-/// Whether the `=` at this place stands behind a `<`, as in `<=>`.
-fn begins_equivalence(line: &[u8], at: usize) -> bool {
-    at.checked_sub(1).and_then(|it| line.get(it)) == Some(&b'<')
+/// What stands in place of a relation, where the mark at this place is part of none. It is shown whole, and one mark too many with
+/// the one before it.
+fn no_relation(line: &[u8], at: usize) -> Option<Range<usize>> {
+    let next = at.saturating_add(1);
+    let (before, rest) = (line.get(..at)?, line.get(next..)?);
+    let mark = line.get(at).copied()?;
+    if !matches!(mark, b'>' | b'<' | b'=') {
+        return None;
+    }
+    if mark == b'>' && before.ends_with(b"<=") {
+        return Some(at.saturating_sub(2)..next);
+    }
+    let parted = parted(rest);
+    if mark != b'=' && parted > 0 {
+        return Some(at..next.saturating_add(parted));
+    }
+    if before.ends_with(b"=") {
+        return Some(at.saturating_sub(1)..next);
+    }
+    if mark == b'=' || rest.starts_with(b"=") {
+        return None;
+    }
+    let more = if mark == b'<' { arrow(rest) } else { 0 };
+    Some(at..next.saturating_add(more))
 }
 
-/// The end of the `=` that follows this place behind blanks, of which there is at least one.
-fn parted(line: &[u8], at: usize) -> Option<usize> {
-    let rest = line.get(at..)?;
+/// How many bytes of an arrow, or of `<>`, follow its `<`.
+fn arrow(rest: &[u8]) -> usize {
+    if rest.starts_with(b">") {
+        1
+    } else if rest.starts_with(b"->") {
+        2
+    } else {
+        0
+    }
+}
+
+/// How many bytes end in a `=` that stands behind one or more blanks, or none.
+fn parted(rest: &[u8]) -> usize {
     let front = rest.trim_start();
     let blanks = rest.len().saturating_sub(front.len());
-    (blanks > 0 && front.starts_with(b"=")).then_some(at.saturating_add(blanks).saturating_add(1))
+    if blanks > 0 && front.starts_with(b"=") {
+        blanks.saturating_add(1)
+    } else {
+        0
+    }
 }
 
 fn after_end(bounds: Range<usize>, expected: Expected) -> Result<Expected, StrayToken> {
@@ -330,7 +369,7 @@ fn after_word(
     expected: Expected,
 ) -> Result<Expected, StrayToken> {
     let word = line.get(bounds.start..bounds.end).unwrap_or_default();
-    if word.ends_with(b"!") && line.get(bounds.end) == Some(&b'=') {
+    if is_cut_off(word, line.get(bounds.end).copied()) {
         let bounds = bounds.end.saturating_sub(1)..bounds.end.saturating_add(1);
         return Err(StrayToken { bounds, expected });
     }
@@ -353,6 +392,11 @@ fn after_word(
         Expected::Bound if is_number(word) => Ok(Expected::End),
         _ => Err(StrayToken { bounds, expected }),
     }
+}
+
+/// Whether the word and the mark behind it end in `!=` or `->`.
+fn is_cut_off(word: &[u8], mark: Option<u8>) -> bool {
+    (word.ends_with(b"!") && mark == Some(b'=')) || (word.ends_with(b"-") && mark == Some(b'>'))
 }
 
 fn is_number(word: &[u8]) -> bool {

@@ -41,7 +41,9 @@ fn advice_on_factors(word: &[u8]) -> Option<Advice> {
     }
     match rest {
         [b','] => Some(Advice::Space),
-        [b'^', ..] | [b'*', b'*', ..] => Some(Advice::Write("the literal alone, whose powers are the same")),
+        [b'^', ..] | [b'*', b'*', ..] => Some(Advice::Write(
+            "the literal alone, whose powers are the same",
+        )),
         [b'*', factor @ ..] if is_literal(factor) => Some(Advice::Linearise),
         [b'*', factor @ ..] if are_digits(factor) => Some(Advice::Part),
         _ => None,
@@ -55,7 +57,6 @@ fn advice_on_mark(word: &[u8]) -> Option<Advice> {
     }
     match word {
         b"+" | b"-" => Some(Advice::Sign),
-        b"~" | b"!" => Some(Advice::Attach),
         b">" => Some(Advice::AtLeast),
         b"<" => Some(Advice::AtMost),
         b"=>" => Some(Advice::Write(">=")),
@@ -88,7 +89,11 @@ const DASH: &[u8] = b"\xe2\x80\x93";
 
 /// Blanks that are not ASCII, and that editors and web pages put between words.
 const BLANKS: [&[u8]; 5] = [
-    b"\xc2\xa0", b"\xe2\x80\x89", b"\xe2\x80\x8b", b"\xe2\x80\xaf", b"\xe3\x80\x80",
+    b"\xc2\xa0",
+    b"\xe2\x80\x89",
+    b"\xe2\x80\x8b",
+    b"\xe2\x80\xaf",
+    b"\xe3\x80\x80",
 ];
 
 /// What to write in place of a word with such a sign.
@@ -151,17 +156,24 @@ pub fn is_negated(word: &[u8]) -> bool {
     }
 }
 
-/// Whether the word begins a comment, in some format or language.
+/// Whether the word begins a comment, in some format or language, wherever it stands.
 pub fn begins_comment(word: &[u8]) -> bool {
-    word == b"c".as_slice() || word.starts_with(b"*") || is_comment_mark(word)
-}
-
-/// Whether the word begins a comment, and nothing else in any place.
-pub fn is_comment_mark(word: &[u8]) -> bool {
-    word == b"--".as_slice()
-        || word.starts_with(b"#")
+    word.starts_with(b"#")
         || word.starts_with(b"%")
         || word.starts_with(b"//")
         || word.starts_with(b"/*")
+}
+
+/// Whether the word begins a comment, in some format or language, where it is the first one of a line.
+pub fn begins_comment_line(word: &[u8]) -> bool {
+    begins_comment(word)
+        || word == b"c".as_slice()
+        || word == b"C".as_slice()
+        || word == b"--".as_slice()
         || word.starts_with(b"\\")
+}
+
+/// Whether the word stands between parts of a formula, in some language.
+pub fn is_operator(word: &[u8]) -> bool {
+    is_among(word, &["and", "or", "xor", "not", "in", "mod", "v"])
 }
