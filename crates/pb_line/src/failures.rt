@@ -31,8 +31,8 @@ pub fn tell_hint<H: Display + Drop, E: Write>(program: &str, hint: Option<H>, er
     }
 }
 
-/// Writes one line to the standard error where so many workers have one piece and there are several of them. Faults of the standard
-/// error are ignored.
+/// Writes one line to the standard error on these workers of one piece, if there are several. Faults of the standard error are
+/// ignored.
 pub fn tell_of_one_piece<E: Write>(program: &str, workers: Workers, err: &mut E) {
     if workers.get() > 1 {
         let _ = writeln!(
