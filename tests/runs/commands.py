@@ -180,7 +180,6 @@ BYTES = {
     "wide-1.out": SECOND.encode("utf-16"),
     "marked-1.out": b"\xef\xbb\xbf" + SECOND.encode(),
     "returns-1.out": SECOND.replace("\n", "\r").encode(),
-    "lines-1.out": SECOND.replace("\n", "\r\n").encode(),
     "packed.part": gzip.compress((part("1 of 2", TIE, IN_THREE, " 1") + ATTAINED).encode()),
     "packed.part.zip": b"PK\x03\x04\x14\r\n\x0b\x08",
     "marked.part": b"\xef\xbb\xbf" + (part("1 of 2", TIE, IN_THREE, " 1") + ATTAINED).encode(),
@@ -863,13 +862,12 @@ JOIN = [
         for name, fault, clue in (
             ("packed-1.out", "Syntax at line 1", "it is compressed by gzip: gunzip it first"),
             ("packed-2.out", "Syntax at line 1", f"it {BY_ZIP}"),
-            ("binary-1.out", "Syntax at line 1", "the line is 'o 3\\x01\\r'"),
             ("wide-1.out", "Syntax at line 1", f"it {IS_MARKED}"),
             ("marked-1.out", "Syntax at line 1", f"it {IS_MARKED}"),
             ("returns-1.out", "Syntax at line 1", f"it {BY_CR}"),
-            ("lines-1.out", "Syntax at line 1", "its lines end with carriage returns: end them with LF alone"),
         )
     ),
+    rejected("--pieces 3 tie.opb binary-1.out", "binary-1.out: Syntax at line 1"),
     rejected("--pieces 3 tie.opb silent-1.out", "silent-1.out: NoStatus at line 2: its first line is 'c a solver'"),
     Row("--pieces 3 tie.opb empty-1.out", "s UNKNOWN\n", states([0, 1, 2])),
     rejected("--pieces 3 tie.opb blank-1.out", "blank-1.out: NoStatus at line 1"),
