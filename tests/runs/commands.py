@@ -574,10 +574,11 @@ TASK = [
         Row(f"--workers {workers} --split 1 --task {task} --tasks {tasks} tie.opb", part(f"{task} of {tasks}", TIE, IN_THREE, done) + claim, err, 10)
         for workers, task, tasks, done, claim, err in (
             (4, 1, 2, " 1", ATTAINED, ONE_PIECE_OF_TASK),
-            (2, 0, 3, " 0", FIRST_ATTAINED, ONE_PIECE_OF_TASK),
+            (2, 2, 3, " 2", ATTAINED, ONE_PIECE_OF_TASK),
             (1, 1, 2, " 1", ATTAINED, ""),
         )
     ),
+    Row("--workers 2 --split 1 --task 0 --tasks 2 tie.opb", (part("0 of 2", TIE, IN_THREE, " 0 2"),), status=10),
     Row(
         "--workers 4 --task 0 --tasks 1 tie.opb",
         part("0 of 1", TIE, "1 split 0 cubes none", " 0") + ATTAINED,
