@@ -359,7 +359,7 @@ PBCUBE = [
     hinted("--format cnf hard.wcnf", "BadHeader", f"hard.wcnf {IS_WCNF}"),
     hinted("packed.xz", "Unfinished", "packed.xz is compressed by xz: unxz it first"),
     hinted("packed.zip", "Unfinished", f"packed.zip {BY_ZIP}"),
-    hinted("parts/first.report", "Syntax", f"parts/first.report {OF_TASK}"),
+    hinted("parts/first.report", "Unfinished", f"parts/first.report {OF_TASK}"),
     hinted("2", "Unfinished", f"2 {OF_RUN}"),
     hinted("packed.bz2", "Unfinished", "packed.bz2 is compressed by bzip2: bunzip2 it first"),
     *hinted_rows(),
