@@ -8,7 +8,7 @@
 ghost use Rattle.std.specs.Prelude.{◌≡◌, ◌+◌, ◌≤◌, false, length, IfSome};
 
 use crate::texts::instance_of;
-use pb_clique::normalise_merged;
+use pb_clique::form_to_search;
 use pb_cubes::{Pieces, split};
 use pb_inst::{Assignment, Best, Instance, Number};
 use pb_search::{FIRST_TURNS, Search, SearchTables, Share};
@@ -30,6 +30,17 @@ pub struct Way {
     pub is_told: bool,
     /// Whether the search has a budget, which is never used up. It then counts its decisions, and takes a bound before each.
     pub is_counted: bool,
+}
+
+impl Way {
+    /// The budget of each search, where it has one.
+    fn budget(self) -> Option<u64> {
+        if self.is_counted {
+            Some(u64::MAX)
+        } else {
+            None
+        }
+    }
 }
 
 /// Counts the assignments that it is offered, and how often it is asked for one, and lends nothing.
@@ -170,7 +181,7 @@ fn search_piece(
 {
     let first = begin(rt, search, best, way.is_told, counter)?;
     let asked = counter.asked;
-    let budget = if way.is_counted { Some(u64::MAX) } else { None };
+    let budget = way.budget();
     let start = rt.process_cpu_time().ok()?;
     search.run(piece, best, counter, budget);
     let taken = rt.process_cpu_time().ok()?.saturating_sub(start);
@@ -264,7 +275,7 @@ fn measure_pieces(
 ) -> Option<Measured>
     requires { pieces.now.vars ≡ instance.now.vars }
 {
-    let Ok(normal) = normalise_merged(rt.alloc(), instance) else {
+    let Ok(normal) = form_to_search(rt.alloc(), instance, way.budget()) else {
         return None;
     };
     let tables = SearchTables::new(rt.alloc(), instance, &normal, pieces).ok()?;

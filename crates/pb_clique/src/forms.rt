@@ -19,3 +19,20 @@ pub fn normalise_merged(alloc: Global, instance: &Instance) -> Result<Normal, Me
         None => normalise(alloc, instance),
     }
 }
+
+/// The normal form for a search with this budget, or without one. With a budget the clauses stay as they are: what is held when
+/// the budget ends costs more on some instances with cliques, and less on others.
+pub fn form_to_search(
+    alloc: Global,
+    instance: &Instance,
+    nodes: Option<u64>,
+) -> Result<Normal, Memory>
+    ensures variables { IfOk result (λ form. form.vars ≡ instance.now.vars) }
+    ensures feasible { IfOk result (λ form. KeepsFeasible instance.now form) }
+    ensures cost { IfOk result (λ form. KeepsCost instance.now form) }
+{
+    match nodes {
+        None => normalise_merged(alloc, instance),
+        Some(_) => normalise(alloc, instance),
+    }
+}

@@ -10,5 +10,5 @@ mod covers;
 mod forms;
 mod merging;
 
-pub use forms::normalise_merged;
+pub use forms::{form_to_search, normalise_merged};
 pub use merging::merge_cliques;

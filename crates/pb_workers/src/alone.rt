@@ -6,7 +6,7 @@ ghost use Rattle.pb_cubes.specs.Solving.{HoldsLeast};
 use crate::facts::facts_of;
 use crate::piece::search_piece;
 use crate::solving::{Answer, SolveFault};
-use pb_clique::normalise_merged;
+use pb_clique::form_to_search;
 use pb_cubes::Pieces;
 use pb_inst::{Best, Instance};
 use pb_search::{Alone, LONG_TURNS, Outcome, Search};
@@ -46,7 +46,7 @@ pub(crate) fn solve_from<'i>(
     ensures no_budget { IfNone nodes (IfOk result (λ answer. answer.cut ≡ false)) }
     ensures parts { IfOk result (λ answer. (parts : List PartView) × IsAnswerOf inst.now pieces.now parts answer.best.held answer.cut × IfSome nodes (λ budget. All (KeepsBudget budget) parts)) }
 {
-    let normal = normalise_merged(alloc, inst)?;
+    let normal = form_to_search(alloc, inst, nodes)?;
     let mut search = Search::new(alloc, inst, &normal, pieces)?;
     search.begin(&mut best, &mut Alone, LONG_TURNS, nodes);
     let cut = search_all(&mut search, pieces.len(), &mut best, nodes);

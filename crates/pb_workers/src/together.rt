@@ -15,7 +15,7 @@ use crate::note_share::Correspondence;
 use crate::task::Task;
 use crate::working::SearchWorkers;
 use pb_board::Board;
-use pb_clique::normalise_merged;
+use pb_clique::form_to_search;
 use pb_cubes::Pieces;
 use pb_inst::{Best, Instance, Memory, Workers};
 use pb_notes::Notes;
@@ -59,7 +59,7 @@ pub(crate) fn work_together<'i, R: Threads + Sync, N: Notes + Sync, G: Gate + Sy
     ensures no_budget { is_race ≡ false → IfNone nodes (IfOk result (λ dealt. dealt.cut ≡ false)) }
 {
     let mut best = Best::none(alloc, inst)?;
-    let normal = normalise_merged(alloc, inst)?;
+    let normal = form_to_search(alloc, inst, nodes)?;
     let tables = SearchTables::new(alloc, inst, &normal, pieces)?;
     let dealt = dealt_pieces(&task, pieces.len());
     let mut names = Names::with_room(alloc, &task, dealt)?;
