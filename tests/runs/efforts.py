@@ -108,6 +108,9 @@ FAMILIES = {
     # What the root forces leaves rows that need less than their coefficients. With these as they are the relaxation is a fourth of what
     # it could be, and the two covers take a hundred times as many decisions.
     "rows count no more than what they need": [Effort(340, [filled_cover(size) for size in (80, 90)])],
+    # Of the four squares around a corner one at most is taken. As clauses of two squares each that is a weak bound, and the search of the
+    # grid, without a budget, takes over a hundred thousand decisions.
+    "cliques bound what their clauses do not": [Effort(256, [Made("make_small.py grid 10")], is_unlimited=True)],
     # The first-order method comes near to the best multipliers of jobs that are in each other's way, which one row after the other does
     # not: without it three schedules take eighteen times as many decisions.
     "all rows are shifted at once": [Effort(270, [schedule(jobs) for jobs in (5, 6, 7)])],

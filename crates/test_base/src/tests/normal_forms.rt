@@ -2,8 +2,9 @@
 
 use super::texts::instance_of;
 use super::written::is_literal;
+use pb_clique::normalise_merged;
 use pb_count::Coefficient;
-use pb_inst::{Instance, Magnitude, Number};
+use pb_inst::{Instance, Magnitude, Memory, Number};
 use pb_normal::{Form, FormTerm, Normal, PositiveTerms, Width, normalise};
 use std::alloc::Global;
 use std::process::Abort;
@@ -184,6 +185,46 @@ const WIDTHS: &[Case] = &[
     },
 ];
 
+const CLIQUES: &[Case] = &[
+    Case {
+        name: "three clauses become one row",
+        text: b"min: 1 x1 ; 1 x1 1 x2 >= 1 ; 1 x2 1 x3 >= 1 ; 1 x1 1 x3 >= 1 ;",
+        width: Bits::Of64Bits,
+        base: 0,
+        objective: &[(1, 1)],
+        rows: &[(2, &[(1, 1), (1, 2), (1, 3)])],
+    },
+    Case {
+        name: "clauses in any spelling, with literals of both signs",
+        text: b"1 x1 1 ~x2 >= 1 ; 1 x2 -1 x3 <= 0 ; -1 ~x1 -1 ~x3 >= -1 ;",
+        width: Bits::Of64Bits,
+        base: 0,
+        objective: &[],
+        rows: &[(2, &[(1, 1), (1, -2), (1, 3)])],
+    },
+    Case {
+        name: "what a clique says is left out, and all else stays before it",
+        text: b"1 x1 1 x2 <= 1 ; 1 x1 1 x4 >= 1 ; 1 x1 1 x3 <= 1 ; 1 x2 1 x3 <= 1 ;",
+        width: Bits::Of64Bits,
+        base: 0,
+        objective: &[],
+        rows: &[(1, &[(1, 1), (1, 4)]), (2, &[(1, -1), (1, -2), (1, -3)])],
+    },
+    Case {
+        name: "without three literals there is no clique",
+        text: b"1 x1 1 x2 <= 1 ; 1 x2 1 x3 <= 1 ; 1 x1 1 x3 = 1 ;",
+        width: Bits::Of64Bits,
+        base: 0,
+        objective: &[],
+        rows: &[
+            (1, &[(1, -1), (1, -2)]),
+            (1, &[(1, -2), (1, -3)]),
+            (1, &[(1, 1), (1, 3)]),
+            (1, &[(1, -1), (1, -3)]),
+        ],
+    },
+];
+
 /// Whether these are the terms.
 fn are<C: Coefficient>(terms: &[FormTerm<C>], expected: &[(Magnitude, i32)]) -> bool {
     if terms.len() != expected.len() {
@@ -258,27 +299,46 @@ fn is_normal_form(normal: &Normal, case: &Case) -> bool {
         && has_rows_alike(normal, case.rows)
 }
 
-fn normal_form(rt: &impl Abort, alloc: Global, instance: &Instance) -> Normal {
-    match normalise(alloc, instance) {
-        Ok(form) => form,
-        Err(_) => normalise(alloc, instance).expect(rt, "memory"),
+/// How a normal form is made of an instance.
+#[derive(Clone, Copy)]
+enum Made {
+    OfAllRows,
+    WithCliques,
+}
+
+fn made(alloc: Global, instance: &Instance, way: Made) -> Result<Normal, Memory> {
+    match way {
+        Made::OfAllRows => normalise(alloc, instance),
+        Made::WithCliques => normalise_merged(alloc, instance),
     }
 }
 
-fn assert_all(rt: &impl Abort, alloc: Global, cases: &[Case]) {
+fn normal_form(rt: &impl Abort, alloc: Global, instance: &Instance, way: Made) -> Normal {
+    match made(alloc, instance, way) {
+        Ok(form) => form,
+        Err(_) => made(alloc, instance, way).expect(rt, "memory"),
+    }
+}
+
+fn assert_all(rt: &impl Abort, alloc: Global, cases: &[Case], way: Made) {
     for case in cases {
         let instance = instance_of(rt, alloc, case.text);
-        let normal = normal_form(rt, alloc, &instance);
+        let normal = normal_form(rt, alloc, &instance, way);
         assert!(rt; is_normal_form(&normal, case), "{}", case.name);
     }
 }
 
 #[test]
 fn worked_constraints(rt: HostRuntime) {
-    assert_all(&rt, rt.alloc(), CASES);
+    assert_all(&rt, rt.alloc(), CASES, Made::OfAllRows);
 }
 
 #[test]
 fn the_least_width_is_taken(rt: HostRuntime) {
-    assert_all(&rt, rt.alloc(), WIDTHS);
+    assert_all(&rt, rt.alloc(), WIDTHS, Made::OfAllRows);
+}
+
+#[test]
+fn cliques_stand_in_place_of_their_clauses(rt: HostRuntime) {
+    assert_all(&rt, rt.alloc(), CLIQUES, Made::WithCliques);
 }
