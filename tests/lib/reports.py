@@ -41,6 +41,11 @@ def run_again(of, numbers):
     return f"pbcube_join: run again: {of} {array_of(numbers)}\n"
 
 
+def in_no_report(pieces):
+    """The line in which it names pieces that are in no report, though each task has one."""
+    return f"pbcube_join: no report names pieces {array_of(pieces)}: first remove TASK.*.claim of these tasks from the folder of --exchange\n"
+
+
 # the line in which it says that no task has searched anything
 ALL_REFUSED = "pbcube_join: every task refused its input, and searched nothing\n"
 

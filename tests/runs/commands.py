@@ -26,7 +26,7 @@ from lib.hinted_texts import (
     BEGUN, BY_CR, BY_ZERO, BY_ZIP, CUBE_LINE, IS_MARKED, IS_WCNF, LETTERED, MINIMISE, NO_PRODUCT, NO_SOFT, NUMBER, OF_RUN, OF_TASK, PART,
     PLACED, SPACE, TO_MOST, ZERO,
 )  # fmt: skip
-from lib.reports import ALL_REFUSED, TIE, digest, index_of, part, run_again
+from lib.reports import ALL_REFUSED, TIE, digest, in_no_report, index_of, part, run_again
 
 FULL = "/dev/full"  # takes no byte
 CLOSED = "|"  # a pipe that nobody reads
@@ -81,7 +81,17 @@ PARTS = {
     "divided.part": part("1 of 2", TIE, "3 split 2 cubes none", " 1") + ATTAINED,
     "claims.part": part("1 of 2", TIE, IN_THREE, " 1") + SECOND,
     "torn.part": part("1 of 2", TIE, IN_THREE, " 1") + "o 3\ns SATISFIABLE\nv -x1 x2\n",
+    # pieces that are dealt to other tasks
     "others.part": part("1 of 2", TIE, IN_THREE, " 1 2") + ATTAINED,
+    "all.part": part("1 of 2", TIE, IN_THREE, " 0 1 2") + ATTAINED,
+    "others_cut.part": part("1 of 2", TIE, IN_THREE, " 1", " 2") + ATTAINED,
+    "dealt_none.part": part("3 of 5", TIE, "1 split 0 cubes none", " 0") + ATTAINED,
+    "idle.part": part("0 of 5", TIE, "1 split 0 cubes none", "") + "s UNKNOWN\n",
+    "third.part": part("0 of 2", TIE, "9 split 3 cubes none", " 3 8") + ATTAINED,
+    "fourth.part": part("1 of 2", TIE, "9 split 3 cubes none", " 4") + ATTAINED,
+    "named_twice.part": part("1 of 2", TIE, IN_THREE, " 1 1") + ATTAINED,
+    "done_and_cut.part": part("1 of 2", TIE, IN_THREE, " 1", " 1") + ATTAINED,
+    "beyond.part": part("1 of 2", TIE, IN_THREE, " 1 3") + ATTAINED,
 }
 FILES = {
     "tie.opb": TIE,
@@ -765,8 +775,8 @@ OF_TWO_TASKS = [
     ("tie.opb", [of_task(0, " 0 2", ATTAINED), of_task(1, " 1", ATTAINED)], SECOND, "", 30),
     ("tie.opb", [FIRST_PART], FIRST_ATTAINED, again(1), 10),
     ("tie.opb", [of_task(0, " 0", FIRST_ATTAINED, " 2"), of_task(1, " 1", WORSE)], FIRST_ATTAINED, again(0), 10),
-    # piece 0 is named by no report
-    ("tie.opb", [of_task(0, " 2", UNKNOWN), of_task(1, "", UNKNOWN)], UNKNOWN, again(0, 1)),
+    # the pieces 0 and 1 are named by no report
+    ("tie.opb", [of_task(0, " 2", UNKNOWN), of_task(1, "", UNKNOWN)], UNKNOWN, in_no_report([0, 1]) + again(0, 1)),
     ("tie.opb", [], UNKNOWN, again(0, 1)),
     ("tie.opb", ["", of_task(1, " 1", ATTAINED)], ATTAINED, again(0), 10),
     ("tie.opb", ["", "", of_task(1, " 1", ATTAINED), of_task(0, " 0 2", FIRST_ATTAINED)], SECOND, "", 30),
@@ -881,12 +891,29 @@ JOIN = [
     Row("--tasks 2 tie.opb parts", SECOND, status=30),
     Row("--tasks 2 tie.opb parts/second.report parts/first.report", SECOND, status=30),
     Row("--tasks 2 tie.opb parts/first.report cut.part", "o 3\ns SATISFIABLE\nv x1 -x2 x3\n", again(1), 10),
-    Row("--tasks 2 tie.opb parts/second.report unnamed.part", ATTAINED, again(0), 10),
     Row("--tasks 2 tie.opb parts/second.report", ATTAINED, again(0), 10),
-    Row("--tasks 2 tie.opb unnamed.part cut.part", ATTAINED, again(0, 1), 10),
     Row("--tasks 5 tie.opb few.part", SECOND, status=30),
     Row("--tasks 3 tie.opb", "s UNKNOWN\n", again(0, 1, 2)),
     Row("--tasks 1 tie.opb empty", "s UNKNOWN\n", again(0)),
+    # a task has done pieces that are dealt to another one: that one has a report without them, none, or one that names them too
+    Row("--tasks 2 tie.opb others.part unnamed.part", SECOND, status=30),
+    Row("--tasks 2 tie.opb all.part", SECOND, status=30),
+    Row("--tasks 2 tie.opb others.part parts/first.report", SECOND, status=30),
+    Row("--tasks 5 tie.opb dealt_none.part", SECOND, status=30),
+    Row("--tasks 5 tie.opb dealt_none.part idle.part", SECOND, status=30),
+    Row("--tasks 2 tie.opb others_cut.part parts/first.report", SECOND, status=30),
+    # or its report is lost, or cut
+    Row("--tasks 2 tie.opb others.part", ATTAINED, again(0), 10),
+    Row("--tasks 2 tie.opb unnamed.part", ATTAINED, again(1), 10),
+    Row("--tasks 2 tie.opb others_cut.part unnamed.part", ATTAINED, again(1), 10),
+    Row("--tasks 2 tie.opb unnamed.part cut.part", ATTAINED, again(1), 10),
+    Row("--tasks 5 tie.opb idle.part", "s UNKNOWN\n", again(1, 2, 3, 4)),
+    # or each task has a report, and pieces are in none
+    Row("--tasks 2 tie.opb parts/second.report unnamed.part", ATTAINED, in_no_report([2]) + again(0), 10),
+    Row("--tasks 2 tie.opb third.part fourth.part", ATTAINED, in_no_report([0, 1, 2, 5, 6, 7]) + again(0, 1), 10),
+    rejected("--tasks 2 tie.opb named_twice.part", "named_twice.part: NotRising at line 3"),
+    rejected("--tasks 2 tie.opb done_and_cut.part", "done_and_cut.part: DoneAndCut at line 4"),
+    rejected("--tasks 2 tie.opb beyond.part", "beyond.part: NoSuchPiece at line 3"),
     rejected("--tasks 2 tie.opb cut.part cut.part", "cut.part: the file is named twice"),
     rejected("--tasks 2 tie.opb cut.part parts", "parts/second.report: there are two reports of this task: see cut.part"),
     rejected("--tasks 2 tie.opb parts/first.report edited.part", "edited.part: the part is of another instance"),
@@ -944,7 +971,6 @@ JOIN = [
     rejected("--tasks 2 tie.opb unnamed.part divided.part", "divided.part: the first part is of other pieces: see unnamed.part"),
     rejected("--tasks 2 tie.opb claims.part", "claims.part: a part has no such answer"),
     rejected("--tasks 2 tie.opb torn.part", "torn.part: Unfinished at line 7"),
-    rejected("--tasks 2 tie.opb others.part", "others.part: OtherTask at line 3"),
     rejected("--tasks 1 tie.opb out/0.out", "out/0.out: it is the report of a piece: leave --tasks out"),
     rejected("--tasks 3 tie.opb cut", "cut/0.report: it is the report of a piece: leave --tasks out"),
     # the report of a run or a join beside those of tasks, whichever is first

@@ -5,7 +5,7 @@ those of one run.
     tests/runs/joins.py
 
 It takes the programs that the merge gate built. The instances are the examples and fifty random ones, cut by splits, by cubes
-and by both, and dealt among two of one, two, three and five tasks. Then a report is left out, unknown, given twice, cut short or
+and by both, and dealt among two of one, two, three and five tasks. One task takes the pieces of another. Then a report is left out, unknown, given twice, cut short or
 changed, or is one of another instance or another division: a join must say so and claim no more than is so. Where every task refuses
 the text, or what is to divide the instance, it must write this refusal.
 """
@@ -20,7 +20,7 @@ sys.path.insert(0, str(Path(__file__).resolve().parents[1]))
 from lib import FORMATS, Ended, run, side_by_side
 from lib.draws import instances
 from lib.examples import divisions, examples, variables_of
-from lib.reports import ALL_REFUSED, HEADING, run_again
+from lib.reports import ALL_REFUSED, HEADING, in_no_report, rank, run_again
 
 RANDOM = 50
 TASKS = (1, 2, 3, 5)
@@ -152,6 +152,7 @@ def of_tasks(file, kind, words, tasks, whole, folder):
             yield f"{name}: join: {said}"
     yield from lost_task(name, joined, reports, whole)
     yield from spoiled_task(name, joined, reports, whole)
+    yield from taken_task(name, joined, reports, whole)
 
 
 def refused_by_all(file, kind, variables, room):
@@ -209,6 +210,51 @@ def spoiled_task(name, joined, reports, whole):
         cost = text.split("\no ")[-1].split()[0]
         changes.append(text.replace(f"\no {cost}\n", f"\no 1{cost.lstrip('-')}\n"))
     yield from unnoticed(name, joined, reports, chosen, changes)
+
+
+def named_in(report):
+    """The pieces that the report of a task names as done."""
+    return [int(word) for word in report.read_text().splitlines()[HEADING - 2].split()[2:]]
+
+
+def write_named(report, done, cut=()):
+    """Has the report of a task name these pieces."""
+    lines = report.read_text().splitlines(keepends=True)
+    lines[HEADING - 2 : HEADING] = [" ".join(["c", *map(str, numbers)]) + "\n" for numbers in (["done", *done], ["cut", *cut])]
+    report.write_text("".join(lines))
+
+
+def taken_task(name, joined, reports, whole):
+    """What is wrong with joins where the task with the first assignment has done all pieces of another one too, as it may where
+    tasks claim pieces. What it holds does those pieces, since nothing in them is before what the other one holds."""
+    ranks = {it: rank(it.read_text()) for it in reports}
+    taker = min(reports, key=lambda it: (ranks[it] is None, ranks[it] or ()))
+    losers = [it for it in reports if it != taker and named_in(it)]
+    if not losers:
+        return
+    loser = random.Random(name).choice(losers)
+    own, taken = named_in(taker), named_in(loser)
+    both, others = sorted(own + taken), [it for it in reports if it != loser]
+
+    def joins(told, operands, err=None):
+        said = run(*joined, *operands)
+        is_right = said == Ended(whole.out, "", whole.status) if err is None else said.err == err and "OPTIMUM" not in said.out and "UNSATISFIABLE" not in said.out
+        if not is_right or err is not None and said.status not in (0, 10):
+            yield f"{name}: {taker.name} has the pieces of {loser.name}, {told}: {said}"
+
+    write_named(taker, both)
+    yield from joins("which has them too", reports)
+    write_named(loser, [])
+    yield from joins("which has none", reports)
+    yield from joins("which has no report", others)
+    yield from joins("and is lost", [it for it in reports if it != taker], run_again("tasks", [reports.index(taker)]))
+    write_named(taker, own, taken)
+    yield from joins("and was cut", reports, run_again("tasks", [reports.index(taker)]))
+    write_named(taker, own)
+    yield from joins("and no report names them", reports, in_no_report(taken) + run_again("tasks", [reports.index(loser)]))
+    for done, cut in ((sorted(both + taken[:1]), []), (both, taken[:1]), ([*both, 1 << 20], [])):
+        write_named(taker, done, cut)
+        refuses(said := run(*joined, *reports)) or (yield f"{name}: {taker.name} has done {done}, and {cut} was cut: {said}")
 
 
 def refuses(said):

@@ -1,133 +1,117 @@
--- Why each task that has a piece is finished exactly where each piece is named as done.
-use Rattle.std.proofs.Common.{◌≡◌, ◌≢◌, ◌↔◌, IsTrue, ℕ, ◌<◌, ◌≤◌, ◌%◌, Bool, List, [], ◌∷◌, length, take, get_or, Option, Some, inl, inr, refl, sym, ◌∙◌, ap, subst, arith}
-use Rattle.std.specs.Prelude.{All, AllPairs, Any, Contains}
-use Rattle.std.proofs.Math.Nat.{mod-eq_of_lt, mod-le}
-use Rattle.std.proofs.lemmas.Bool.{cases_eq, cases_lt}
-use Rattle.std.proofs.lemmas.List.{get_or_default, get_or-take, length-take}
-use Rattle.std.proofs.lemmas.Nat.{mod_below}
-use Rattle.std.proofs.lemmas.List.Elements.{All-contains, All-head, All-weaker}
+-- Which pieces reports name as done, and that what is told by their numbers is told of the reports.
+use Rattle.std.proofs.Common.{◌≡◌, ◌∙◌, ◌↔◌, IsTrue, ℕ, ◌+◌, ◌<◌, ◌≤◌, suc, zero, Bool, List, [], ◌∷◌, ◌++◌, length, take, get_or, Option, None, Some, inl, inr, refl, sym, ap, subst, take_all, arith}
+use Rattle.std.specs.Prelude.{Any, Contains}
+use Rattle.std.specs.List.{flat_map}
+use Rattle.std.specs.Option.{IfSome}
+use Rattle.std.proofs.lemmas.Bool.{cases_lt}
+use Rattle.std.proofs.lemmas.List.{flat_map_more, get_or_append_left, get_or_push, length-append, take_more}
+use Rattle.std.proofs.lemmas.List.Elements.{All-head, Contains-append_cases, Contains-append_left, Contains-append_right}
 use Rattle.pb_inst.specs.Problem.{Problem}
 use Rattle.pb_inst.specs.Incumbent.{Solution}
-use Rattle.pb_parts.specs.Parts.{IsFit, IsPieceOf}
 use Rattle.pb_parts.specs.declared.parts.Division.{Division}
 use Rattle.pb_parts.specs.declared.parts.PartReport.{PartReport}
+use Rattle.pb_join.specs.declared.parts.states.ReportState.{ReportState}
+use Rattle.pb_join.specs.declared.parts.states.ReportState.TheVariants.{Missing}
 use Rattle.pb_join.specs.declared.parts.states.TaskState.{TaskState}
-use Rattle.pb_join.specs.declared.parts.states.TaskState.TheVariants.{Missing, Unfinished, Finished}
-use Rattle.pb_join.specs.Parts.{AreAllNamed, AreFitParts, AreGatheredParts, AreTaskStates, IsSameDivision, IsTaskState, IsWhole, NamesAll, first_division}
+use Rattle.pb_join.specs.Parts.{AreAllAmong, AreAllNamed, AreGatheredParts, AreNamed, AreStatesBy, AreTaskStates, IsFinished, IsFinishedBy, IsReportState, IsSameDivision, first_division}
 
--- two reports of one task are at one place
-same_place : (parts : List PartReport) (i j : ℕ) (a b : PartReport) → AllPairs (λ x y. x.heading.task ≢ y.heading.task) parts → i < j → j < length parts → get_or parts i a ≡ a → get_or parts j b ≡ b → a.heading.task ≢ b.heading.task
-same_place parts i j a b once before within at_a at_b same =
-    let e : get_or parts i b ≡ a = get_or_default parts i b a (omega arith) ∙ at_a in
-    once i j b before within (ap (λ (x : PartReport). x.heading.task) e ∙ same ∙ sym (ap (λ (x : PartReport). x.heading.task) at_b))
+-- ---- numbers of many lists
 
--- so they are one report
-one_report : (parts : List PartReport) (a b : PartReport) → AllPairs (λ x y. x.heading.task ≢ y.heading.task) parts → Contains parts a → Contains parts b → a.heading.task ≡ b.heading.task → a ≡ b
-one_report parts a b once (i, within_i, at_a) (j, within_j, at_b) same = elim (cases_eq i j) [
-  | inl here ↦ sym at_a ∙ ap (λ k. get_or parts k a) here ∙ get_or_default parts j a b within_j ∙ at_b
-  | inr apart ↦ elim (cases_lt i j) [
-    | inl before ↦ absurd (same_place parts i j a b once before within_j at_a at_b same)
-    | inr after ↦ absurd (same_place parts j i b a once (omega arith) within_i at_b at_a (sym same))
-  ]
+-- one more list in front
+any_later : {X : Type 0} (P : X → Type 0) (x : X) (xs : List X) → Any P xs → Any P (x ∷ xs)
+any_later P x xs (k, y, within, is, holds) = (suc k, y, omega (arith, within), is, holds)
+
+-- what many lists have together is in one of them
+of_one : {X : Type 0} (f : X → List ℕ) (xs : List X) (n : ℕ) → Contains (flat_map f xs) n → Any (λ x. Contains (f x) n) xs
+of_one f [] n (k, within, is) = absurd (omega (arith, within))
+of_one f (x ∷ xs) n has = elim (Contains-append_cases (f x) (flat_map f xs) n has) [
+  | inl here ↦ (zero, x, omega arith, refl, here)
+  | inr later ↦ any_later (λ y. Contains (f y) n) x xs (of_one f xs n later)
 ]
 
--- what is the same of all these reports: each is fit and of this division, and no two are of one task
-record AreOfDivision (d : Division) (parts : List PartReport) : Type 0 where
-  fits : All (λ (part : PartReport). IsFit part.heading) parts
-  same : All (λ (part : PartReport). d ≡ part.heading.division) parts
-  once : AllPairs (λ (x y : PartReport). x.heading.task ≢ y.heading.task) parts
+-- and they have what one of them has
+of_all : {X : Type 0} (f : X → List ℕ) (xs : List X) (n : ℕ) → Any (λ x. Contains (f x) n) xs → Contains (flat_map f xs) n
+of_all f [] n (k, x, within, is, has) = absurd (omega (arith, within))
+of_all f (y ∷ ys) n (zero, x, within, is, has) = Contains-append_left (f y) (flat_map f ys) n (subst (λ z. Contains (f z) n) (sym is) has)
+of_all f (y ∷ ys) n (suc k, x, within, is, has) = Contains-append_right (f y) (flat_map f ys) n (of_all f ys n (k, x, omega (arith, within), is, has))
 
--- a piece that a report names as done is one of its task
-task_of_named : (d : Division) (parts : List PartReport) (part : PartReport) (i : ℕ) → AreOfDivision d parts → Contains parts part → Contains part.heading.done.items i → i % d.tasks ≡ part.heading.task
-task_of_named d parts part i h here names =
-    let fit : IsFit part.heading = All-contains (λ (x : PartReport). IsFit x.heading) parts part h.fits here in
-    let same : d ≡ part.heading.division = All-contains (λ (x : PartReport). d ≡ x.heading.division) parts part h.same here in
-    let piece : IsPieceOf part.heading.division part.heading.task i = All-contains (IsPieceOf part.heading.division part.heading.task) part.heading.done.items i fit.done.each names in
-    ap (λ (e : Division). i % e.tasks) same ∙ piece.1
+named_by_lists : (parts : List PartReport) (n : ℕ) → Contains (flat_map (λ (part : PartReport). part.heading.done.items) parts) n ↔ Any (λ (part : PartReport). Contains part.heading.done.items n) parts
+named_by_lists parts n = (of_one (λ (part : PartReport). part.heading.done.items) parts n, of_all (λ (part : PartReport). part.heading.done.items) parts n)
 
--- where each piece is named, each report names all pieces of its task
-names_all : (d : Division) (parts : List PartReport) (part : PartReport) → AreOfDivision d parts → Contains parts part → ((i : ℕ) → i < d.pieces → Any (λ (x : PartReport). Contains x.heading.done.items i) parts) → NamesAll part.heading
-names_all d parts part h here all i (within, of_task) =
-    let same : d ≡ part.heading.division = All-contains (λ (x : PartReport). d ≡ x.heading.division) parts part h.same here in
-    let namer = all i (subst (λ (e : Division). i < e.pieces) (sym same) within) in
-    let its : i % d.tasks ≡ namer.1.heading.task = task_of_named d parts namer.1 i h (namer.0, namer.2, namer.3) namer.4 in
-    let mine : i % d.tasks ≡ part.heading.task = ap (λ (e : Division). i % e.tasks) same ∙ of_task in
-    subst (λ (x : PartReport). Contains x.heading.done.items i) (one_report parts namer.1 part h.once (namer.0, namer.2, namer.3) here (sym its ∙ mine)) namer.4
+-- all of them
+pub named_all : (parts : List PartReport) (count : ℕ) (has : List ℕ) → has ≡ flat_map (λ (part : PartReport). part.heading.done.items) (take count parts) → length parts ≤ count → (n : ℕ) → Contains has n ↔ Any (λ (part : PartReport). Contains part.heading.done.items n) parts
+named_all parts count has is past n =
+    subst (λ l. Contains l n ↔ Any (λ (part : PartReport). Contains part.heading.done.items n) parts) (sym (is ∙ ap (flat_map (λ (part : PartReport). part.heading.done.items)) (take_all count parts past))) (named_by_lists parts n)
 
--- where each piece is named, the task of a piece is finished
-finished : (d : Division) (parts : List PartReport) (task : ℕ) (state : TaskState) → AreOfDivision d parts → task < d.tasks → task < d.pieces → ((i : ℕ) → i < d.pieces → Any (λ (x : PartReport). Contains x.heading.done.items i) parts) → IsTaskState parts task state → state ≡ Finished
-finished d parts task Missing h below within all is =
-    let namer = all task within in
-    let of_task : task % d.tasks ≡ namer.1.heading.task = task_of_named d parts namer.1 task h (namer.0, namer.2, namer.3) namer.4 in
-    absurd (All-contains (λ (x : PartReport). x.heading.task ≢ task) parts namer.1 is (namer.0, namer.2, namer.3) (sym of_task ∙ mod-eq_of_lt below))
-finished d parts task Unfinished h below within all (k, part, inside, at, its) = absurd (its.1 (names_all d parts part h (k, inside, at) all))
-finished d parts task Finished h below within all is = refl
+-- one more report
+pub named_more : (parts : List PartReport) (i : ℕ) (part : PartReport) (before : List ℕ) → i < length parts → get_or parts i part ≡ part → before ≡ flat_map (λ (x : PartReport). x.heading.done.items) (take i parts)
+    → before ++ part.heading.done.items ≡ flat_map (λ (x : PartReport). x.heading.done.items) (take (i + 1) parts)
+named_more parts i part before within at is =
+    ap (λ l. l ++ part.heading.done.items) is ∙ flat_map_more (λ (x : PartReport). x.heading.done.items) [] (take i parts) part
+    ∙ ap (flat_map (λ (x : PartReport). x.heading.done.items)) (ap (λ (x : PartReport). take i parts ++ x ∷ []) (sym at) ∙ sym (take_more parts i part within))
 
-whole_of_named : (d : Division) (parts : List PartReport) (states : List TaskState) → AreOfDivision d parts → AreTaskStates d.tasks parts states → ((i : ℕ) → i < d.pieces → Any (λ (x : PartReport). Contains x.heading.done.items i) parts) → All (λ (state : TaskState). state ≡ Finished) (take d.pieces states)
-whole_of_named d parts states h became all k default below =
-    let long = length-take d.pieces states in
-    let count : length states ≡ d.tasks = became.count in
-    let within : k < d.pieces = omega arith in
-    let here : k < d.tasks = omega arith in
-    let at : get_or (take d.pieces states) k default ≡ get_or states k Missing = get_or-take d.pieces states k default within ∙ get_or_default states k default Missing (omega arith) in
-    at ∙ finished d parts k (get_or states k Missing) h here within all (became.each k here)
+-- ---- from the numbers to the reports
 
--- ---- where each task that has a piece is finished, each piece is named
+-- what is told of all pieces
+pub told_whole : (whole : Bool) (first : Option Division) (parts : List PartReport) (named : List ℕ) → AreNamed parts named → IsTrue whole ↔ AreAllAmong first named → IsTrue whole ↔ AreAllNamed first parts
+told_whole whole None parts named h told = told
+told_whole whole (Some d) parts named h told = (λ yes i below. (h.each i).0 (told.0 yes i below), λ all. told.1 (λ i below. (h.each i).1 (all i below)))
 
--- the task of a piece is finished
-task_finished : (tasks pieces i : ℕ) (states : List TaskState) → 0 < tasks → i < pieces → length states ≡ tasks → All (λ (state : TaskState). state ≡ Finished) (take pieces states) → get_or states (i % tasks) Missing ≡ Finished
-task_finished tasks pieces i states some within count all =
-    let below : i % tasks < tasks = mod_below i tasks some in
-    let low : i % tasks ≤ i = mod-le i tasks in
-    let long = length-take pieces states in
-    let here : i % tasks < pieces = omega arith in
-    let at : get_or (take pieces states) (i % tasks) Missing ≡ get_or states (i % tasks) Missing = get_or-take pieces states (i % tasks) Missing here in
-    sym at ∙ all (i % tasks) Missing (omega arith)
-
--- a report that names all pieces of its task names this one
-named_by : (d : Division) (parts : List PartReport) (part : PartReport) (i : ℕ) → AreOfDivision d parts → Contains parts part → i < d.pieces → part.heading.task ≡ i % d.tasks → NamesAll part.heading → Contains part.heading.done.items i
-named_by d parts part i h here within of_task all =
-    let same : d ≡ part.heading.division = All-contains (λ (x : PartReport). d ≡ x.heading.division) parts part h.same here in
-    all i (
-      subst (λ (e : Division). i < e.pieces) same within,
-      subst (λ (e : Division). i % e.tasks ≡ part.heading.task) same (sym of_task),
-    )
-
-named_of_whole : (d : Division) (parts : List PartReport) (states : List TaskState) → AreOfDivision d parts → AreTaskStates d.tasks parts states → 0 < d.tasks → All (λ (state : TaskState). state ≡ Finished) (take d.pieces states) → (i : ℕ) → i < d.pieces → Any (λ (x : PartReport). Contains x.heading.done.items i) parts
-named_of_whole d parts states h became some all i within =
-    let (k, part, inside, at, its) = finished_task in
-    (k, part, inside, at, named_by d parts part i h (k, inside, at) within its.0 its.1)
-  where
-    finished_task : IsTaskState parts (i % d.tasks) Finished
-    finished_task = subst (IsTaskState parts (i % d.tasks)) (task_finished d.tasks d.pieces i states some within became.count all) (became.each (i % d.tasks) (mod_below i d.tasks some))
-
--- ---- both, of the reports that were gathered
-
-of_division : (p : Problem) (digest : List ℕ) (tasks : ℕ) (x : PartReport) (rest : List PartReport) → All (λ (part : PartReport). IsFit part.heading) (x ∷ rest) → AreFitParts p digest tasks (x ∷ rest) → AreOfDivision x.heading.division (x ∷ rest)
-of_division p digest tasks x rest fits fit = record {
-  fits = fits;
-  same = All-weaker (λ (part : PartReport). IsSameDivision digest tasks (Some x.heading.division) part.heading.division) (λ (part : PartReport). x.heading.division ≡ part.heading.division) (λ part is. is.same_division) (x ∷ rest) fit.divisions;
-  once = fit.once;
-}
-
--- each task that has a piece is finished exactly where each piece is named
-whole_named : (p : Problem) (digest : List ℕ) (tasks : ℕ) (parts : List PartReport) (states : List TaskState) → All (λ (part : PartReport). IsFit part.heading) parts → AreFitParts p digest tasks parts → AreTaskStates tasks parts states → IsWhole (first_division parts) states ↔ AreAllNamed (first_division parts) parts
-whole_named p digest tasks [] states fits fit became = (λ no. no, λ no. no)
-whole_named p digest tasks (x ∷ rest) states fits fit became =
-    let h : AreOfDivision x.heading.division (x ∷ rest) = of_division p digest tasks x rest fits fit in
-    let same : x.heading.division.tasks ≡ tasks = (All-head (λ (part : PartReport). IsSameDivision digest tasks (Some x.heading.division) part.heading.division) x rest fit.divisions).same_tasks in
-    let are : AreTaskStates x.heading.division.tasks (x ∷ rest) states = subst (λ n. AreTaskStates n (x ∷ rest) states) (sym same) became in
-    let task : x.heading.task < x.heading.division.tasks = (All-head (λ (part : PartReport). IsFit part.heading) x rest fits).task in
-    let some : 0 < x.heading.division.tasks = omega arith in (
-      λ whole. named_of_whole x.heading.division (x ∷ rest) states h are some whole,
-      λ all. whole_of_named x.heading.division (x ∷ rest) states h are all,
-    )
-
--- what is told of the tasks tells the same of the pieces
-pub told_whole : (whole : Bool) (p : Problem) (digest : List ℕ) (tasks : ℕ) (parts : List PartReport) (division : Option Division) (held : Option Solution) (states seen : List TaskState) → seen ≡ states → All (λ (part : PartReport). IsFit part.heading) parts → AreGatheredParts p digest tasks parts division held states → IsTrue whole ↔ IsWhole division seen
+-- the same, of the division that was gathered and of numbers that are the same
+pub told_gathered : (whole : Bool) (p : Problem) (digest : List ℕ) (tasks : ℕ) (parts : List PartReport) (division : Option Division) (held : Option Solution) (reports : List ReportState) (named seen : List ℕ) → seen ≡ named → AreGatheredParts p digest tasks parts division held reports → AreNamed parts named → IsTrue whole ↔ AreAllAmong division seen
     → IsTrue whole ↔ AreAllNamed (first_division parts) parts
-told_whole whole p digest tasks parts division held states seen is fits h told =
-    let named : IsWhole (first_division parts) states ↔ AreAllNamed (first_division parts) parts = whole_named p digest tasks parts states fits h.fit h.became in
-    let same : IsTrue whole ↔ IsWhole (first_division parts) states =
-    subst (λ (d : Option Division). IsTrue whole ↔ IsWhole d states) h.divided (subst (λ (s : List TaskState). IsTrue whole ↔ IsWhole division s) is told) in
-    (λ yes. named.0 (same.0 yes), λ all. same.1 (named.1 all))
+told_gathered whole p digest tasks parts division held reports named seen is h names told =
+    told_whole whole (first_division parts) parts named names
+    (subst (λ (d : Option Division). IsTrue whole ↔ AreAllAmong d named) h.divided (subst (λ (s : List ℕ). IsTrue whole ↔ AreAllAmong division s) is told))
+
+-- what is told of the pieces of a task
+told_finished : (finished : Bool) (first : Option Division) (task : ℕ) (parts : List PartReport) (named : List ℕ) → AreNamed parts named → IsTrue finished ↔ IsFinishedBy first task named → IsTrue finished ↔ IsFinished first task parts
+told_finished finished None task parts named h told = told
+told_finished finished (Some d) task parts named h told = (λ yes i dealt. (h.each i).0 (told.0 yes i dealt), λ all. told.1 (λ i dealt. (h.each i).1 (all i dealt)))
+
+-- what is told of the tasks, by reports and numbers that are the same as those that were gathered
+pub told_states : (p : Problem) (digest : List ℕ) (tasks : ℕ) (parts : List PartReport) (division : Option Division) (held : Option Solution) (reports seen_reports : List ReportState) (named seen : List ℕ) (states : List TaskState) → seen_reports ≡ reports → seen ≡ named → AreGatheredParts p digest tasks parts division held reports → AreNamed parts named → AreStatesBy division tasks seen_reports seen states
+    → AreTaskStates tasks parts states
+told_states p digest tasks parts division held reports seen_reports named seen states same_reports is h names told =
+    let by : AreStatesBy (first_division parts) tasks reports named states =
+    subst (λ (d : Option Division). AreStatesBy d tasks reports named states) h.divided
+    (subst (λ (r : List ReportState). AreStatesBy division tasks r named states) same_reports (subst (λ (s : List ℕ). AreStatesBy division tasks seen_reports s states) is told)) in
+    record {
+      count = by.count;
+      each = λ task none below. record {
+        report = subst (IsReportState parts task) (sym (by.told task none below)) (h.became.each task below);
+        finished = told_finished (get_or states task none).finished (first_division parts) task parts named names (by.finished task none below);
+      };
+    }
+
+-- one more task
+pub states_more : (division : Option Division) (n : ℕ) (reports : List ReportState) (named : List ℕ) (states : List TaskState) (state : TaskState) → AreStatesBy division n reports named states → state.report ≡ get_or reports n Missing → IsTrue state.finished ↔ IsFinishedBy division n named
+    → AreStatesBy division (n + 1) reports named (states ++ state ∷ [])
+states_more division n reports named states state h report finished = record {
+  count = length-append states (state ∷ []) ∙ ap (λ k. k + 1) h.count;
+  told = λ task none below. elim (cases_lt task n) [
+    | inl before ↦ ap (λ (s : TaskState). s.report) (get_or_append_left states (state ∷ []) none task (earlier task before)) ∙ h.told task none before
+    | inr after ↦ ap (λ (s : TaskState). s.report) (get_or_push states state none task (last task below after)) ∙ subst (λ k. state.report ≡ get_or reports k Missing) (sym (same task below after)) report
+  ];
+  finished = λ task none below. elim (cases_lt task n) [
+    | inl before ↦ subst (λ (s : TaskState). IsTrue s.finished ↔ IsFinishedBy division task named) (sym (get_or_append_left states (state ∷ []) none task (earlier task before))) (h.finished task none before)
+    | inr after ↦ subst (λ (s : TaskState). IsTrue s.finished ↔ IsFinishedBy division task named) (sym (get_or_push states state none task (last task below after))) (subst (λ k. IsTrue state.finished ↔ IsFinishedBy division k named) (sym (same task below after)) finished)
+  ];
+}
+  where
+    earlier : (task : ℕ) → task < n → task < length states
+    earlier task before = let count = h.count in omega (arith, before, count)
+
+    same : (task : ℕ) → task < n + 1 → n ≤ task → task ≡ n
+    same task below after = omega (arith, below, after)
+
+    last : (task : ℕ) → task < n + 1 → n ≤ task → length states ≡ task
+    last task below after = let count = h.count in omega (arith, below, after, count)
+
+-- ---- the division among the tasks
+
+-- the first division, if there is one, is among these tasks
+pub among_tasks : (p : Problem) (digest : List ℕ) (tasks : ℕ) (parts : List PartReport) (division : Option Division) (held : Option Solution) (reports : List ReportState) → AreGatheredParts p digest tasks parts division held reports → IfSome division (λ d. d.tasks ≡ tasks)
+among_tasks p digest tasks [] division held reports h = subst (λ d. IfSome d (λ d. d.tasks ≡ tasks)) (sym h.divided) tt
+among_tasks p digest tasks (x ∷ rest) division held reports h =
+    subst (λ d. IfSome d (λ d. d.tasks ≡ tasks)) (sym h.divided) (All-head (λ (part : PartReport). IsSameDivision digest tasks (Some x.heading.division) part.heading.division) x rest h.fit.divisions).same_tasks

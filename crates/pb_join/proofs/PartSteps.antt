@@ -12,40 +12,40 @@ use Rattle.pb_cubes.specs.First.{IsFirst}
 use Rattle.pb_report.specs.Claims.{witness_of}
 use Rattle.pb_parts.specs.declared.parts.Division.{Division}
 use Rattle.pb_parts.specs.declared.parts.PartReport.{PartReport}
-use Rattle.pb_join.specs.declared.parts.states.TaskState.{TaskState}
-use Rattle.pb_join.specs.declared.parts.states.TaskState.TheVariants.{Missing, Unfinished, Finished}
+use Rattle.pb_join.specs.declared.parts.states.ReportState.{ReportState}
+use Rattle.pb_join.specs.declared.parts.states.ReportState.TheVariants.{Missing, Cut, Ended}
 use Rattle.pb_join.specs.Pieces.{found_in}
 use Rattle.pb_join.specs.Joining.{IsWitness}
-use Rattle.pb_join.specs.Parts.{AreGatheredParts, AreTaskStates, IsPartClaim, IsSameDivision, IsStateBy, IsTaskState, all_found_in_parts, first_division}
+use Rattle.pb_join.specs.Parts.{AreGatheredParts, AreReportStates, IsPartClaim, IsSameDivision, IsReportBy, IsReportState, all_found_in_parts, first_division}
 use Rattle.pb_join.proofs.Steps.{any_still}
 
--- what became of a task stays where a report is of another
-state_still : (parts : List PartReport) (r : PartReport) (task : ℕ) (state : TaskState) → r.heading.task ≢ task → IsTaskState parts task state → IsTaskState (parts ++ r ∷ []) task state
+-- what the report of a task tells stays where another report is of another task
+state_still : (parts : List PartReport) (r : PartReport) (task : ℕ) (state : ReportState) → r.heading.task ≢ task → IsReportState parts task state → IsReportState (parts ++ r ∷ []) task state
 state_still parts r task Missing other h = All-push (λ s. s.heading.task ≢ task) parts r h other
-state_still parts r task Unfinished other h = any_still (λ s. (s.heading.task ≡ task) × IsStateBy s.heading Unfinished) parts r h
-state_still parts r task Finished other h = any_still (λ s. (s.heading.task ≡ task) × IsStateBy s.heading Finished) parts r h
+state_still parts r task Cut other h = any_still (λ s. (s.heading.task ≡ task) × IsReportBy s.heading Cut) parts r h
+state_still parts r task Ended other h = any_still (λ s. (s.heading.task ≡ task) × IsReportBy s.heading Ended) parts r h
 
--- what becomes of the task of the report
-state_here : (parts : List PartReport) (r : PartReport) (task : ℕ) (state : TaskState) → r.heading.task ≡ task → IsStateBy r.heading state → IsTaskState (parts ++ r ∷ []) task state
+-- what the report tells of its own task
+state_here : (parts : List PartReport) (r : PartReport) (task : ℕ) (state : ReportState) → r.heading.task ≡ task → IsReportBy r.heading state → IsReportState (parts ++ r ∷ []) task state
 state_here parts r task Missing here by = absurd by
-state_here parts r task Unfinished here by = Any-push (λ s. (s.heading.task ≡ task) × IsStateBy s.heading Unfinished) parts r (here, by)
-state_here parts r task Finished here by = Any-push (λ s. (s.heading.task ≡ task) × IsStateBy s.heading Finished) parts r (here, by)
+state_here parts r task Cut here by = Any-push (λ s. (s.heading.task ≡ task) × IsReportBy s.heading Cut) parts r (here, by)
+state_here parts r task Ended here by = Any-push (λ s. (s.heading.task ≡ task) × IsReportBy s.heading Ended) parts r (here, by)
 
-state_more : (tasks : ℕ) (parts : List PartReport) (r : PartReport) (states : List TaskState) (state : TaskState) (task : ℕ) → AreTaskStates tasks parts states → r.heading.task < tasks → IsStateBy r.heading state → task < tasks
-    → IsTaskState (parts ++ r ∷ []) task (get_or (slice_set states r.heading.task state) task Missing)
+state_more : (tasks : ℕ) (parts : List PartReport) (r : PartReport) (states : List ReportState) (state : ReportState) (task : ℕ) → AreReportStates tasks parts states → r.heading.task < tasks → IsReportBy r.heading state → task < tasks
+    → IsReportState (parts ++ r ∷ []) task (get_or (slice_set states r.heading.task state) task Missing)
 state_more tasks parts r states state task h within by below = elim (cases_eq task r.heading.task) [
   | inl same ↦
       let here : get_or (slice_set states r.heading.task state) task Missing ≡ state = ap (λ n. get_or (slice_set states r.heading.task state) n Missing) same ∙ get_or-set_same states r.heading.task state Missing (let count = h.count in omega arith) in
-      subst (IsTaskState (parts ++ r ∷ []) task) (sym here) (state_here parts r task state (sym same) by)
+      subst (IsReportState (parts ++ r ∷ []) task) (sym here) (state_here parts r task state (sym same) by)
   | inr other ↦
-      subst (IsTaskState (parts ++ r ∷ []) task) (sym (get_or-set_other states r.heading.task task state Missing other)) (state_still parts r task (get_or states task Missing) (λ e. other (sym e)) (h.each task below))
+      subst (IsReportState (parts ++ r ∷ []) task) (sym (get_or-set_other states r.heading.task task state Missing other)) (state_still parts r task (get_or states task Missing) (λ e. other (sym e)) (h.each task below))
 ]
 
--- where something became of a task there is a report of it
-pub reported : (parts : List PartReport) (task : ℕ) (state : TaskState) → state ≢ Missing → IsTaskState parts task state → Any (λ s. s.heading.task ≡ task) parts
+-- where a task has a report it is among these
+pub reported : (parts : List PartReport) (task : ℕ) (state : ReportState) → state ≢ Missing → IsReportState parts task state → Any (λ s. s.heading.task ≡ task) parts
 reported parts task Missing other h = absurd (other refl)
-reported parts task Unfinished other (k, s, within, at, its) = (k, s, within, at, its.0)
-reported parts task Finished other (k, s, within, at, its) = (k, s, within, at, its.0)
+reported parts task Cut other (k, s, within, at, its) = (k, s, within, at, its.0)
+reported parts task Ended other (k, s, within, at, its) = (k, s, within, at, its.0)
 
 -- the first division stays, and each report has it
 pub first_more : (parts : List PartReport) (r : PartReport) → IfSome (first_division parts) (λ d. d ≡ r.heading.division) → first_division (parts ++ r ∷ []) ≡ Some r.heading.division
@@ -59,12 +59,12 @@ divisions_more digest tasks [] r all is =
     (record { same_instance = is.same_instance; some_pieces = is.some_pieces; same_tasks = is.same_tasks; same_division = refl })
 divisions_more digest tasks (x ∷ xs) r all is = All-push (λ s. IsSameDivision digest tasks (Some x.heading.division) s.heading.division) (x ∷ xs) r all is
 
-pub gathered_more : (p : Problem) (digest : List ℕ) (tasks : ℕ) (parts : List PartReport) (r : PartReport) (before : Option Division) (held after : Option Solution) (states : List TaskState) (state : TaskState)
+pub gathered_more : (p : Problem) (digest : List ℕ) (tasks : ℕ) (parts : List PartReport) (r : PartReport) (before : Option Division) (held after : Option Solution) (states : List ReportState) (state : ReportState)
     → AreGatheredParts p digest tasks parts before held states → IsSameDivision digest tasks (first_division parts) r.heading.division → r.heading.task < tasks → get_or states r.heading.task Missing ≡ Missing
-    → IsPartClaim r.claim → IfSome (witness_of r.claim) (IsWitness p) → IsFirst (all_found_in_parts p parts ++ found_in p r.claim ∷ []) after → IsStateBy r.heading state
+    → IsPartClaim r.claim → IfSome (witness_of r.claim) (IsWitness p) → IsFirst (all_found_in_parts p parts ++ found_in p r.claim ∷ []) after → IsReportBy r.heading state
     → AreGatheredParts p digest tasks (parts ++ r ∷ []) (Some r.heading.division) after (slice_set states r.heading.task state)
 gathered_more p digest tasks parts r before held after states state h same within missing claim witness first by =
-    let apart : All (λ s. s.heading.task ≢ r.heading.task) parts = subst (IsTaskState parts r.heading.task) missing (h.became.each r.heading.task within) in
+    let apart : All (λ s. s.heading.task ≢ r.heading.task) parts = subst (IsReportState parts r.heading.task) missing (h.became.each r.heading.task within) in
     record {
       fit = record {
         divisions = divisions_more digest tasks parts r h.fit.divisions same;

@@ -13,7 +13,7 @@ use Rattle.pb_cubes.proofs.LeastLaws.{done_by_first, least_of_all_done}
 use Rattle.pb_report.specs.Claims.{witness_of}
 use Rattle.pb_parts.specs.declared.parts.Division.{Division}
 use Rattle.pb_parts.specs.declared.parts.PartReport.{PartReport}
-use Rattle.pb_join.specs.declared.parts.states.TaskState.{TaskState}
+use Rattle.pb_join.specs.declared.parts.states.ReportState.{ReportState}
 use Rattle.pb_join.specs.Pieces.{found_in}
 use Rattle.pb_join.specs.Joining.{IsWitness}
 use Rattle.pb_join.specs.Parts.{AreAllNamed, AreFitParts, AreGatheredParts, ArePartsOf, PartHolds, all_found_in_parts, first_division}
@@ -27,7 +27,7 @@ part_solutions p digest tasks parts fit =
     All-cons (λ s. IfSome s (IsSolution p)) None (map (λ (part : PartReport). found_in p part.claim) parts) tt
     (All-map (λ s. IfSome s (IsSolution p)) (λ (part : PartReport). found_in p part.claim) parts (found_solutions p digest tasks parts fit))
 
-pub first_is : (p : Problem) (digest : List ℕ) (tasks : ℕ) (parts : List PartReport) (division : Option Division) (held : Option Solution) (states : List TaskState) → AreGatheredParts p digest tasks parts division held states → IfSome held (IsSolution p)
+pub first_is : (p : Problem) (digest : List ℕ) (tasks : ℕ) (parts : List PartReport) (division : Option Division) (held : Option Solution) (states : List ReportState) → AreGatheredParts p digest tasks parts division held states → IfSome held (IsSolution p)
 first_is p digest tasks parts division held states h = All-contains (λ s. IfSome s (IsSolution p)) (all_found_in_parts p parts) held (part_solutions p digest tasks parts h.fit) h.first.one_of_them
 
 -- ---- what is held is the least assignment
@@ -41,7 +41,7 @@ done_by_held p cubes parts held i right is none (k, part, within, at, names) =
     is (not_before_held (λ (x : PartReport). found_in p x.claim) parts part held (k, within, at) none)
 
 -- what is held is the least assignment, where each report holds and each piece is named
-pub whole_least : (p : Problem) (digest : List ℕ) (tasks : ℕ) (parts : List PartReport) (division : Option Division) (held : Option Solution) (states : List TaskState) (cubes : List (List Literal)) → AreGatheredParts p digest tasks parts division held states → AreAllNamed (first_division parts) parts → ArePartsOf p cubes parts
+pub whole_least : (p : Problem) (digest : List ℕ) (tasks : ℕ) (parts : List PartReport) (division : Option Division) (held : Option Solution) (states : List ReportState) (cubes : List (List Literal)) → AreGatheredParts p digest tasks parts division held states → AreAllNamed (first_division parts) parts → ArePartsOf p cubes parts
     → HoldsLeast p held
 whole_least p digest tasks [] division held states cubes h all right = absurd all
 whole_least p digest tasks (x ∷ rest) division held states cubes h all right =

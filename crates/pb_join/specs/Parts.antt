@@ -1,5 +1,6 @@
 -- What reports of parts make together.
-use Rattle.std.specs.Prelude.{◌≡◌, ◌≢◌, ℕ, ◌+◌, ◌<◌, List, [], ◌∷◌, length, map, take, slice_index_or, All, AllPairs, Any, Contains, Option, None, Some, IsSomeAnd, ⊤}
+use Rattle.std.specs.Prelude.{◌≡◌, ◌≢◌, ℕ, ◌+◌, ◌<◌, ◌%◌, ◌↔◌, List, [], ◌∷◌, length, map, take, slice_index_or, All, AllPairs, Any, Contains, Option, None, Some, IsSomeAnd, IsTrue, ⊤}
+use Rattle.std.specs.List.Sorted.{IsStrictlyIncreasing}
 use Rattle.std.specs.Option.{IfSome}
 use Rattle.pb_inst.specs.Literal.{Literal}
 use Rattle.pb_inst.specs.Problem.{Problem}
@@ -9,7 +10,6 @@ use Rattle.pb_cubes.specs.First.{IsFirst}
 use Rattle.pb_report.specs.Claims.{witness_of}
 use Rattle.pb_report.specs.declared.claims.Claim.{Claim}
 use Rattle.pb_report.specs.declared.claims.Claim.TheVariants.{Optimum, Satisfiable, Unsatisfiable, Unknown, Unsupported}
-use Rattle.pb_parts.specs.Parts.{IsPieceOf}
 use Rattle.pb_parts.specs.declared.parts.Division.{Division}
 use Rattle.pb_parts.specs.declared.parts.Heading.{Heading}
 use Rattle.pb_parts.specs.declared.parts.PartReport.{PartReport}
@@ -19,8 +19,9 @@ use Rattle.pb_join.specs.declared.parts.faults.PartRejection.{PartRejection}
 use Rattle.pb_join.specs.declared.parts.faults.PartRejection.TheVariants.{OtherInstance, NoPieces, OtherTasks, OtherDivision, Doubled, NotAPart, Unfit}
 use Rattle.pb_join.specs.declared.parts.faults.PartsFault.{PartsFault}
 use Rattle.pb_join.specs.declared.parts.faults.PartsFault.TheVariants.{Report, Memory, Write}
+use Rattle.pb_join.specs.declared.parts.states.ReportState.{ReportState}
+use Rattle.pb_join.specs.declared.parts.states.ReportState.TheVariants.{Missing, Cut, Ended}
 use Rattle.pb_join.specs.declared.parts.states.TaskState.{TaskState}
-use Rattle.pb_join.specs.declared.parts.states.TaskState.TheVariants.{Missing, Unfinished, Finished}
 
 -- ---- what a report says of the pieces
 
@@ -67,47 +68,79 @@ pub record AreFitParts (p : Problem) (digest : List ℕ) (tasks : ℕ) (parts : 
   pub claims : All (λ part. IsPartClaim part.claim) parts
   pub witnesses : All (λ part. IfSome (witness_of part.claim) (λ w. IsWitness p w)) parts
 
--- ---- what became of each task
-
--- each piece of the task is named as done
-abbrev pub NamesAll : Heading → Type 0
-NamesAll heading = (i : ℕ) → IsPieceOf heading.division heading.task i → Contains heading.done.items i
-
--- what became of a task by a report of it
-abbrev pub IsStateBy : Heading → TaskState → Type 0
-IsStateBy heading Missing = ⊥
-IsStateBy heading Unfinished = ¬ NamesAll heading
-IsStateBy heading Finished = NamesAll heading
-
--- what became of a task by these reports
-abbrev pub IsTaskState : List PartReport → ℕ → TaskState → Type 0
-IsTaskState parts task Missing = All (λ part. part.heading.task ≢ task) parts
-IsTaskState parts task Unfinished = Any (λ part. (part.heading.task ≡ task) × IsStateBy part.heading Unfinished) parts
-IsTaskState parts task Finished = Any (λ part. (part.heading.task ≡ task) × IsStateBy part.heading Finished) parts
-
--- what became of each of the tasks, in order
-pub record AreTaskStates (tasks : ℕ) (parts : List PartReport) (states : List TaskState) : Type 0 where
-  pub count : length states ≡ tasks
-  pub each : (task : ℕ) → task < tasks → IsTaskState parts task (slice_index_or states task Missing)
-
--- Each task that has a piece is finished. As pieces are dealt in turn, those are the first tasks, one for each piece. Without a
--- division there are no pieces.
-abbrev pub IsWhole : Option Division → List TaskState → Type 0
-IsWhole None states = ⊥
-IsWhole (Some division) states = All (λ state. state ≡ Finished) (take division.pieces states)
+-- ---- which pieces are named as done
 
 -- each piece is named as done by some report; where no division tells the pieces, that is not so
 abbrev pub AreAllNamed : Option Division → List PartReport → Type 0
 AreAllNamed None parts = ⊥
 AreAllNamed (Some division) parts = (i : ℕ) → i < division.pieces → Any (λ part. Contains part.heading.done.items i) parts
 
--- The reports are fit, what is held is the first that any of them found, and it is known how the instance was divided and what
--- became of each task.
-pub record AreGatheredParts (p : Problem) (digest : List ℕ) (tasks : ℕ) (parts : List PartReport) (division : Option Division) (held : Option Solution) (states : List TaskState) : Type 0 where
+-- the piece is dealt to the task
+abbrev pub IsDealtTo : Division → ℕ → ℕ → Type 0
+IsDealtTo division task i = (i < division.pieces) × (i % division.tasks ≡ task)
+
+-- each piece that the task is dealt is named as done by some report, whichever task it is of; where no division tells the pieces,
+-- that is not so
+abbrev pub IsFinished : Option Division → ℕ → List PartReport → Type 0
+IsFinished None task parts = ⊥
+IsFinished (Some division) task parts = (i : ℕ) → IsDealtTo division task i → Any (λ part. Contains part.heading.done.items i) parts
+
+-- the numbers rise, and are those of the pieces that some report names as done
+pub record AreNamed (parts : List PartReport) (named : List ℕ) : Type 0 where
+  pub rising : IsStrictlyIncreasing named
+  pub each : (i : ℕ) → Contains named i ↔ Any (λ part. Contains part.heading.done.items i) parts
+
+-- the same as `AreAllNamed` and `IsFinished`, by these numbers
+abbrev pub AreAllAmong : Option Division → List ℕ → Type 0
+AreAllAmong None named = ⊥
+AreAllAmong (Some division) named = (i : ℕ) → i < division.pieces → Contains named i
+
+abbrev pub IsFinishedBy : Option Division → ℕ → List ℕ → Type 0
+IsFinishedBy None task named = ⊥
+IsFinishedBy (Some division) task named = (i : ℕ) → IsDealtTo division task i → Contains named i
+
+-- ---- what became of each task
+
+-- what a report tells
+abbrev pub IsReportBy : Heading → ReportState → Type 0
+IsReportBy heading Missing = ⊥
+IsReportBy heading Cut = heading.cut.items ≢ []
+IsReportBy heading Ended = heading.cut.items ≡ []
+
+-- what the report of a task among these tells, if there is one
+abbrev pub IsReportState : List PartReport → ℕ → ReportState → Type 0
+IsReportState parts task Missing = All (λ part. part.heading.task ≢ task) parts
+IsReportState parts task Cut = Any (λ part. (part.heading.task ≡ task) × IsReportBy part.heading Cut) parts
+IsReportState parts task Ended = Any (λ part. (part.heading.task ≡ task) × IsReportBy part.heading Ended) parts
+
+-- what the report of each of the tasks tells, in order
+pub record AreReportStates (tasks : ℕ) (parts : List PartReport) (reports : List ReportState) : Type 0 where
+  pub count : length reports ≡ tasks
+  pub each : (task : ℕ) → task < tasks → IsReportState parts task (slice_index_or reports task Missing)
+
+-- what became of a task by these reports
+pub record IsTaskState (parts : List PartReport) (task : ℕ) (state : TaskState) : Type 0 where
+  pub report : IsReportState parts task state.report
+  pub finished : IsTrue state.finished ↔ IsFinished (first_division parts) task parts
+
+-- what became of each of the tasks, in order
+pub record AreTaskStates (tasks : ℕ) (parts : List PartReport) (states : List TaskState) : Type 0 where
+  pub count : length states ≡ tasks
+  pub each : (task : ℕ) (none : TaskState) → task < tasks → IsTaskState parts task (slice_index_or states task none)
+
+-- the same, by what the reports tell and by the pieces that are named as done
+pub record AreStatesBy (division : Option Division) (tasks : ℕ) (reports : List ReportState) (named : List ℕ) (states : List TaskState) : Type 0 where
+  pub count : length states ≡ tasks
+  pub told : (task : ℕ) (none : TaskState) → task < tasks → (slice_index_or states task none).report ≡ slice_index_or reports task Missing
+  pub finished : (task : ℕ) (none : TaskState) → task < tasks → IsTrue (slice_index_or states task none).finished ↔ IsFinishedBy division task named
+
+-- The reports are fit, what is held is the first that any of them found, and it is known how the instance was divided and what the
+-- report of each task tells.
+pub record AreGatheredParts (p : Problem) (digest : List ℕ) (tasks : ℕ) (parts : List PartReport) (division : Option Division) (held : Option Solution) (reports : List ReportState) : Type 0 where
   pub fit : AreFitParts p digest tasks parts
   pub first : IsFirst (all_found_in_parts p parts) held
   pub divided : division ≡ first_division parts
-  pub became : AreTaskStates tasks parts states
+  pub became : AreReportStates tasks parts reports
 
 -- ---- what is rejected
 

@@ -14,6 +14,6 @@ pub use faults::{JoinFault, Rejection};
 pub use joining::{Joined, join};
 pub use parts::faults::{PartRejection, PartsFault};
 pub use parts::joining::{JoinedParts, join_parts};
-pub use parts::states::TaskState;
+pub use parts::states::{ReportState, TaskState};
 pub use reports::PieceReport;
 pub use states::PieceState;

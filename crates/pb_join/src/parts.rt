@@ -4,4 +4,5 @@ pub mod faults;
 pub mod finishing;
 pub mod gathering;
 pub mod joining;
+pub mod naming;
 pub mod states;

@@ -1,5 +1,5 @@
 -- What the report of a part says.
-use Rattle.std.specs.Prelude.{◌≡◌, ◌<◌, ◌%◌, ℕ, List, ◌++◌, All, Contains}
+use Rattle.std.specs.Prelude.{◌≡◌, ◌<◌, ℕ, List, ◌++◌, All, Contains}
 use Rattle.std.specs.List.Sorted.{IsStrictlyIncreasing}
 use Rattle.pb_read.specs.declared.format.Format.{Format}
 use Rattle.pb_report.specs.Report.{Claims}
@@ -8,13 +8,13 @@ use Rattle.pb_parts.specs.declared.parts.Division.{Division}
 use Rattle.pb_parts.specs.declared.parts.Heading.{Heading}
 use Rattle.pb_parts.specs.declared.parts.PartReport.{PartReport}
 
--- there is a piece of this number, and it is of the task
-abbrev pub IsPieceOf : Division → ℕ → ℕ → Type 0
-IsPieceOf division task number = (number < division.pieces) × (number % division.tasks ≡ task)
+-- there is a piece of this number; a task may have done any of them, whichever it is dealt
+abbrev pub IsPiece : Division → ℕ → Type 0
+IsPiece division number = number < division.pieces
 
--- the numbers are of pieces of the task, and rise
-pub record ArePiecesOf (division : Division) (task : ℕ) (numbers : List ℕ) : Type 0 where
-  pub each : All (IsPieceOf division task) numbers
+-- the numbers are of pieces, and rise
+pub record ArePieces (division : Division) (numbers : List ℕ) : Type 0 where
+  pub each : All (IsPiece division) numbers
   pub rising : IsStrictlyIncreasing numbers
 
 -- no number of the second list is in the first
@@ -24,8 +24,8 @@ AreApart done cut = All (λ number. ¬ Contains done number) cut
 -- there is such a task, what is done and what was cut are pieces of it, and no piece is both
 pub record IsFit (heading : Heading) : Type 0 where
   pub task : heading.task < heading.division.tasks
-  pub done : ArePiecesOf heading.division heading.task heading.done.items
-  pub cut : ArePiecesOf heading.division heading.task heading.cut.items
+  pub done : ArePieces heading.division heading.done.items
+  pub cut : ArePieces heading.division heading.cut.items
   pub apart : AreApart heading.done.items heading.cut.items
 
 -- the bytes of a heading

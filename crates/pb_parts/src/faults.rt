@@ -18,9 +18,6 @@ pub enum PartKind {
     /// The number of a piece is not below the number of pieces.
     #[error("NoSuchPiece")]
     NoSuchPiece,
-    /// A piece belongs to another task.
-    #[error("OtherTask")]
-    OtherTask,
     /// The number of a piece is not above the one before it.
     #[error("NotRising")]
     NotRising,

@@ -1,18 +1,17 @@
 //! Whether a part can have the numbers of a heading.
-ghost use Rattle.std.specs.Prelude.{◌≡◌, ◌<◌, ◌↔◌, Contains, IsOk, IsTrue, OnOk};
+ghost use Rattle.std.specs.Prelude.{◌≡◌, ◌↔◌, Contains, IsOk, IsTrue, OnOk};
 ghost use Rattle.std.specs.List.Sorted.{IsStrictlyIncreasing};
-ghost use Rattle.pb_parts.specs.Parts.{AreApart, ArePiecesOf, IsPieceOf};
+ghost use Rattle.pb_parts.specs.Parts.{AreApart, ArePieces, IsPiece};
 
 use crate::faults::PartKind;
 use crate::parts::Division;
 
-/// Refuses numbers that are not those of the task's pieces, or do not rise.
-pub(crate) fn check_numbers(numbers: &[u32], division: &Division, task: u32) -> Result<(), PartKind>
-    requires { task < division.now.tasks }
-    ensures { OnOk result (ArePiecesOf division.now task numbers.now) }
+/// Refuses numbers that are not those of pieces, or do not rise.
+pub(crate) fn check_numbers(numbers: &[u32], division: &Division) -> Result<(), PartKind>
+    ensures { OnOk result (ArePieces division.now numbers.now) }
 {
     for number in numbers {
-        check_piece(*number, division, task)?;
+        check_piece(*number, division)?;
     }
     if !are_rising(numbers) {
         return Err(PartKind::NotRising);
@@ -20,16 +19,12 @@ pub(crate) fn check_numbers(numbers: &[u32], division: &Division, task: u32) -> 
     Ok(())
 }
 
-/// Refuses a number that is not that of one of the task's pieces.
-fn check_piece(number: u32, division: &Division, task: u32) -> Result<(), PartKind>
-    requires { task < division.now.tasks }
-    ensures { IsOk result ↔ IsPieceOf division.now task number }
+/// Refuses a number that is not that of a piece.
+fn check_piece(number: u32, division: &Division) -> Result<(), PartKind>
+    ensures { IsOk result ↔ IsPiece division.now number }
 {
     if number >= division.pieces {
         return Err(PartKind::NoSuchPiece);
-    }
-    if number % division.tasks != task {
-        return Err(PartKind::OtherTask);
     }
     Ok(())
 }

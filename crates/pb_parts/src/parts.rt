@@ -3,7 +3,7 @@ ghost use Rattle.std.specs.Prelude.{◌≡◌};
 
 use pb_report::Claim;
 
-/// How an instance was divided among tasks. Piece n, from 0, goes to the task n modulo the number of tasks.
+/// How an instance was divided among tasks. Piece n, from 0, is dealt to the task n modulo the number of tasks.
 #[derive(Clone, Copy, Debug, PartialEq, Eq)]
 pub struct Division {
     /// The SHA-256 of the instance's bytes.
@@ -24,9 +24,9 @@ pub struct Heading {
     pub division: Division,
     /// The number of the task, from 0.
     pub task: u32,
-    /// The pieces that were searched to their end, in rising order.
+    /// The pieces that the task searched to their end, in rising order, whether they are dealt to it or not.
     pub done: Vec<u32>,
-    /// The pieces whose search was cut, in rising order.
+    /// The pieces whose search by the task was cut, in rising order.
     pub cut: Vec<u32>,
 }
 

@@ -1,7 +1,7 @@
 //! Reading a part's report.
 ghost use Rattle.std.specs.Prelude.{◌≡◌, ◌<◌, ◌++◌, IfOk};
 ghost use Rattle.pb_parts.specs.Heading.{part_line, pieces_line, numbers_line};
-ghost use Rattle.pb_parts.specs.Parts.{ArePiecesOf, IsFit, IsPartReport, heading_text};
+ghost use Rattle.pb_parts.specs.Parts.{ArePieces, IsFit, IsPartReport, heading_text};
 
 use crate::faults::{PartFault, PartKind};
 use crate::fitting::{are_apart, check_numbers};
@@ -60,9 +60,9 @@ fn read_heading<'a>(alloc: Global, text: &'a [u8]) -> Result<(Heading, &'a [u8])
         cubes,
         tasks,
     };
-    let done = read_numbers(alloc, rest, b"c done", &division, task);
+    let done = read_numbers(alloc, rest, b"c done", &division);
     let (done, rest) = done.map_err(|kind| fault_at(kind, 3))?;
-    let cut = read_numbers(alloc, rest, b"c cut", &division, task);
+    let cut = read_numbers(alloc, rest, b"c cut", &division);
     let (cut, rest) = cut.map_err(|kind| fault_at(kind, 4))?;
     if !are_apart(&done, &cut) {
         return Err(fault_at(PartKind::DoneAndCut, 4));
@@ -112,11 +112,9 @@ fn read_numbers<'a>(
     text: &'a [u8],
     words: &[u8],
     division: &Division,
-    task: u32,
 ) -> Result<(Vec<u32>, &'a [u8]), PartKind>
-    requires { task < division.now.tasks }
     ensures spelled { IfOk result (λ read. text.now ≡ numbers_line words.now read.0.items ++ read.1.now) }
-    ensures fit { IfOk result (λ read. ArePiecesOf division.now task read.0.items) }
+    ensures fit { IfOk result (λ read. ArePieces division.now read.0.items) }
 {
     let numbers = propose_numbers(alloc, text)?;
     let mut line = Device::new(Vec::new(alloc));
@@ -124,7 +122,7 @@ fn read_numbers<'a>(
         return Err(PartKind::Memory);
     }
     let rest = rest_after(text, &line.into_inner())?;
-    check_numbers(&numbers, division, task)?;
+    check_numbers(&numbers, division)?;
     Ok((numbers, rest))
 }
 

@@ -8,8 +8,8 @@ use crate::putting::{put_numbers, put_part, put_pieces};
 use pb_report::{Device, RunFault};
 use std::io::Write;
 
-/// Writes what a part's report says before its claim: the number of the task, how the instance was divided, and which of the
-/// task's pieces are done and which were cut. The caller writes the lines of the claim after it. It takes no memory, and gives
+/// Writes what a part's report says before its claim: the number of the task, how the instance was divided, and which
+/// pieces the task has done and which were cut. The caller writes the lines of the claim after it. It takes no memory, and gives
 /// the device a few bytes at a time. A fault is `Write`, where the device has failed.
 pub fn report_heading<W: Write>(
     out: &mut Device<W>,

@@ -10,7 +10,7 @@ use Rattle.pb_join.specs.declared.joining.Joined.{Joined}
 use Rattle.pb_join.specs.declared.reports.PieceReport.{PieceReport}
 use Rattle.pb_join.specs.declared.parts.joining.JoinedParts.{JoinedParts}
 use Rattle.pb_join.specs.Joining.{AreFit, AreStates, TellsFirst, TellsFirstOf}
-use Rattle.pb_join.specs.Parts.{AreAllNamed, AreFitParts, ArePartsOf, AreTaskStates, all_found_in_parts, first_division}
+use Rattle.pb_join.specs.Parts.{AreAllNamed, AreFitParts, AreNamed, ArePartsOf, AreTaskStates, all_found_in_parts, first_division}
 use Rattle.pb_join.specs.Pieces.{AreOfPieces}
 use Rattle.clap.specs.Words.{Text, matches_of}
 use Rattle.pb_parts.specs.declared.parts.PartReport.{PartReport}
@@ -49,11 +49,12 @@ pub record JoinsFiles {F : Type 0} (reads : F → Text → List ℕ → F → Ty
   pub tells : TellsOf line.format problem pieces reports old new joined
 
 -- What was written tells the first assignment of these reports, which are fit reports of the parts of this instance, and of each
--- task it is told what became of it. It is written as the answer exactly where each piece is named as done, and it is the answer
+-- task it is told what became of it, and which pieces are named as done. It is written as the answer exactly where each piece is named as done, and it is the answer
 -- where each piece that is named as done is done.
 pub record TellsOfParts (format : Format) (p : Problem) (digest : List ℕ) (tasks : ℕ) (parts : List PartReport) (old new : Option (List ℕ)) (joined : JoinedParts) : Type 0 where
   pub fit : AreFitParts p digest tasks parts
   pub states : AreTaskStates tasks parts joined.states.items
+  pub named : AreNamed parts joined.named.items
   pub first : TellsFirstOf format p (all_found_in_parts p parts) joined.whole old new joined.status
   pub whole : IsTrue joined.whole ↔ AreAllNamed (first_division parts) parts
   pub answer : (cubes : List (List Literal)) → ArePartsOf p cubes parts → joined.whole ≡ true → Answers format p old new joined.status

@@ -9,7 +9,7 @@ ghost use Rattle.pbcube_join.specs.Joining.{JoinsOrRefuses, JoinsTasks, TellsOfP
 ghost use Rattle.pbcube_join.specs.Reading.{ReadsRefusals};
 ghost use Rattle.std.specs.Io.KnownBytes.{Appends};
 
-use crate::again::name_open;
+use crate::again::name_tasks_again;
 use pb_files::{
     Files, PartReports, Refusal, ReportsFault, TaskReports, Whole, all_refuse_text, named_files,
     read_instance, read_tasks,
@@ -243,14 +243,12 @@ fn refusal_of(why: PartRejection, part: Option<&PartReport>, tasks: u32) -> Refu
     }
 }
 
-/// Writes one line to the standard error: that every task refused its input, or which tasks have to be run again, those that are
-/// not finished and have a piece, unless every piece is done.
+/// Writes one line to the standard error: that every task refused its input, or which tasks have to be run again, unless every piece
+/// is done; and one more where pieces are in no report, though each task has one.
 pub(crate) fn tell_tasks<E: Write>(end: &TasksEnd, err: &mut E) {
     match end {
         TasksEnd::Joined(end) if !end.joined.whole => {
-            let with_pieces = end.pieces.unwrap_or(u32::MAX) as usize;
-            let states = &end.joined.states;
-            name_open("tasks", &states[..states.len().min(with_pieces)], err);
+            name_tasks_again(&end.joined, end.pieces, err);
         }
         TasksEnd::Joined(_) => {}
         TasksEnd::Refused(_) => {

@@ -12,7 +12,7 @@ ghost use Rattle.pb_files.specs.Reading.{ReadsReports};
 ghost use Rattle.pb_files.specs.Texts.{texts};
 ghost use Rattle.pb_report.specs.Statuses.{IsExitStatus};
 
-use crate::again::name_open;
+use crate::again::name_pieces_again;
 use crate::parts::{join_tasks, tell_tasks};
 use clap::Error;
 use pb_files::{
@@ -202,7 +202,7 @@ fn name_pieces<E: Write>(joined: &Joined, err: &mut E) {
         let _ = name_piece(number, *state, err);
     }
     if !joined.whole {
-        name_open("pieces", &joined.states, err);
+        name_pieces_again(&joined.states, err);
     }
 }
 

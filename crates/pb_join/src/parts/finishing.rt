@@ -1,31 +1,89 @@
-//! Which tasks are finished.
-ghost use Rattle.std.specs.Prelude.{◌≡◌, ◌↔◌, ◌+◌, ◌*◌, ◌^◌, ◌<◌, ℕ, Contains, IsTrue};
-ghost use Rattle.pb_parts.specs.Parts.{IsFit};
-ghost use Rattle.pb_join.specs.Parts.{IsStateBy, IsWhole, NamesAll};
+//! Which pieces and which tasks are done.
+ghost use Rattle.std.specs.Prelude.{◌≡◌, ◌↔◌, ◌+◌, ◌*◌, ◌^◌, ◌<◌, ℕ, length, Contains, IfOk, IsTrue};
+ghost use Rattle.std.specs.Option.{IfSome};
+ghost use Rattle.std.specs.List.Sorted.{IsStrictlyIncreasing};
+ghost use Rattle.pb_join.specs.Parts.{AreAllAmong, AreStatesBy, IsDealtTo, IsFinishedBy, IsReportBy};
 
-use crate::parts::states::TaskState;
+use crate::parts::states::{ReportState, TaskState};
 use pb_parts::{Division, Heading, is_among};
+use std::alloc::{AllocError, Global};
 
-/// What became of the task whose report has this heading.
-pub(crate) fn state_of_task(heading: &Heading) -> TaskState
-    requires { IsFit heading.now }
-    ensures { IsStateBy heading.now result }
+/// What a report with this heading tells.
+pub(crate) fn state_of_report(heading: &Heading) -> ReportState
+    ensures { IsReportBy heading.now result }
 {
-    if names_all(heading) {
-        TaskState::Finished
+    if heading.cut.is_empty() {
+        ReportState::Ended
     } else {
-        TaskState::Unfinished
+        ReportState::Cut
     }
 }
 
-/// Whether each piece of the task is named as done.
-fn names_all(heading: &Heading) -> bool
-    requires { IsFit heading.now }
-    ensures { IsTrue result ↔ NamesAll heading.now }
+/// Whether each piece is among those that are named as done. It is not so where no report tells how many pieces there are.
+pub(crate) fn is_whole(division: &Option<Division>, named: &[u32]) -> bool
+    requires { IsStrictlyIncreasing named.now }
+    ensures { IsTrue result ↔ AreAllAmong division.now named.now }
 {
-    let tasks = heading.division.tasks;
-    for turn in 0..turns_of(heading) {
-        if !is_done(heading, turn * tasks + heading.task) {
+    match division {
+        Some(division) => has_all(division.pieces, named),
+        None => false,
+    }
+}
+
+fn has_all(pieces: u32, named: &[u32]) -> bool
+    requires { IsStrictlyIncreasing named.now }
+    ensures { IsTrue result ↔ ((i : ℕ) → i < pieces → Contains named.now i) }
+{
+    for piece in 0..pieces {
+        if !is_among(named, piece) {
+            return false;
+        }
+    }
+    true
+}
+
+/// What became of each task, by what its report tells and by the pieces that are named as done.
+pub(crate) fn states_of(
+    alloc: Global,
+    division: &Option<Division>,
+    tasks: u32,
+    reports: &[ReportState],
+    named: &[u32],
+) -> Result<Vec<TaskState>, AllocError>
+    requires tasks { IfSome division.now (λ d. d.tasks ≡ tasks) }
+    requires reports { length reports.now ≡ tasks }
+    requires rising { IsStrictlyIncreasing named.now }
+    ensures { IfOk result (λ states. AreStatesBy division.now tasks reports.now named.now states.items) }
+{
+    let mut states = Vec::new(alloc);
+    for task in 0..tasks {
+        states.push(TaskState {
+            report: reports[task as usize],
+            finished: is_finished(division, task, named),
+        })?;
+    }
+    Ok(states)
+}
+
+/// Whether each piece that the task is dealt is among those that are named as done.
+fn is_finished(division: &Option<Division>, task: u32, named: &[u32]) -> bool
+    requires task { IfSome division.now (λ d. task < d.tasks) }
+    requires rising { IsStrictlyIncreasing named.now }
+    ensures { IsTrue result ↔ IsFinishedBy division.now task named.now }
+{
+    match division {
+        Some(division) => names_all(division, task, named),
+        None => false,
+    }
+}
+
+fn names_all(division: &Division, task: u32, named: &[u32]) -> bool
+    requires task { task < division.now.tasks }
+    requires rising { IsStrictlyIncreasing named.now }
+    ensures { IsTrue result ↔ ((i : ℕ) → IsDealtTo division.now task i → Contains named.now i) }
+{
+    for turn in 0..turns_of(division, task) {
+        if !is_among(named, turn * division.tasks + task) {
             return false;
         }
     }
@@ -33,36 +91,14 @@ fn names_all(heading: &Heading) -> bool
 }
 
 /// How many pieces the task is dealt: one at each turn.
-fn turns_of(heading: &Heading) -> u32
-    requires { IsFit heading.now }
-    ensures turns { (turn : ℕ) → (turn < result) ↔ (turn * heading.now.division.tasks + heading.now.task < heading.now.division.pieces) }
-    ensures fits { (turn : ℕ) → turn < result → turn * heading.now.division.tasks + heading.now.task < 2 ^ 32 }
+fn turns_of(division: &Division, task: u32) -> u32
+    requires { task < division.now.tasks }
+    ensures turns { (turn : ℕ) → (turn < result) ↔ (turn * division.now.tasks + task < division.now.pieces) }
+    ensures fits { (turn : ℕ) → turn < result → turn * division.now.tasks + task < 2 ^ 32 }
 {
-    let Division { pieces, tasks, .. } = heading.division;
-    if heading.task < pieces {
-        (pieces - 1 - heading.task) / tasks + 1
+    if task < division.pieces {
+        (division.pieces - 1 - task) / division.tasks + 1
     } else {
         0
     }
-}
-
-/// Whether the piece is named as done.
-fn is_done(heading: &Heading, piece: u32) -> bool
-    requires { IsFit heading.now }
-    ensures { IsTrue result ↔ Contains heading.now.done.items piece }
-{
-    is_among(&heading.done, piece)
-}
-
-/// Whether each task for which there is a piece is finished. It is not where no report tells how many pieces there are.
-pub(crate) fn is_whole(division: &Option<Division>, states: &[TaskState]) -> bool
-    ensures { IsTrue result ↔ IsWhole division.now states.now }
-{
-    let Some(division) = division else {
-        return false;
-    };
-    states
-        .iter()
-        .take(division.pieces as usize)
-        .all(|state| *state == TaskState::Finished)
 }

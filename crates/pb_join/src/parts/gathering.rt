@@ -6,19 +6,20 @@ ghost use Rattle.pb_join.specs.Parts.{AreGatheredParts, IsOtherDivision, IsPartC
 
 use crate::gathering::take_claim;
 use crate::parts::faults::{PartRejection, PartsFault};
-use crate::parts::finishing::state_of_task;
-use crate::parts::states::TaskState;
+use crate::parts::finishing::state_of_report;
+use crate::parts::states::ReportState;
 use pb_inst::{Best, Instance};
 use pb_parts::{Division, PartReport};
 use pb_report::Claim;
 use std::alloc::{AllocError, Global};
 
-/// The best that reports of parts have, how the instance was divided, if any report tells it, and what became of each task.
+/// The best that reports of parts have, how the instance was divided, if any report tells it, and what the report of each task
+/// tells.
 #[derive(Drop)]
 pub(crate) struct GatheredParts<'i> {
     pub(crate) best: Best<'i>,
     pub(crate) division: Option<Division>,
-    pub(crate) states: Vec<TaskState>,
+    pub(crate) reports: Vec<ReportState>,
 }
 
 /// What all reports tell together of an instance with this digest that is divided among `tasks` tasks.
@@ -31,7 +32,7 @@ pub(crate) fn gather_parts<'i>(
 ) -> Result<GatheredParts<'i>, PartsFault>
     requires { All (λ part. IsFit part.heading) parts.now }
     ensures same_instance { IfOk result (λ g. g.best.problem ≡ instance.now) }
-    ensures gathered { IfOk result (λ g. AreGatheredParts instance.now digest.now tasks parts.now g.division g.best.held g.states.items) }
+    ensures gathered { IfOk result (λ g. AreGatheredParts instance.now digest.now tasks parts.now g.division g.best.held g.reports.items) }
     ensures refused { IfErr result (λ fault. IsPartsFault instance.now digest.now tasks parts.now fault) }
     ensures unwritten { IfErr result (λ fault. fault ≢ PartsFault.Write) }
 {
@@ -44,21 +45,21 @@ pub(crate) fn gather_parts<'i>(
     Ok(gathered)
 }
 
-/// No report yet: nothing is held, and every task is missing.
+/// No report yet: nothing is held, and no task has one.
 fn no_parts<'i>(
     alloc: Global,
     instance: &'i Instance,
     tasks: u32,
 ) -> Result<GatheredParts<'i>, AllocError>
     ensures same_instance { IfOk result (λ g. g.best.problem ≡ instance.now) }
-    ensures gathered { (digest : List ℕ) → IfOk result (λ g. AreGatheredParts instance.now digest tasks [] g.division g.best.held g.states.items) }
+    ensures gathered { (digest : List ℕ) → IfOk result (λ g. AreGatheredParts instance.now digest tasks [] g.division g.best.held g.reports.items) }
 {
     let best = Best::none(alloc, instance)?;
-    let states = vec![in alloc; TaskState::Missing; tasks as usize]?;
+    let reports = vec![in alloc; ReportState::Missing; tasks as usize]?;
     Ok(GatheredParts {
         best,
         division: None,
-        states,
+        reports,
     })
 }
 
@@ -72,16 +73,16 @@ fn take_part(
     requires instance { gathered.old.best.problem ≡ instance.now }
     requires fit { IsFit part.now.heading }
     ensures same_instance { gathered.new.best.problem ≡ instance.now }
-    ensures taken { (earlier : List PartReport) (tasks : ℕ) → AreGatheredParts instance.now digest.now tasks earlier gathered.old.division gathered.old.best.held gathered.old.states.items
-        → OnOk result (AreGatheredParts instance.now digest.now tasks (earlier ++ part.now ∷ []) gathered.new.division gathered.new.best.held gathered.new.states.items) }
-    ensures rejected { (earlier : List PartReport) (tasks : ℕ) → AreGatheredParts instance.now digest.now tasks earlier gathered.old.division gathered.old.best.held gathered.old.states.items
+    ensures taken { (earlier : List PartReport) (tasks : ℕ) → AreGatheredParts instance.now digest.now tasks earlier gathered.old.division gathered.old.best.held gathered.old.reports.items
+        → OnOk result (AreGatheredParts instance.now digest.now tasks (earlier ++ part.now ∷ []) gathered.new.division gathered.new.best.held gathered.new.reports.items) }
+    ensures rejected { (earlier : List PartReport) (tasks : ℕ) → AreGatheredParts instance.now digest.now tasks earlier gathered.old.division gathered.old.best.held gathered.old.reports.items
         → IfErr result (λ why. IsPartRejected instance.now digest.now tasks earlier part.now why) }
 {
     let division = part.heading.division;
-    let tasks = gathered.states.len();
+    let tasks = gathered.reports.len();
     check_division(&division, digest, tasks, &gathered.division)?;
     let task = part.heading.task as usize;
-    if !is_missing(gathered.states[task]) {
+    if !is_missing(gathered.reports[task]) {
         return Err(PartRejection::Doubled);
     }
     if !is_part_claim(&part.claim) {
@@ -91,7 +92,7 @@ fn take_part(
         return Err(PartRejection::Unfit(why));
     }
     gathered.division = Some(division);
-    gathered.states[task] = state_of_task(&part.heading);
+    gathered.reports[task] = state_of_report(&part.heading);
     Ok(())
 }
 
@@ -123,10 +124,10 @@ fn check_division(
 }
 
 /// Whether no report of the task was taken yet.
-fn is_missing(state: TaskState) -> bool
-    ensures { IsTrue result ↔ (state ≡ TaskState.Missing) }
+fn is_missing(state: ReportState) -> bool
+    ensures { IsTrue result ↔ (state ≡ ReportState.Missing) }
 {
-    state == TaskState::Missing
+    state == ReportState::Missing
 }
 
 /// Whether a part can make this claim.

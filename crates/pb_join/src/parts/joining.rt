@@ -4,11 +4,12 @@ ghost use Rattle.pb_inst.specs.Literal.{Literal};
 ghost use Rattle.pb_parts.specs.Parts.{IsFit};
 ghost use Rattle.pb_report.specs.Outcome.{Answers};
 ghost use Rattle.pb_join.specs.Joining.{TellsFirstOf};
-ghost use Rattle.pb_join.specs.Parts.{AreAllNamed, AreFitParts, ArePartsOf, AreTaskStates, IsPartsFault, all_found_in_parts, first_division};
+ghost use Rattle.pb_join.specs.Parts.{AreAllNamed, AreFitParts, AreNamed, ArePartsOf, AreTaskStates, IsPartsFault, all_found_in_parts, first_division};
 
 use crate::parts::faults::PartsFault;
-use crate::parts::finishing::is_whole;
+use crate::parts::finishing::{is_whole, states_of};
 use crate::parts::gathering::gather_parts;
+use crate::parts::naming::named_pieces;
 use crate::parts::states::TaskState;
 use crate::writing::report_joined;
 use pb_inst::Instance;
@@ -27,10 +28,13 @@ pub struct JoinedParts {
     pub whole: bool,
     /// What became of each task, by its number.
     pub states: Vec<TaskState>,
+    /// The pieces that some report names as done, in rising order.
+    pub named: Vec<u32>,
 }
 
 /// Joins the reports of the parts of an instance, whose bytes have this SHA-256, and writes and flushes the report of the whole.
-/// The instance's pieces were dealt among `tasks` tasks, and each report is that of one task, as `read_part` reads it.
+/// The instance's pieces were dealt among `tasks` tasks, and each report is that of one task, as `read_part` reads it. A report may
+/// name pieces that are dealt to another task, and two reports may name one piece.
 ///
 /// Where each piece is named as done by some report, the first assignment of them all is written as the answer: with `s OPTIMUM
 /// FOUND`, or `s SATISFIABLE` where there is no objective; `s UNSATISFIABLE` where no report has one. Where each piece that a
@@ -62,19 +66,23 @@ pub fn join_parts<W: Write>(
 
     ensures whole { IfOk result (λ joined. IsTrue joined.whole ↔ AreAllNamed (first_division parts.now) parts.now) }
     ensures states { IfOk result (λ joined. AreTaskStates tasks parts.now joined.states.items) }
+    ensures named { IfOk result (λ joined. AreNamed parts.now joined.named.items) }
     ensures fit { IfOk result (λ joined. AreFitParts instance.now digest.now tasks parts.now) }
     ensures refused { IfErr result (λ fault. IsPartsFault instance.now digest.now tasks parts.now fault) }
     ensures write { IsTrue out.new.failed ↔ IsErrOf result PartsFault.Write }
     ensures unwritten { IfErr result (λ fault. fault ≢ PartsFault.Write → out.new ≡ out.old) }
 {
     let gathered = gather_parts(alloc, instance, digest, tasks, parts)?;
-    let whole = is_whole(&gathered.division, &gathered.states);
+    let named = named_pieces(alloc, parts)?;
+    let whole = is_whole(&gathered.division, &named);
+    let states = states_of(alloc, &gathered.division, tasks, &gathered.reports, &named)?;
     let Ok(status) = report_joined(out, format, instance, whole, &gathered.best) else {
         return Err(PartsFault::Write);
     };
     Ok(JoinedParts {
         status,
         whole,
-        states: gathered.states,
+        states,
+        named,
     })
 }

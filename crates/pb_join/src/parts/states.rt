@@ -1,13 +1,21 @@
 //! What became of a task.
 
-/// What became of a task: whether there is a report of it, and whether that names all of its pieces as done. A task that is not
-/// finished has to run again, unless there is no piece for it.
+/// What the report of a task tells, if there is one.
 #[derive(Clone, Copy, PartialEq, Eq)]
-pub enum TaskState {
+pub enum ReportState {
     /// No report is of this task.
     Missing,
-    /// There is a piece of this task that its report does not name as done: it was cut, or is not named.
-    Unfinished,
-    /// Its report names each of its pieces as done.
-    Finished,
+    /// Its report names a piece as cut.
+    Cut,
+    /// Its report names no piece as cut.
+    Ended,
+}
+
+/// What became of a task: what its report tells, and whether its pieces are done, by whichever task. Where they are not, the task
+/// is missing if it has no report, and else it is unfinished.
+#[derive(Clone, Copy, PartialEq, Eq)]
+pub struct TaskState {
+    pub report: ReportState,
+    /// Whether some report tells how many pieces there are, and each piece that the task is dealt is named as done by some report.
+    pub finished: bool,
 }

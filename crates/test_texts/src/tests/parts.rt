@@ -83,6 +83,22 @@ const CASES: &[Case] = &[
         found: Found::Nothing,
         text: "c part 1 of 2 of instance 0000000000000000000000000000000000000000000000000000000000000000\nc pieces 1 split 0 cubes none\nc done\nc cut\ns UNKNOWN\n",
     },
+    // pieces that are dealt to other tasks, done and cut
+    Case {
+        format: Format::Opb,
+        division: Division {
+            instance: [0; 32],
+            pieces: 5,
+            split: 2,
+            cubes: None,
+            tasks: 3,
+        },
+        task: 1,
+        done: &[0, 1, 4],
+        cut: &[2],
+        found: Found::Nothing,
+        text: "c part 1 of 3 of instance 0000000000000000000000000000000000000000000000000000000000000000\nc pieces 5 split 2 cubes none\nc done 0 1 4\nc cut 2\ns UNKNOWN\n",
+    },
 ];
 
 const WORKED: &str =
@@ -132,13 +148,11 @@ const SPOILED: &[(&str, &str, PartKind, u64)] = &[
     ("18 34", "18 4294967314", PartKind::Heading, 3),
     ("18 34", "18 x", PartKind::Heading, 3),
     ("18 34", "18 66", PartKind::NoSuchPiece, 3),
-    ("18 34", "18 35", PartKind::OtherTask, 3),
     ("18 34", "34 18", PartKind::NotRising, 3),
     ("18 34", "18 18", PartKind::NotRising, 3),
     ("c cut 50\n", "", PartKind::Heading, 4),
     ("c cut 50\n", "c cut 50", PartKind::Heading, 4),
     ("c cut 50", "c cut 66", PartKind::NoSuchPiece, 4),
-    ("c cut 50", "c cut 49", PartKind::OtherTask, 4),
     ("c cut 50", "c cut 50 50", PartKind::NotRising, 4),
     ("c cut 50", "c cut 18 50", PartKind::DoneAndCut, 4),
     (
@@ -268,7 +282,6 @@ const PRINTED: &[(PartKind, &str)] = &[
     (PartKind::Heading, "Heading at line 3"),
     (PartKind::NoSuchTask, "NoSuchTask at line 3"),
     (PartKind::NoSuchPiece, "NoSuchPiece at line 3"),
-    (PartKind::OtherTask, "OtherTask at line 3"),
     (PartKind::NotRising, "NotRising at line 3"),
     (PartKind::DoneAndCut, "DoneAndCut at line 3"),
     (PartKind::Memory, "Memory at line 3"),

@@ -12,6 +12,7 @@ returns-in-Ok-clause-tells g c =
     let told : TellsOfParts c.args.format c.args.whole.now.instance c.args.whole.now.digest c.args.tasks c.deref.result.now (g.W.Write.contents c.args.out.now.held) (g.W.Write.contents c.join_parts.new.out.held) c.in-Ok.joined = record {
       fit = c.in-Ok.ensures.fit;
       states = c.in-Ok.ensures.states;
+      named = c.in-Ok.ensures.named;
       first = c.in-Ok.ensures.first;
       whole = c.in-Ok.ensures.whole;
       answer = c.in-Ok.ensures.headline;

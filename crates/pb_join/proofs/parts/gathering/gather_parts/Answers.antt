@@ -19,7 +19,7 @@ loop-place-preserved c =
     take_more c.args.parts.now c.loop-place.place one c.loop-place-test.true ∙ ap (λ (x : PartReport). take c.loop-place.place c.args.parts.now ++ x ∷ []) (sym c.index-parts-place.is) in
     record {
       same_instance = c.take_part.ensures.same_instance;
-      gathered = subst (λ (rs : List PartReport). AreGatheredParts c.args.instance.now c.args.digest.now c.args.tasks rs c.take_part.new.gathered.division c.take_part.new.gathered.best.held c.take_part.new.gathered.states.items) (sym more)
+      gathered = subst (λ (rs : List PartReport). AreGatheredParts c.args.instance.now c.args.digest.now c.args.tasks rs c.take_part.new.gathered.division c.take_part.new.gathered.best.held c.take_part.new.gathered.reports.items) (sym more)
           (c.in_default.ensures.taken (take c.loop-place.place c.args.parts.now) c.args.tasks c.loop-place.invariant.gathered);
     }
 
