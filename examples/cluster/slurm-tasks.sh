@@ -9,9 +9,10 @@
 #
 # All nodes see FILE and FOLDER, which gets the reports, and FOLDER/notes the notes of the tasks. What was lost or killed has no
 # report: the same lines once more run those tasks, and those whose reports were cut off or have a piece that was cut, and pass over
-# all others. FOLDER/joined.log names them as --array takes them. FOLDER/division tells the file, split and number of tasks: a task
-# of another one ends with status 2, as one with wrong words does. What a task says on standard error is also in
-# FOLDER/task-NUMBER.log, where it says anything.
+# all others. FOLDER/joined.log names them as --array takes them. A task that is cancelled and runs again has its claims again, which
+# name no node and no process. FOLDER/division tells the file, split and number of tasks: a task of another one ends with status 2, as
+# one with wrong words does, and one whose report is none of a task, or of another division. Where there is no division, as in a folder
+# of version 1.0.0, each report tells it. What a task says on standard error is also in FOLDER/task-NUMBER.log, where it says anything.
 set -euo pipefail
 [ $# -eq 5 ] || { echo "usage: slurm-tasks.sh FILE FORMAT SPLIT TASKS FOLDER" >&2; exit 2; }
 
@@ -22,6 +23,18 @@ refuse() {
 
 has_end() { # whether a report has its status, and the values that belong to it up to the end of their line
   tail -n 1 "$1" | grep -qE '^(v|s UNKNOWN$)' && tail -c 1 "$1" | grep -qx ''
+}
+
+is_cut_off() { # whether it is the beginning of a task's report, or of nothing but zeros
+  [[ 'c part ' == "$(head -c 7 "$1" | tr -d '\0')"* ]] && ! has_end "$1"
+}
+
+check_report() { # refuses the report of a task of another file, split or number of tasks, and what is no report of a task
+  [ -s "$1" ] && ! is_cut_off "$1" && [[ $(head -n 1 "$1") != 'c refused'* ]] || return 0
+  head -n 1 "$1" | grep -qE '^c part [0-9]+ of [0-9]+ of instance [0-9a-f]{64}$' ||
+    refuse "$PWD/$1 is no report of a task: its first line is '$(head -n 1 "$1" | head -c 99 | cat -v)'"
+  [[ $(head -n 2 "$1") == "c part ${1%.report} of $tasks of instance $digest"$'\nc pieces '*" split $split cubes none" ]] ||
+    refuse "$PWD/$1 is of another file, split or number of tasks: take another folder"
 }
 
 [[ ${SLURM_ARRAY_TASK_ID:-} =~ ^[0-9]+$ ]] || refuse "it is run by sbatch --array, which gives it the number of a task"
@@ -38,8 +51,12 @@ trap 'if [ -s "$log" ]; then cat "$log" >&3 || true; else rm -f "$log"; fi' EXIT
 
 # The first task writes which division the folder is for. The file gets its name only once it is whole, and is never overwritten.
 part=$task.$(uname -n).$$.part
-division="instance $(sha256sum < "$file" | cut -d ' ' -f 1) split $split tasks $tasks"
+digest=$(sha256sum < "$file" | cut -d ' ' -f 1)
+division="instance $digest split $split tasks $tasks"
 if [ ! -e division ]; then
+  for report in *.report; do
+    check_report "$report"
+  done
   echo "$division" > "$part"
   mv -n "$part" division || true
   rm -f "$part"
@@ -49,6 +66,7 @@ if [ "$(cat division)" != "$division" ]; then
   grep -qs '^c part ' ./*.report || advice+=", or remove $PWD/division, since none of its tasks has a result"
   refuse "$PWD is of another file, split or number of tasks: $advice"
 fi
+check_report "$task.report"
 ! grep -qsx 'c cut' "$task.report" || ! has_end "$task.report" || exit 0
 
 # With the statuses 0 and 10 what begins like a part is one, and what is refused is for the join, which tells it where all tasks

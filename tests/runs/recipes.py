@@ -283,6 +283,9 @@ class OfTasks(Recipes):
         # it leaves its note and is ended by a signal while it writes its report
         killed = f'case "$*" in *"--task {self.KILLED} "*) {solver} "$@" | head -n 5; kill -9 $$ ;; esac'
         self.put_path("a killed task", DIVIDERS, pbcube_task=killed)
+        told = 'echo "$*" >> words'  # in the folder of the reports
+        self.put_path("a killed task, and its words", DIVIDERS, pbcube_task=f"{told}; {killed}")
+        self.put_path("words", DIVIDERS, pbcube_task=told)
         self.put_path("few decisions", DIVIDERS, pbcube_task='set -- --nodes 1 "$@"')
         # it writes its report in two parts, so that two that begin together write at the same time
         slow = f'told=$({solver} "$@"); status=$?; echo "$told" | head -n 2; sleep 1; echo "$told" | tail -n +3'
@@ -478,6 +481,7 @@ class OfTasks(Recipes):
             yield f"slurm-tasks.sh, nothing is found: {unknown}"
         if (said := self.joined(folder, self.TASKS))[0] or "OPTIMUM" in said[1] or said[2] != run_again("tasks", [self.KILLED]):
             yield f"slurm-join.sh, a task is missing: {said}"
+        yield from self.of_requeued()
         yield from self.of_refused_in_slurm()
         yield from self.of_tasks_again(folder)
         yield from self.of_two_tasks_at_once(folder)
@@ -492,6 +496,36 @@ class OfTasks(Recipes):
                 yield f"slurm-tasks.sh, {words} in an old folder: {said}"
         if times_of(folder) != old:
             yield "slurm-tasks.sh, in an old folder: tasks were run again"
+        yield from self.of_older_version(folder)
+
+    def of_older_version(self, folder):
+        """The folder has reports of all tasks, and no division, as version 1.0.0 left it. Then a report is one of pieces."""
+        division, old = folder / "division", times_of(folder)
+        told, report = division.read_text(), folder / "0.report"
+        for words in ({"file": self.other}, {"split": self.SPLIT - 1}, {"tasks": self.TASKS + 1}):
+            division.unlink(missing_ok=True)
+            refused = (2, f"slurm-tasks.sh: {report} is of another file, split or number of tasks: take another folder\n")
+            if (said := self.slurm(folder, self.TASKS - 1, **words)) != refused or division.exists():
+                yield f"slurm-tasks.sh, {words} in an old folder without a division: {said}"
+        for number in (self.TASKS - 1, 0):
+            if (said := self.slurm(folder, number)) != (0, "") or division.read_text() != told:
+                yield f"slurm-tasks.sh, in an old folder without a division: {said}"
+        if times_of(folder) != old:
+            yield "slurm-tasks.sh, in an old folder without a division: tasks were run again"
+        whole, text = report.read_text(), "o 1\ns OPTIMUM FOUND\nv x1\n"
+        report.write_text(text)
+        refused = (2, f"slurm-tasks.sh: {report} is no report of a task: its first line is 'o 1'\n")
+        if (said := self.slurm(folder, 0)) != refused or report.read_text() != text:
+            yield f"slurm-tasks.sh, a report of a piece: {said}"
+        report.write_text(whole)
+
+    def of_requeued(self):
+        """A task that was killed runs again with the same words, by which it knows its claims."""
+        folder = self.room / "requeued"
+        statuses = [self.slurm(folder, self.KILLED, path)[0] for path in ("a killed task, and its words", "words")]
+        words = (folder / "words").read_text().splitlines()
+        if statuses != [1, 0] or len(words) != 2 or len(set(words)) != 1:
+            yield f"slurm-tasks.sh, requeued: {statuses} {words}"
 
     def of_refused_in_slurm(self):
         """Each task helps as one run does, and the join says that every task refused its input."""
