@@ -48,6 +48,8 @@ pub struct Exchange<'n, N> {
     task: u32,
     tasks: u32,
     worker: u32,
+    /// Whether the task has no other worker.
+    is_alone: bool,
     /// The assignment that is to be written, if one is, or else the last one that was lent from another task's note.
     values: Assignment,
     /// The cost of what is to be written.
@@ -63,6 +65,8 @@ pub struct Exchange<'n, N> {
     has_looked: bool,
     /// The number of calls that pass before the next look.
     pause: u32,
+    /// The number of looks that pass before the next writing.
+    rest: u32,
     text: Vec<u8>,
     /// Room for a note that is read, and one byte more.
     room: Vec<u8>,
@@ -79,8 +83,8 @@ impl<'n, N> Model for Exchange<'n, N> {
 }
 
 impl<'n, N: Notes> Exchange<'n, N> {
-    /// The side of this worker of this task, of `tasks` tasks with the numbers from 0 on. The digest is the SHA-256 of the
-    /// instance's text, and `vars` its number of variables. Fails where memory is refused.
+    /// The side of this worker of this task, which has `workers` workers, of `tasks` tasks with the numbers from 0 on. The digest is
+    /// the SHA-256 of the instance's text, and `vars` its number of variables. Fails where memory is refused.
     pub fn new(
         alloc: Global,
         notes: &'n N,
@@ -89,6 +93,7 @@ impl<'n, N: Notes> Exchange<'n, N> {
         task: u32,
         tasks: u32,
         worker: u32,
+        workers: u32,
     ) -> Result<Exchange<'n, N>, Memory>
         ensures { IfOk result (λ exchange. exchange ≡ vars) }
     {
@@ -101,6 +106,7 @@ impl<'n, N: Notes> Exchange<'n, N> {
             task,
             tasks,
             worker,
+            is_alone: workers <= 1,
             values,
             due: None,
             lent: None,
@@ -109,6 +115,7 @@ impl<'n, N: Notes> Exchange<'n, N> {
             last: task,
             has_looked: false,
             pause: 0,
+            rest: 0,
             text,
             room,
         })
@@ -139,9 +146,10 @@ impl<'n, N: Notes> Exchange<'n, N> {
     }
 
     /// Looks, at the first call after `begin` and then at each `looks_apart`-th one: writes what is to be written, and reads one
-    /// note. At the first look that is the task's own, or, where it has none, that of the next task that has one; at a later look
-    /// it is that of the next other task in turn. Where the task's own note turns out to tell less than what is to be written,
-    /// that one is read.
+    /// note. From one writing to the next there are as many looks as there are other tasks, which need about so many looks of their
+    /// own to read it. At the first look the note is the task's own, or, where it has none, that of the next task that has one; at
+    /// a later look it is that of the next other task in turn. Where the task's own note turns out to tell less than what is to be
+    /// written, that one is read.
     ///
     /// Where the note tells a cost below the given one, which is that of the best assignment of the search, answers true and
     /// copies its values into the assignment. They need not cost what the note tells, nor be feasible. Where the search takes
@@ -205,13 +213,22 @@ impl<'n, N: Notes> Exchange<'n, N> {
     }
 
     /// Writes what is to be written as the task's note. A note there that tells less stays until it is looked at, which comes
-    /// next: another worker of the task may have written it, or the task in an earlier run, or it is wrong.
+    /// next: another worker of the task may have written it, or the task in an earlier run, or it is wrong. Where it was the only
+    /// worker that wrote the note, it knows what that tells.
     fn write_due(&mut self)
         ensures { self.new ≡ self.old }
     {
+        if self.rest > 0 {
+            self.rest -= 1;
+            return;
+        }
         let Some(cost) = self.due else {
             return;
         };
+        if self.is_alone && self.written.is_some() {
+            self.write(cost);
+            return;
+        }
         match self.own_cost() {
             Some(own) if own < cost => {
                 self.last = self.task;
@@ -228,7 +245,10 @@ impl<'n, N: Notes> Exchange<'n, N> {
     {
         write_note(&mut self.text, &self.digest, cost, &self.values);
         match self.notes.write(self.worker, &self.text) {
-            Ok(()) => self.is_written(cost),
+            Ok(()) => {
+                self.is_written(cost);
+                self.rest = self.tasks.saturating_sub(2);
+            }
             Err(fault) => self.notes.tell(&fault),
         }
     }

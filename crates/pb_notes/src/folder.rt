@@ -1,6 +1,7 @@
 //! Notes in a folder of the system.
 ghost use Rattle.std.specs.Prelude.{◌≤◌, length, IfOk, IfSome};
 
+use crate::claimant::Block;
 use crate::notes::Notes;
 use pb_inst::Memory;
 use std::alloc::Global;
@@ -9,11 +10,14 @@ use std::io::{self, Error, ErrorKind, Read, Write};
 use std::rt::Files;
 use std::sync::atomic::{AtomicBool, Ordering};
 
-/// A folder of notes. The note of task 3 is the file `3.note`. Worker 2 first writes it whole to `3.2.new` and then renames that
-/// file, so that no reader sees half a note.
+/// A folder of notes and claims. The note of task 3 is the file `3.note`. Worker 2 first writes it whole to `3.2.new` and then
+/// renames that file, so that no reader sees half a note. The claim on block 5 of task 4 is the file `4.5.claim`. Worker 2 first
+/// writes it to `3.2.new` too, and then gives that file its second name, which one of all workers can. Where the folder knows no
+/// second names, that is a fault, and nobody claims anything.
 #[derive(Drop)]
 pub struct Folder<'a, R> {
     rt: &'a R,
+    alloc: Global,
     folder: String,
     task: u32,
     /// The paths of the notes of all tasks.
@@ -45,6 +49,7 @@ impl<'a, R: Files> Folder<'a, R> {
         }
         Ok(Folder {
             rt,
+            alloc,
             folder: name,
             task,
             notes,
@@ -57,20 +62,17 @@ impl<'a, R: Files> Folder<'a, R> {
     pub fn make(&self) -> io::Result<()> {
         fs::create_dir_all(self.rt, self.folder.as_str())
     }
-}
 
-impl<R: Files + Eprint> Notes for Folder<'_, R> {
-    // What is not a file is a fault, since reading a pipe might wait for ever.
-    fn read(&self, task: u32, room: &mut [u8]) -> io::Result<Option<usize>> {
-        let Some(path) = self.notes.get(task as usize) else {
-            return Ok(None);
-        };
-        match fs::metadata(self.rt, path.as_str()) {
+    /// Reads a file into the room, if there is one. What is not a file is a fault, since reading a pipe might wait for ever.
+    fn read_file(&self, path: &str, room: &mut [u8]) -> io::Result<Option<usize>>
+        ensures { IfOk result (λ found. IfSome found (λ n. n ≤ length room.new)) }
+    {
+        match fs::metadata(self.rt, path) {
             Ok(found) if found.is_file() => {}
             Ok(_) => return Err(Error::from(ErrorKind::InvalidInput)),
             Err(fault) => return none_where_missing(fault),
         }
-        match File::open(self.rt, path.as_str()) {
+        match File::open(self.rt, path) {
             Ok(mut file) => {
                 let len = fill(&mut file, room)?;
                 Ok(Some(len))
@@ -79,17 +81,77 @@ impl<R: Files + Eprint> Notes for Folder<'_, R> {
         }
     }
 
-    fn write(&self, worker: u32, text: &[u8]) -> io::Result<()> {
-        let (Some(draft), Some(note)) = (
-            self.drafts.get(worker as usize),
-            self.notes.get(self.task as usize),
-        ) else {
+    /// Writes a worker's draft, and answers its path.
+    fn write_draft(&self, worker: u32, text: &[u8]) -> io::Result<&str> {
+        let Some(draft) = self.drafts.get(worker as usize) else {
             return Err(Error::from(ErrorKind::InvalidInput));
         };
         let mut file = create_anew(self.rt, draft.as_str())?;
         file.write_all(text)?;
-        drop(file);
-        fs::rename(self.rt, draft.as_str(), note.as_str())
+        Ok(draft.as_str())
+    }
+
+    /// Makes a claim of this path. Fails with the kind `AlreadyExists` where there is one.
+    fn make_claim(&self, worker: u32, path: &str, text: &[u8]) -> io::Result<()> {
+        let draft = self.write_draft(worker, text)?;
+        let made = fs::hard_link(self.rt, draft, path);
+        // A draft that stays is replaced by the next one.
+        let _ = fs::remove_file(self.rt, draft);
+        made
+    }
+}
+
+impl<R: Files + Eprint> Notes for Folder<'_, R> {
+    fn read(&self, task: u32, room: &mut [u8]) -> io::Result<Option<usize>> {
+        match self.notes.get(task as usize) {
+            Some(path) => self.read_file(path.as_str(), room),
+            None => Ok(None),
+        }
+    }
+
+    fn write(&self, worker: u32, text: &[u8]) -> io::Result<()> {
+        let Some(note) = self.notes.get(self.task as usize) else {
+            return Err(Error::from(ErrorKind::InvalidInput));
+        };
+        let draft = self.write_draft(worker, text)?;
+        fs::rename(self.rt, draft, note.as_str())
+    }
+
+    fn claim(
+        &self,
+        worker: u32,
+        block: Block,
+        text: &[u8],
+        room: &mut [u8],
+    ) -> io::Result<Option<usize>> {
+        let folder = &self.folder;
+        let Ok(path) = format!(in self.alloc; "{folder}/{}.{}.claim", block.task, block.number) else {
+            return Err(Error::from(ErrorKind::OutOfMemory));
+        };
+        if let Some(len) = self.read_file(path.as_str(), room)? {
+            return Ok(Some(len));
+        }
+        match self.make_claim(worker, path.as_str(), text) {
+            Ok(()) => Ok(None),
+            // Another worker was first. A name that leads nowhere is nobody's claim.
+            Err(fault) if fault.kind() == ErrorKind::AlreadyExists => {
+                match self.read_file(path.as_str(), room)? {
+                    Some(len) => Ok(Some(len)),
+                    None => Err(fault),
+                }
+            }
+            Err(fault) => Err(fault),
+        }
+    }
+
+    // Writes one line to the standard error, as for a fault.
+    fn tell_foreign(&self, block: Block) {
+        if !self.has_told.swap(true, Ordering::SeqCst) {
+            let folder = &self.folder;
+            let _ = eprintln!(self.rt;
+                "{folder}/{}.{}.claim is no claim of this division", block.task, block.number
+            );
+        }
     }
 
     // Writes one line to the standard error, whose own faults are ignored.

@@ -105,7 +105,7 @@ fn digit_of(value: bool) -> &'static [u8]
 }
 
 /// Adds bytes for which there is room.
-fn put(text: &mut Vec<u8>, bytes: &[u8])
+pub(crate) fn put(text: &mut Vec<u8>, bytes: &[u8])
     requires { vec_len text.old + length bytes.now ≤ vec_capacity text.old }
     ensures written { text.new.items ≡ text.old.items ++ bytes.now }
     ensures len { vec_len text.new ≡ vec_len text.old + length bytes.now }

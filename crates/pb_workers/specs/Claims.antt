@@ -1,5 +1,5 @@
 -- What workers claim of the pieces, and which of it their parts name.
-use Rattle.std.specs.Prelude.{◌≡◌, ℕ, ◌+◌, ◌*◌, ◌^◌, ◌<◌, ◌≤◌, ◌⊎◌, Bool, false, List, [], ◌∷◌, ◌++◌, length, filter, All, Any, Option, IfNone, IfSome}
+use Rattle.std.specs.Prelude.{◌≡◌, ℕ, ◌+◌, ◌*◌, ◌^◌, ◌<◌, ◌≤◌, ◌⊎◌, Bool, false, List, [], ◌∷◌, ◌++◌, length, flat_map, All, Any, Option, IfNone, IfSome}
 use Rattle.pb_inst.specs.Problem.{Problem}
 use Rattle.pb_inst.specs.declared.limits.TheConstants.{MAX_WORKERS}
 use Rattle.pb_cubes.specs.Pieces.{CubeList}
@@ -7,18 +7,18 @@ use Rattle.pb_subtree.specs.declared.outcome.Outcome.{Outcome}
 use Rattle.pb_subtree.specs.declared.outcome.Outcome.TheVariants.{Whole, Cut}
 use Rattle.pb_board.specs.Numbers.{times}
 use Rattle.pb_board.specs.Seats.{BoardView, SeatView}
-use Rattle.pb_workers.specs.Dealing.{TaskView, is_own_piece}
+use Rattle.pb_workers.specs.Dealing.{TaskView, has_claims, numbers_for, piece_of}
 use Rattle.pb_workers.specs.Parts.{PartView, KeepsBudget, all_numbers}
 
 -- how many pieces the cubes make
 abbrev pub piece_count : CubeList → ℕ
 piece_count pieces = length pieces.cubes + 1
 
--- the claims that are the number of one of `count` pieces and that the task is dealt, in order
+-- the pieces among `count` that the numbers claimed from the board stand for, in order
 abbrev pub pieces_among : Option TaskView → ℕ → List ℕ → List ℕ
-pieces_among task count claimed = filter (λ n. is_own_piece task count n) claimed
+pieces_among task count claimed = flat_map (piece_of task count) claimed
 
--- the last claim is the number of no piece
+-- the last claim is at this number or past it
 pub record EndsPast (count : ℕ) (claimed : List ℕ) : Type 0 where
   pub front : List ℕ
   pub last : ℕ
@@ -31,22 +31,31 @@ AreDealt [] some others = (some ≡ []) × (others ≡ [])
 AreDealt (n ∷ all) some others =
     ((rest : List ℕ) × (some ≡ n ∷ rest) × AreDealt all rest others) ⊎ ((rest : List ℕ) × (others ≡ n ∷ rest) × AreDealt all some rest)
 
+-- Of the pieces in the list some were granted, and the others passed over, in order: none of these where pieces are not claimed
+-- beyond the board. The granted ones are named, some as done and the others as cut, in order.
+pub record AreNamed (claims : Bool) (all done cut : List ℕ) : Type 0 where
+  pub granted : List ℕ
+  pub passed : List ℕ
+  pub is_granted : AreDealt all granted passed
+  pub named : AreDealt granted done cut
+  pub all_granted : claims ≡ false → passed ≡ []
+
 -- one more piece is named by how its search ended: as done or as cut
 abbrev pub NamesOneMore : Outcome → ℕ → (done cut done' cut' : List ℕ) → Type 0
 NamesOneMore Whole piece done cut done' cut' = (done' ≡ done ++ piece ∷ []) × (cut' ≡ cut)
 NamesOneMore Cut piece done cut done' cut' = (done' ≡ done) × (cut' ≡ cut ++ piece ∷ [])
 
--- One worker's whole work: its part names those of its claims that are pieces and that the task is dealt, in order, some as
--- done and, where there is a budget or a race, others as cut, each within the budget. It has at most one claim more than there
--- are pieces, and its last claim is no piece, or it has that many.
+-- One worker's whole work: its part names those pieces that its claims stand for and that it was granted, in order, some as done
+-- and, where there is a budget or a race, others as cut, each within the budget. It has at most one claim more than there are numbers
+-- of pieces, and its last claim is none of these, or it has that many.
 pub record IsWork (p : Problem) (pieces : CubeList) (task : Option TaskView) (nodes : Option ℕ) (race : Bool) (part : PartView) (claimed : List ℕ) : Type 0 where
   pub of_instance : part.best.problem ≡ p
   pub of_pieces : part.pieces ≡ pieces
-  pub named : AreDealt (pieces_among task (piece_count pieces) claimed) part.named part.cut
+  pub named : AreNamed (has_claims task) (pieces_among task (piece_count pieces) claimed) part.named part.cut
   pub uncut : race ≡ false → IfNone nodes (part.cut ≡ [])
   pub budget : IfSome nodes (λ budget. KeepsBudget budget part)
-  pub most : length claimed ≤ piece_count pieces + 1
-  pub ends : EndsPast (piece_count pieces) claimed ⊎ (length claimed ≡ piece_count pieces + 1)
+  pub most : length claimed ≤ numbers_for task (piece_count pieces) + 1
+  pub ends : EndsPast (numbers_for task (piece_count pieces)) claimed ⊎ (length claimed ≡ numbers_for task (piece_count pieces) + 1)
 
 -- the same where there is no race: without a budget each piece is done
 abbrev pub IsWholeWork : Problem → CubeList → Option TaskView → Option ℕ → PartView → List ℕ → Type 0
@@ -56,12 +65,13 @@ IsWholeWork p pieces task nodes part claimed = IsWork p pieces task nodes false 
 abbrev pub GoesPast : ℕ → List ℕ → Type 0
 GoesPast count claimed = Any (λ n. count ≤ n) claimed ⊎ (count < length claimed)
 
--- The work of several workers: the parts name each number as often as it was claimed, where it is a piece that the task is dealt,
--- as done or, where there is a budget or a race, as cut, and no other number; and the claims go past the pieces.
+-- The work of several workers: the parts name each piece at most as often as claims stand for it, and so often where pieces are not
+-- claimed beyond the board, as done or, where there is a budget or a race, as cut, and nothing else; and the claims go past the pieces.
 pub record AreWholeWork (p : Problem) (pieces : CubeList) (task : Option TaskView) (nodes : Option ℕ) (race : Bool) (parts : List PartView) (claimed : List ℕ) : Type 0 where
   pub of_instance : All (λ part. part.best.problem ≡ p) parts
   pub of_pieces : All (λ part. part.pieces ≡ pieces) parts
-  pub named : (i : ℕ) → times i (all_numbers parts) ≡ times i (pieces_among task (piece_count pieces) claimed)
+  pub at_most : (i : ℕ) → times i (all_numbers parts) ≤ times i (pieces_among task (piece_count pieces) claimed)
+  pub named : has_claims task ≡ false → (i : ℕ) → times i (all_numbers parts) ≡ times i (pieces_among task (piece_count pieces) claimed)
   pub uncut : race ≡ false → IfNone nodes (All (λ part. part.cut ≡ []) parts)
   pub budget : IfSome nodes (λ budget. All (KeepsBudget budget) parts)
   pub past : GoesPast (piece_count pieces) claimed

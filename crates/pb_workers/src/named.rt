@@ -1,10 +1,46 @@
-//! The numbers of the pieces that a worker got, by how their searches ended.
-ghost use Rattle.std.specs.Prelude.{◌≡◌, ◌<◌, [], length, IfOk, IfSome, vec_capacity};
+//! The pieces that a worker was granted, and their numbers by how their searches ended.
+ghost use Rattle.std.specs.Prelude.{◌≡◌, ◌<◌, [], true, length, IfNone, IfOk, IfSome, vec_capacity};
 ghost use Rattle.pb_workers.specs.Claims.{NamesOneMore};
+ghost use Rattle.pb_workers.specs.Dealing.{has_claims};
 
+use crate::note_share::OuterShare;
+use crate::sharing::BoardShare;
+use crate::task::{Task, claims_pieces};
 use pb_inst::Memory;
 use pb_search::Outcome;
 use std::alloc::Global;
+
+/// A piece that the worker was granted. A grant cannot be let go: it is used up where its piece is named, so each piece that was
+/// granted is named.
+pub(crate) struct Grant {
+    piece: u32,
+}
+
+impl Grant {
+    /// Asks the share for a piece, where the task claims pieces. Else the worker is granted each piece.
+    pub(crate) fn ask<S: OuterShare + Drop>(
+        share: &mut BoardShare<'_, S>,
+        task: &Option<Task>,
+        piece: u32,
+    ) -> Option<Grant>
+        ensures some { IfSome result (λ grant. grant.piece ≡ piece) }
+        ensures none { IfNone result (has_claims task.now ≡ true) }
+        ensures unchanged { share.new ≡ share.old }
+    {
+        if !claims_pieces(task) || share.may_search(piece) {
+            Some(Grant { piece })
+        } else {
+            None
+        }
+    }
+
+    /// The number of the piece.
+    pub(crate) fn piece(&self) -> u32
+        ensures { result ≡ self.now.piece }
+    {
+        self.piece
+    }
+}
 
 /// The numbers of the pieces that a worker got: those that are done, and those whose search was cut; and with a budget, in the
 /// same order, how many decisions each of these searches made.
@@ -59,14 +95,15 @@ impl Named {
         Ok(())
     }
 
-    /// Names the piece as done or as cut, and records its decisions where they are counted.
-    pub(crate) fn push_reserved(&mut self, piece: u32, outcome: Outcome, decisions: Option<u64>)
+    /// Names the piece of a grant as done or as cut, and records its decisions where they are counted.
+    pub(crate) fn push_reserved(&mut self, grant: Grant, outcome: Outcome, decisions: Option<u64>)
         requires done { length self.old.done.items < vec_capacity self.old.done }
         requires cut { length self.old.cut.items < vec_capacity self.old.cut }
         requires counts { IfSome decisions (λ _. (length self.old.decisions.items < vec_capacity self.old.decisions) × (length self.old.cut_decisions.items < vec_capacity self.old.cut_decisions)) }
-        ensures named { NamesOneMore outcome piece self.old.done.items self.old.cut.items self.new.done.items self.new.cut.items }
+        ensures named { NamesOneMore outcome grant.piece self.old.done.items self.old.cut.items self.new.done.items self.new.cut.items }
         ensures counted { IfSome decisions (λ n. NamesOneMore outcome n self.old.decisions.items self.old.cut_decisions.items self.new.decisions.items self.new.cut_decisions.items) }
     {
+        let Grant { piece } = grant;
         self.name(piece, outcome);
         if let Some(decisions) = decisions {
             self.count(outcome, decisions);

@@ -98,6 +98,13 @@ impl<'b, S: OuterShare + Drop> BoardShare<'b, S> {
         self.board.claim(&mut self.seat)
     }
 
+    /// Whether the worker may search a piece whose number it claimed on the board. Whoever is beside the board may have claimed it.
+    pub(crate) fn may_search(&mut self, piece: u32) -> bool
+        ensures { self.new ≡ self.old }
+    {
+        self.beside.may_search(piece)
+    }
+
     /// Tells all workers that the whole was searched.
     pub(crate) fn tell_whole(&mut self)
         ensures { self.new ≡ self.old }
@@ -105,7 +112,7 @@ impl<'b, S: OuterShare + Drop> BoardShare<'b, S> {
         self.board.signal(&mut self.seat, WHOLE_IS_DONE);
     }
 
-    /// Of `count` pieces all are claimed, and the worker drew this number. Where all workers but one drew such a number, their pieces
+    /// Of `count` numbers all are claimed, and the worker drew this one. Where all workers but one drew such a number, their pieces
     /// are done, and the one that is left need not go on with the whole.
     pub(crate) fn tell_end(&mut self, count: u32, number: u64)
         ensures { self.new ≡ self.old }

@@ -20,14 +20,15 @@ use std::thread::Threads;
 pub struct TaskAnswer<'i> {
     /// The best assignment that was found in the task's pieces or came from others, which is feasible.
     pub best: Best<'i>,
-    /// The numbers of the task's pieces that are done, in order: no feasible assignment of them is before the best one.
+    /// The numbers of the pieces that are done, in order: no feasible assignment of them is before the best one.
     pub done: Vec<u32>,
-    /// The numbers of the task's pieces whose search was cut by its budget, in order; none without one.
+    /// The numbers of the pieces whose search was cut by its budget, in order; none without one.
     pub cut: Vec<u32>,
 }
 
 /// Searches every piece that the task is dealt, with at most `nodes` decisions where a budget is given, and answers the best
-/// assignment that was found. The workers lend each other what they found, and each of them also borrows and lends beyond the
+/// assignment that was found. A task that claims pieces leaves out those that other tasks have claimed, and afterwards searches the
+/// pieces of other tasks that it can claim. The workers lend each other what they found, and each of them also borrows and lends beyond the
 /// board. Whatever comes in that way, a piece that is named as done is done, since every assignment that is borrowed is
 /// checked. Asks for pieces over the instance's variables. Fails where memory is refused.
 pub fn solve_task<'i, R: Threads + Sync, N: Notes + Sync, G: Gate + Sync>(

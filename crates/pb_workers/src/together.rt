@@ -12,7 +12,7 @@ use crate::gate::Gate;
 use crate::gathering::{gather, is_one_settled};
 use crate::names::Names;
 use crate::note_share::Correspondence;
-use crate::task::Task;
+use crate::task::{Task, claims_pieces};
 use crate::working::SearchWorkers;
 use pb_board::Board;
 use pb_clique::form_to_search;
@@ -36,9 +36,9 @@ pub(crate) struct Dealt<'i> {
     pub(crate) is_settled: bool,
 }
 
-/// Searches the pieces that the task is dealt, and without a task all pieces. The workers, numbered from 0, run on threads of
-/// their own where the system gives them. A worker beyond the number of pieces is not started: it would get none, and yet take
-/// memory for a search of its own. Asks for pieces over the instance's variables.
+/// Searches the pieces that the task is dealt or claims, and without a task all pieces. The workers, numbered from 0, run on threads of
+/// their own where the system gives them. A worker beyond the number of pieces that are dealt is not started: it might get none, and
+/// yet take memory for a search of its own. Asks for pieces over the instance's variables.
 pub(crate) fn work_together<'i, R: Threads + Sync, N: Notes + Sync, G: Gate + Sync>(
     rt: &R,
     alloc: Global,
@@ -62,7 +62,7 @@ pub(crate) fn work_together<'i, R: Threads + Sync, N: Notes + Sync, G: Gate + Sy
     let normal = form_to_search(alloc, inst, nodes)?;
     let tables = SearchTables::new(alloc, inst, &normal, pieces)?;
     let dealt = dealt_pieces(&task, pieces.len());
-    let mut names = Names::with_room(alloc, &task, dealt)?;
+    let mut names = Names::with_room(alloc, &task, most_named(&task, pieces.len()))?;
     let workers = workers_with_a_piece(workers, dealt);
     let (board, seat) = Board::new(alloc, workers, inst.vars())?;
     let set = SearchWorkers::new(
@@ -91,6 +91,15 @@ fn dealt_pieces(task: &Option<Task>, pieces: u32) -> u32
     match task {
         Some(task) => task.share_of(pieces).max(1),
         None => pieces.max(1),
+    }
+}
+
+/// The most pieces that may be named.
+fn most_named(task: &Option<Task>, pieces: u32) -> u32 {
+    if claims_pieces(task) {
+        pieces
+    } else {
+        dealt_pieces(task, pieces)
     }
 }
 

@@ -1,23 +1,23 @@
 //! The whole work of one worker, which claims pieces and searches them.
 //! Source: [G69]
-ghost use Rattle.std.specs.Prelude.{◌≡◌, ◌<◌, ◌≤◌, ◌⊎◌, false, ◌+◌, ◌^◌, ◌++◌, ◌∷◌, [], length, Option, All, IfOk, IfSome, IfNone};
+ghost use Rattle.std.specs.Prelude.{◌≡◌, ◌<◌, ◌≤◌, ◌⊎◌, ℕ, false, ◌+◌, ◌^◌, ◌++◌, ◌∷◌, [], length, Option, All, IfOk, IfSome, IfNone};
 ghost use Rattle.pb_normal.specs.NormalForm.{KeepsCost, KeepsFeasible};
 ghost use Rattle.pb_search.specs.Done.{IsDone};
 ghost use Rattle.pb_search.specs.Held.{IsNotAfter};
-ghost use Rattle.pb_workers.specs.Claims.{AreDealt, EndsPast, IsWholeWork, IsWorkWith, MayWork, pieces_among};
-ghost use Rattle.pb_workers.specs.Dealing.{TaskView};
+ghost use Rattle.pb_workers.specs.Claims.{AreNamed, EndsPast, IsWholeWork, IsWorkWith, MayWork, pieces_among};
+ghost use Rattle.pb_workers.specs.Dealing.{has_claims, numbers_for};
 ghost use Rattle.std.specs.Option.{option_map};
 ghost use Rattle.pb_workers.specs.Parts.{AreCounted};
 ghost use Rattle.pb_workers.specs.Sharing.{KeepsClaims, SameSeat};
 
 use crate::facts::facts_of;
 use crate::gate::Gate;
-use crate::named::Named;
+use crate::named::{Grant, Named};
 use crate::note_share::{Correspondence, NoNotes, NoteShare, OuterShare};
 use crate::part::Part;
 use crate::piece::{search_piece, search_piece_beside};
 use crate::sharing::BoardShare;
-use crate::task::{Task, has_piece};
+use crate::task::{Task, numbers_of, piece_at};
 use crate::worker_set::WorkerSet;
 use pb_board::{Board, Seat};
 use pb_cubes::Pieces;
@@ -66,7 +66,7 @@ pub fn work<'i, G: Gate + Sync>(
     set.work_of(alloc, seat, worker)
 }
 
-/// Workers who search the pieces, or those that a task is dealt, each with engines of its own over the one set of tables. What a
+/// Workers who search the pieces, or those that a task is dealt or claims, each with engines of its own over the one set of tables. What a
 /// worker changes is its own. Beside the board they exchange notes, where the task does.
 #[derive(Drop)]
 pub(crate) struct SearchWorkers<'a, 'i, N, G> {
@@ -122,7 +122,8 @@ impl<'a, 'i, N: Notes, G: Gate> SearchWorkers<'a, 'i, N, G> {
     {
         let mut best = Best::none(alloc, self.inst)?;
         let mut search = Search::over(alloc, self.tables)?;
-        let beyond = NoteShare::new(alloc, self.notes, self.inst.vars(), worker)?;
+        let workers = self.board.workers().get();
+        let beyond = NoteShare::new(alloc, self.notes, self.inst.vars(), worker, workers)?;
         let mut share = BoardShare::beside(self.board, seat, worker, beyond);
         self.begin(&mut search, &mut best, &mut share);
         let count = self.pieces.len();
@@ -183,7 +184,8 @@ impl<'a, 'i, N: Notes, G: Gate> SearchWorkers<'a, 'i, N, G> {
         }
     }
 
-    /// Searches the pieces that the share claims and the task is dealt, each within the budget, and answers their numbers.
+    /// Searches the pieces for which the share claims numbers and which it is granted, each within the budget, and answers their
+    /// numbers.
     fn search_claimed<S: OuterShare + Drop>(
         &self,
         alloc: Global,
@@ -197,29 +199,34 @@ impl<'a, 'i, N: Notes, G: Gate> SearchWorkers<'a, 'i, N, G> {
         requires unclaimed { share.old.seat.claimed ≡ [] }
         ensures same_instance { best.new.problem ≡ best.old.problem }
         ensures done { IfOk result (λ named. All (λ i. IsDone search.old.division i best.new.held) named.done.items) }
-        ensures named { IfOk result (λ named. AreDealt (pieces_among self.now.task count share.new.seat.claimed) named.done.items named.cut.items) }
+        ensures named { IfOk result (λ named. AreNamed (has_claims self.now.task) (pieces_among self.now.task count share.new.seat.claimed) named.done.items named.cut.items) }
         ensures uncut { IfOk result (λ named. self.now.is_race ≡ false → IfNone self.now.nodes (named.cut.items ≡ [])) }
         ensures budget { IfOk result (λ named. IfSome self.now.nodes (λ budget. AreCounted budget named.done.items named.decisions.items named.cut.items named.cut_decisions.items)) }
-        ensures most { IfOk result (λ named. length share.new.seat.claimed ≤ count + 1) }
-        ensures ends { IfOk result (λ named. EndsPast count share.new.seat.claimed ⊎ (length share.new.seat.claimed ≡ count + 1)) }
+        ensures most { IfOk result (λ named. length share.new.seat.claimed ≤ numbers_for self.now.task count + 1) }
+        ensures ends { IfOk result (λ named. EndsPast (numbers_for self.now.task count) share.new.seat.claimed ⊎ (length share.new.seat.claimed ≡ numbers_for self.now.task count + 1)) }
+        ensures claims { IfOk result (λ named. length share.new.seat.claimed ≤ 2 ^ 32) }
         ensures seat { SameSeat share.old share.new }
         ensures unchanged { search.new.division ≡ search.old.division }
     {
         let mut named = Named::new(alloc);
-        for _turn in 0..u64::from(count) + 1 {
-            let Some(piece) = claim_piece(share, count) else {
+        let numbers = numbers_of(&self.task, count);
+        for _turn in 0..u64::from(numbers) + 1 {
+            let Some(number) = claim_number(share, numbers) else {
                 return Ok(named);
             };
-            if !has_piece(&self.task, piece) {
+            let Some(piece) = piece_at(&self.task, count, number) else {
                 continue;
-            }
-            // Memory is asked for before the piece is searched, so that a refusal loses no finished work.
+            };
+            // Memory is asked for before the piece is granted and searched, so that a refusal loses no finished work.
             named.reserve(self.nodes)?;
-            self.gate.pass(share.worker(), piece);
-            let outcome = self.search_one(search, piece, best, share);
+            let Some(grant) = Grant::ask(share, &self.task, piece) else {
+                continue;
+            };
+            self.gate.pass(share.worker(), grant.piece());
+            let outcome = self.search_one(search, grant.piece(), best, share);
             // The proof learns by this call that what is held is a solution, so a piece that is done stays done.
             facts_of(best);
-            named.push_reserved(piece, outcome, decisions_of(search, self.nodes));
+            named.push_reserved(grant, outcome, decisions_of(search, self.nodes));
         }
         Ok(named)
     }
@@ -257,19 +264,19 @@ fn decisions_of(search: &Search<'_>, nodes: Option<u64>) -> Option<u64>
     }
 }
 
-/// Claims the next number, and answers it where it is the number of a piece.
-fn claim_piece<S: OuterShare + Drop>(share: &mut BoardShare<'_, S>, count: u32) -> Option<u32>
+/// Claims the next number, and answers it where it is one of these.
+fn claim_number<S: OuterShare + Drop>(share: &mut BoardShare<'_, S>, numbers: u32) -> Option<u32>
     requires { length share.old.seat.claimed < 2 ^ 32 }
-    ensures piece { IfSome result (λ piece. (piece < count) × (share.new.seat.claimed ≡ share.old.seat.claimed ++ piece ∷ [])) }
-    ensures none { IfNone result (EndsPast count share.new.seat.claimed × ((task : Option TaskView) → pieces_among task count share.new.seat.claimed ≡ pieces_among task count share.old.seat.claimed)) }
+    ensures number { IfSome result (λ number. (number < numbers) × (share.new.seat.claimed ≡ share.old.seat.claimed ++ number ∷ [])) }
+    ensures none { IfNone result ((number : ℕ) × (numbers ≤ number) × (share.new.seat.claimed ≡ share.old.seat.claimed ++ number ∷ [])) }
     ensures one { length share.new.seat.claimed ≡ length share.old.seat.claimed + 1 }
     ensures seat { SameSeat share.old share.new }
 {
     let number = share.claim();
-    if number < u64::from(count) {
+    if number < u64::from(numbers) {
         Some(number as u32)
     } else {
-        share.tell_end(count, number);
+        share.tell_end(numbers, number);
         None
     }
 }

@@ -1,5 +1,5 @@
 -- What the program reports.
-use Rattle.std.specs.Prelude.{◌≡◌, ◌⊎◌, ℕ, ◌+◌, List, [], ◌++◌, length, Option, option_map}
+use Rattle.std.specs.Prelude.{◌≡◌, ◌⊎◌, ℕ, ◌+◌, List, [], ◌++◌, length, Option, option_map, is_some}
 use Rattle.std.specs.Option.{IfNone}
 use Rattle.std.specs.Io.KnownBytes.{Appends}
 use Rattle.pb_inst.specs.Incumbent.{Solution}
@@ -16,7 +16,11 @@ use Rattle.pb_report.specs.declared.ends.Refusal.{Refusal}
 use Rattle.pb_report.specs.declared.statuses.Status.{Status}
 use Rattle.pb_report.specs.declared.statuses.Status.TheVariants.{Unknown, Unsupported}
 use Rattle.pb_solve.specs.Budgeted.{found_of, found_report, found_status}
-use Rattle.pb_workers.specs.Dealing.{IsAnswerOfTask}
+use Rattle.pb_workers.specs.Dealing.{TaskView, IsAnswerOfTask}
+
+-- the task of the line, which may claim pieces where the line names a folder to exchange in
+abbrev pub task_of : Line → TaskView
+task_of line = record { number = line.task; tasks = line.tasks; claims = is_some line.exchange }
 
 -- What is held, and the pieces that are named as done and as cut, are the answer of the line's task on the instance and the
 -- pieces of these cubes. All that is written is the heading that names these pieces, and then the report of what is held, as
@@ -25,7 +29,7 @@ pub record ReportsPart (line : Line) (p : Problem) (cubes : List (List Literal))
   pub done : List ℕ
   pub cut : List ℕ
   pub held : Option Solution
-  pub answer : IsAnswerOfTask p (record { vars = p.vars; cubes = cubes }) (record { number = line.task; tasks = line.tasks }) done cut held
+  pub answer : IsAnswerOfTask p (record { vars = p.vars; cubes = cubes }) (task_of line) done cut held
   pub no_budget : IfNone line.nodes (cut ≡ [])
   pub ends : ended ≡ found_status (found_of p held)
   pub writes : Appends before after (part_heading (record { instance = digest; pieces = length cubes + 1; split = line.split; cubes = cubes_digest; tasks = line.tasks }) line.task done cut ++ found_report line.format (found_of p held))

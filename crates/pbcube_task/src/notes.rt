@@ -1,11 +1,11 @@
-//! The notes of tasks, with one line that names the file of the first one that failed.
+//! The notes and claims of tasks, with one line that names the file of the first one that failed.
 ghost use Rattle.std.specs.Prelude.{◌≤◌, length, IfOk, IfSome};
 
-use pb_notes::{Folder, Notes};
+use pb_notes::{Block, Folder, Notes};
 use std::io;
 use std::sync::atomic::{AtomicBool, Ordering};
 
-/// The notes in a folder. A line on standard error names the file of the first note that could not be read or written.
+/// The notes and claims in a folder. A line on standard error names the file of the first one that could not be read or written.
 #[derive(Drop)]
 pub struct TaskNotes<'a> {
     rt: &'a HostRuntime,
@@ -44,6 +44,16 @@ impl<'a> TaskNotes<'a> {
             let _ = eprintln!(self.rt; "pbcube_task: cannot exchange {name}/{task}.note: {fault}");
         }
     }
+
+    /// Tells why a block was not claimed.
+    fn tell_of_claim(&self, block: Block, fault: &io::Error) {
+        if self.may_tell() {
+            let (name, Block { task, number }) = (&self.name, block);
+            let _ = eprintln!(self.rt;
+                "pbcube_task: cannot claim {name}/{task}.{number}.claim: {fault}"
+            );
+        }
+    }
 }
 
 impl Notes for TaskNotes<'_> {
@@ -64,6 +74,31 @@ impl Notes for TaskNotes<'_> {
                 self.tell_of(self.task, &fault);
                 Err(fault)
             }
+        }
+    }
+
+    fn claim(
+        &self,
+        worker: u32,
+        block: Block,
+        text: &[u8],
+        room: &mut [u8],
+    ) -> io::Result<Option<usize>> {
+        match self.folder.claim(worker, block, text, room) {
+            Ok(found) => Ok(found),
+            Err(fault) => {
+                self.tell_of_claim(block, &fault);
+                Err(fault)
+            }
+        }
+    }
+
+    fn tell_foreign(&self, block: Block) {
+        if self.may_tell() {
+            let (name, Block { task, number }) = (&self.name, block);
+            let _ = eprintln!(self.rt;
+                "pbcube_task: {name}/{task}.{number}.claim is of another instance or division: give --exchange a folder of its own"
+            );
         }
     }
 

@@ -1,7 +1,7 @@
 //! The report of a task.
 ghost use Rattle.std.specs.Prelude.{◌≡◌, [], IfErr, IfNone, IfOk};
 ghost use Rattle.pb_workers.specs.Dealing.{IsAnswerOfTask};
-ghost use Rattle.pbcube_task.specs.Reporting.{ReportsPart};
+ghost use Rattle.pbcube_task.specs.Reporting.{ReportsPart, task_of};
 
 use pb_files::Prepared;
 use pb_line::tasks::Line;
@@ -20,7 +20,7 @@ pub fn report_part<W: Write>(
 ) -> Result<Status, RunFault>
     requires same_variables { prepared.now.pieces.vars ≡ prepared.now.instance.vars }
     requires same_instance { answer.now.best.problem ≡ prepared.now.instance }
-    requires answer { IsAnswerOfTask prepared.now.instance prepared.now.pieces (record { number = line.now.task; tasks = line.now.tasks }) answer.now.done.items answer.now.cut.items answer.now.best.held }
+    requires answer { IsAnswerOfTask prepared.now.instance prepared.now.pieces (task_of line.now) answer.now.done.items answer.now.cut.items answer.now.best.held }
     requires no_budget { IfNone line.now.nodes (answer.now.cut.items ≡ []) }
     ensures reports { IfOk result (ReportsPart line.now prepared.now.instance prepared.now.pieces.cubes prepared.now.digest prepared.now.cubes_digest (W.contents out.old.held) (W.contents out.new.held)) }
 {

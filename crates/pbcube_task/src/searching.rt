@@ -1,19 +1,20 @@
 //! The search of the pieces of a task.
-ghost use Rattle.std.specs.Prelude.{◌≡◌, ◌<◌, [], IfNone, IfOk};
+ghost use Rattle.std.specs.Prelude.{◌≡◌, ◌<◌, [], true, is_some, IfNone, IfOk, IfSome};
 ghost use Rattle.pb_workers.specs.Dealing.{IsAnswerOfTask};
+ghost use Rattle.pbcube_task.specs.Reporting.{task_of};
 
 use crate::places::Places;
 use pb_files::Prepared;
 use pb_inst::Best;
 use pb_line::tasks::Line;
 use pb_line::tell_of_one_piece;
-use pb_notes::{Notes, note_room, write_note};
+use pb_notes::{Division, Notes, note_room, write_note};
 use pb_workers::{Correspondence, NoNotes, OpenGate, SolveFault, Task, TaskAnswer, solve_task};
 use std::alloc::Global;
 use std::io::{self, Error, ErrorKind, Write};
 use std::thread::Threads;
 
-/// Searches the pieces of the line's task, with the notes of other tasks where the line names a folder that can be used.
+/// Searches the pieces of the line's task, with the notes and claims of other tasks where the line names a folder that can be used.
 pub fn search<'i, R: Threads + Sync, N: Notes + Sync + Drop, P: Places<N>, E: Write>(
     rt: &R,
     alloc: Global,
@@ -25,7 +26,7 @@ pub fn search<'i, R: Threads + Sync, N: Notes + Sync + Drop, P: Places<N>, E: Wr
     requires task { line.now.task < line.now.tasks }
     requires same_variables { prepared.now.pieces.vars ≡ prepared.now.instance.vars }
     ensures same_instance { IfOk result (λ answer. answer.best.problem ≡ prepared.now.instance) }
-    ensures answer { IfOk result (λ answer. IsAnswerOfTask prepared.now.instance prepared.now.pieces (record { number = line.now.task; tasks = line.now.tasks }) answer.done.items answer.cut.items answer.best.held) }
+    ensures answer { IfOk result (λ answer. IsAnswerOfTask prepared.now.instance prepared.now.pieces (task_of line.now) answer.done.items answer.cut.items answer.best.held) }
     ensures no_budget { IfNone line.now.nodes (IfOk result (λ answer. answer.cut.items ≡ [])) }
 {
     let pieces = prepared.pieces.len();
@@ -57,7 +58,9 @@ fn place_of<N, P: Places<N>, E: Write>(
     pieces: u32,
     places: &P,
     err: &mut E,
-) -> Result<Option<N>, SolveFault> {
+) -> Result<Option<N>, SolveFault>
+    ensures { IfOk result (λ place. IfSome place (λ _. is_some line.now.exchange ≡ true)) }
+{
     if line.task >= pieces {
         let _ = writeln!(
             err,
@@ -100,14 +103,21 @@ fn search_with_notes<'i, R: Threads + Sync, N: Notes + Sync>(
     requires task { line.now.task < line.now.tasks }
     requires same_variables { prepared.now.pieces.vars ≡ prepared.now.instance.vars }
     ensures same_instance { IfOk result (λ answer. answer.best.problem ≡ prepared.now.instance) }
-    ensures answer { IfOk result (λ answer. IsAnswerOfTask prepared.now.instance prepared.now.pieces (record { number = line.now.task; tasks = line.now.tasks }) answer.done.items answer.cut.items answer.best.held) }
+    ensures answer { IfOk result (λ answer. IsAnswerOfTask prepared.now.instance prepared.now.pieces (task_of line.now) answer.done.items answer.cut.items answer.best.held) }
     ensures no_budget { IfNone line.now.nodes (IfOk result (λ answer. answer.cut.items ≡ [])) }
 {
+    let pieces = prepared.pieces.len();
+    let division = Division {
+        instance: prepared.digest,
+        pieces,
+        split: line.split,
+        cubes: prepared.cubes_digest,
+        tasks: tasks_with_pieces(line.tasks, pieces),
+    };
     let with = Correspondence {
         notes,
-        digest: prepared.digest,
+        division,
         task: line.task,
-        tasks: tasks_with_pieces(line.tasks, prepared.pieces.len()),
     };
     let answer = search_with(rt, alloc, line, prepared, Some(&with))?;
     if let Err(fault) = leave_note(alloc, notes, &prepared.digest, &answer.best) {
@@ -116,7 +126,7 @@ fn search_with_notes<'i, R: Threads + Sync, N: Notes + Sync>(
     Ok(answer)
 }
 
-/// Searches with this correspondence, or with none.
+/// Searches with this correspondence, by which the task claims pieces, or with none.
 fn search_with<'i, R: Threads + Sync, N: Notes + Sync>(
     rt: &R,
     alloc: Global,
@@ -127,10 +137,10 @@ fn search_with<'i, R: Threads + Sync, N: Notes + Sync>(
     requires task { line.now.task < line.now.tasks }
     requires same_variables { prepared.now.pieces.vars ≡ prepared.now.instance.vars }
     ensures same_instance { IfOk result (λ answer. answer.best.problem ≡ prepared.now.instance) }
-    ensures answer { IfOk result (λ answer. IsAnswerOfTask prepared.now.instance prepared.now.pieces (record { number = line.now.task; tasks = line.now.tasks }) answer.done.items answer.cut.items answer.best.held) }
+    ensures answer { IfOk result (λ answer. IsAnswerOfTask prepared.now.instance prepared.now.pieces (record { number = line.now.task; tasks = line.now.tasks; claims = is_some with }) answer.done.items answer.cut.items answer.best.held) }
     ensures no_budget { IfNone line.now.nodes (IfOk result (λ answer. answer.cut.items ≡ [])) }
 {
-    let Some(task) = Task::new(line.task, line.tasks) else {
+    let Some(task) = Task::new(line.task, line.tasks, with.is_some()) else {
         unreachable!()
     };
     solve_task(
