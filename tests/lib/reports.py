@@ -22,6 +22,11 @@ def part(of, text, pieces, done, cut=""):
     return f"c part {of} of instance {digest(text)}\nc pieces {pieces}\nc done{done}\nc cut{cut}\n"
 
 
+def claim(text, pieces, of):
+    """The claim of a task on pieces of the instance of this text."""
+    return f"pbcube claim of instance {digest(text)}\npieces {pieces}\ntask {of}\n"
+
+
 HEADING = 4  # lines of such a heading
 
 

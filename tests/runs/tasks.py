@@ -1,8 +1,8 @@
 #!/usr/bin/env python3
 """Searches the pieces of each example in one to five tasks at the same time, alone and with a folder of notes between them, and
 prints where their reports together are not the answer on the whole instance. Of worked texts it also looks which pieces a budget
-cuts, which a task of some of many names as done, and what a note lends. Each piece of other worked instances is searched by a task
-of its own, whose report is owed.
+cuts, which a task of some of many names as done, what a note lends, and which pieces a task takes by the claims in the folder. Each
+piece of other worked instances is searched by a task of its own, whose report is owed.
 
     tests/runs/tasks.py [PBCUBE_TASK]
 
@@ -10,6 +10,7 @@ Without a word it takes the program that the merge gate built by LLVM.
 """
 import hashlib
 import itertools
+import os
 import sys
 import tempfile
 from concurrent.futures import ThreadPoolExecutor
@@ -20,10 +21,11 @@ sys.path.insert(0, str(Path(__file__).resolve().parents[1]))
 from lib import Ended, program, ran, side_by_side
 from lib.efforts import ring_before_others
 from lib.examples import divisions_of, examples
-from lib.reports import HEADING, digest, part, rank
+from lib.reports import HEADING, claim, digest, part, rank
 from lib.worked_texts import BUDGETED, TWO_OF_THREE, UNKNOWN
 
 SPLITS = (0, 1, 3)
+IN_NINE = "9 split 3 cubes none"
 
 # A task, how many there are, among which the nine pieces of a text are dealt, a budget or none, and which pieces the task is done
 # with. In a cube of all variables nothing is left to decide, so a budget cuts none of these.
@@ -77,7 +79,7 @@ def faults_of(task, instance, words, tasks, workers, folder):
     with ThreadPoolExecutor(tasks) as pool:
         ends = list(pool.map(lambda i: ran([*command, "--task", str(i), *more, str(instance)]), range(tasks)))
     digest = hashlib.sha256(instance.read_bytes()).hexdigest()
-    done, claims = [], []
+    named, claims = [], []
     for number, end in enumerate(ends):
         (part, pieces, of_done, cut), claim = told(end.out)
         has_piece = number < int(pieces[1])
@@ -89,9 +91,13 @@ def faults_of(task, instance, words, tasks, workers, folder):
         if part != f"part {number} of {tasks} of instance {digest}".split() or cut != ["cut"]:
             yield f"task {number} has the heading {part} {cut}"
         numbers = [int(word) for word in of_done[1:]]
-        if numbers != [it for it in range(int(pieces[1])) if it % tasks == number]:
+        dealt = [it for it in range(int(pieces[1])) if it % tasks == number]
+        if numbers != (sorted(numbers) if folder else dealt):
             yield f"task {number} is done with {numbers} of {pieces[1]} pieces"
+        named += numbers
         claims.append(claim)
+    if sorted(named) != list(range(int(pieces[1]))):
+        yield f"the tasks are done with {sorted(named)} of {pieces[1]} pieces"
     first = min((claim for claim in claims if rank(claim)), key=rank, default=None)
     if as_answer(first) != instance.with_suffix(".expected").read_text():
         yield f"the first of the claims is {first!r}"
@@ -141,17 +147,108 @@ def wrongly_dealt(task, room):
         nodes = [] if budget is None else ["--nodes", str(budget)]
         ended = ran([*command, *nodes, "--task", str(number), "--tasks", str(tasks)])
         named = "".join(f" {piece}" for piece in done)
-        if not ended.out.startswith(part(f"{number} of {tasks}", TWO_OF_THREE, "9 split 3 cubes none", named)):
+        if not ended.out.startswith(part(f"{number} of {tasks}", TWO_OF_THREE, IN_NINE, named)):
             yield f"task {number} of {tasks}: {ended}"
-    heading = part("8 of 9", TWO_OF_THREE, "9 split 3 cubes none", " 8")
-    for place, (note, claim) in enumerate(NOTED):
+    heading = part("8 of 9", TWO_OF_THREE, IN_NINE, " 8")
+    for place, (note, found) in enumerate(NOTED):
         notes = room / f"notes-{place}"
         notes.mkdir()
         for other in range(8):
             (notes / f"{other}.note").write_text(f"pbcube note of instance {digest(TWO_OF_THREE)}\n{note}")
+            (notes / f"{other}.0.claim").write_text(claim(TWO_OF_THREE, IN_NINE, f"{other} of 9"))
         ended = ran([*command, *AMPLE, "--task", "8", "--tasks", "9", "--exchange", notes])
-        if ended.out != heading + claim:
+        if ended.out != heading + found:
             yield f"the note {note!r}: {ended}"
+
+
+def put(folder, name, thing):
+    """Puts a thing under a name in the folder: a text, a number of zeros, or what is no file."""
+    match path := folder / name, thing:
+        case _, str():
+            path.write_text(thing)
+        case _, int():
+            path.touch()
+            os.truncate(path, thing)
+        case _, Path():
+            path.symlink_to(thing)
+        case _, ["folder"]:
+            path.mkdir()
+        case _, ["pipe"]:
+            os.mkfifo(path)
+
+
+def wrongly_claimed(task, room):
+    """What is wrong with the pieces that a task names, of the nine of a worked text, where claims lie in the folder of notes. The
+    task is the second of three, so it is dealt the pieces 1, 4 and 7, each a block of its own."""
+    file = room / "claimed.opb"
+    file.write_text(TWO_OF_THREE)
+    command = [task, "--split", "3", "--task", "1", "--tasks", "3", file, "--exchange"]
+    for place, (claims, done, said) in enumerate(claimed_things(room)):
+        folder = room / f"claims-{place}"
+        folder.mkdir()
+        for name, thing in claims.items():
+            put(folder, f"{name}.claim", thing)
+        ended = ran([*command, folder])
+        heading = part("1 of 3", TWO_OF_THREE, IN_NINE, "".join(f" {piece}" for piece in done))
+        if not ended.out.startswith(heading) or ended.err != said.format(folder):
+            yield f"the claims {claims}: {ended}"
+        drafts = sorted(folder.glob("*.new"))
+        if drafts:
+            yield f"the claims {claims}: the drafts {drafts} are left"
+    yield from wrongly_claimed_twice(task, file, str(room / "twice"))
+
+
+def claimed_things(room):
+    """Which claims lie in the folder, which pieces the task then names, and what it says on standard error."""
+    own, first, third = (claim(TWO_OF_THREE, IN_NINE, f"{number} of 3") for number in (1, 0, 2))
+    everything = range(9)
+    yield {}, everything, ""
+    # another task has begun: the one that is dealt the pieces claims them upwards
+    yield {"0.0": first}, (1, 2, 3, 4, 5, 6, 7, 8), ""
+    yield {"0.1": first, "2.2": third}, (1, 4, 6, 7), ""
+    # others have taken pieces over
+    yield {"1.2": first, "2.2": first}, (0, 1, 2, 3, 4, 5, 6), ""
+    # a run of the task that was killed has claimed these
+    yield {"1.0": own, "1.1": own, "2.2": own}, everything, ""
+    yield {"1.0": own, "2.2": own, "2.1": third, "0.2": third}, (0, 1, 3, 4, 7, 8), ""
+    # what is no claim of a task on these pieces keeps the task from none that it is dealt
+    outside = room / "outside"
+    outside.write_text("outside")
+    another = "pbcube_task: {}/1.1.claim is of another instance or division: give --exchange a folder of its own\n"
+    no_file = "pbcube_task: cannot claim {}/1.1.claim: invalid input parameter\n"
+    exists = "pbcube_task: cannot claim {}/1.1.claim: File exists (os error 17)\n"
+    for thing, said in (
+        ("", ""),
+        (first[:50], ""),
+        (first[:-7], ""),
+        ("\0" * len(first), another),
+        (4 << 30, another),
+        (first + first, another),
+        (first.replace("task 0", "task 3"), another),
+        (first.replace("task 0", "task 00"), another),
+        (claim("another", IN_NINE, "0 of 3"), another),
+        (claim(TWO_OF_THREE, "5 split 2 cubes none", "0 of 3"), another),
+        (claim(TWO_OF_THREE, f"9 split 3 cubes {digest('')}", "0 of 3"), another),
+        (claim(TWO_OF_THREE, IN_NINE, "0 of 4"), another),
+        (outside, another),
+        (room / "nothing", exists),
+        (Path("/dev/zero"), no_file),
+        (["folder"], no_file),
+        (["pipe"], no_file),
+    ):
+        yield {"1.1": thing, "0.2": thing, "2.0": third}, (0, 1, 3, 4, 5, 7, 8), said
+
+
+def wrongly_claimed_twice(task, file, folder):
+    """Two runs of a task at a time both name all pieces, and another task then none."""
+    command = [task, "--split", "3", "--tasks", "3", "--exchange", folder, file, "--task"]
+    with ThreadPoolExecutor(2) as pool:
+        ends = list(pool.map(ran, 2 * [[*command, "1"]]))
+    ends.append(ran([*command, "2"]))
+    for number, ended, done in zip((1, 1, 2), ends, (range(9), range(9), ())):
+        heading = part(f"{number} of 3", TWO_OF_THREE, IN_NINE, "".join(f" {piece}" for piece in done))
+        if not ended.out.startswith(heading) or ended.err:
+            yield f"task {number}, of two runs at a time: {ended}"
 
 
 def miscounted(task, room):
@@ -190,7 +287,7 @@ def wrong_pieces(task, folder):
 
 
 def wrong_on_worked_texts(task):
-    tellers = (wrongly_cut, wrongly_dealt, miscounted, wrong_pieces)
+    tellers = (wrongly_cut, wrongly_dealt, wrongly_claimed, miscounted, wrong_pieces)
     with tempfile.TemporaryDirectory(prefix="pbcube-tasks-") as room:
         return [f"tasks: {line}" for lines in tellers for line in lines(task, Path(room))]
 

@@ -1,5 +1,5 @@
 //! The text of a claim.
-ghost use Rattle.std.specs.Prelude.{◌≡◌, ◌+◌, ◌≤◌, ◌++◌, length, vec_len, vec_capacity, IfSome};
+ghost use Rattle.std.specs.Prelude.{◌≡◌, ◌+◌, ◌<◌, ◌≤◌, ◌++◌, length, vec_len, vec_capacity, IfSome};
 ghost use Rattle.pb_notes.specs.Claims.{claim_line, claim_text, cubes_text, division_line, numbered, task_line};
 
 use crate::claimant::Division;
@@ -25,10 +25,13 @@ pub(crate) fn write_claim(text: &mut Vec<u8>, division: &Division, task: u32)
 /// The task whose claim on pieces of the division the text is; none where it is anything else. The buffer has room for a claim.
 pub(crate) fn claimed_by(division: &Division, text: &[u8], buffer: &mut Vec<u8>) -> Option<u32>
     requires { 226 ≤ vec_capacity buffer.old }
-    ensures claimed { IfSome result (λ task. text.now ≡ claim_text division.now task) }
+    ensures claimed { IfSome result (λ task. (task < division.now.tasks) × (text.now ≡ claim_text division.now task)) }
     ensures room { vec_capacity buffer.old ≤ vec_capacity buffer.new }
 {
     let task = told_task(text)?;
+    if task >= division.tasks {
+        return None;
+    }
     write_claim(buffer, division, task);
     if buffer.as_slice() == text {
         Some(task)

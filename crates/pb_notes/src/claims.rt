@@ -1,5 +1,5 @@
 //! One worker's claims of pieces.
-ghost use Rattle.std.specs.Prelude.{◌≡◌, IfOk};
+ghost use Rattle.std.specs.Prelude.{◌≡◌, ◌≤◌, IfOk};
 
 use crate::claim_text::{CLAIM_ROOM, claimed_by, write_claim};
 use crate::claimant::{Block, Division};
@@ -126,7 +126,10 @@ impl<'n, N: Notes> Claims<'n, N> {
         ensures { self.new ≡ self.old }
     {
         let is_dealt = block.task == self.task;
-        match self.notes.claim(self.worker, block, &self.text, &mut self.room) {
+        match self
+            .notes
+            .claim(self.worker, block, &self.text, &mut self.room)
+        {
             Ok(None) => true,
             Ok(Some(len)) => self.is_ours_by(block, len),
             Err(_) => is_dealt,

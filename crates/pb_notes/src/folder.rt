@@ -125,7 +125,8 @@ impl<R: Files + Eprint> Notes for Folder<'_, R> {
         room: &mut [u8],
     ) -> io::Result<Option<usize>> {
         let folder = &self.folder;
-        let Ok(path) = format!(in self.alloc; "{folder}/{}.{}.claim", block.task, block.number) else {
+        let Ok(path) = format!(in self.alloc; "{folder}/{}.{}.claim", block.task, block.number)
+        else {
             return Err(Error::from(ErrorKind::OutOfMemory));
         };
         if let Some(len) = self.read_file(path.as_str(), room)? {
@@ -149,7 +150,8 @@ impl<R: Files + Eprint> Notes for Folder<'_, R> {
         if !self.has_told.swap(true, Ordering::SeqCst) {
             let folder = &self.folder;
             let _ = eprintln!(self.rt;
-                "{folder}/{}.{}.claim is no claim of this division", block.task, block.number
+                "{folder}/{}.{}.claim is no claim of this division",
+                block.task, block.number
             );
         }
     }

@@ -1,13 +1,11 @@
 -- What several workers claimed and named together.
 use Rattle.std.proofs.Common.{◌≡◌, ◌≢◌, ◌↔◌, IsTrue, map, Option, None, Some, ℕ, suc, ◌+◌, ◌<◌, ◌≤◌, List, [], ◌∷◌, ◌++◌, ◌⊎◌, Bool, true, false, cond, length, refl, sym, ◌∙◌, ap, subst, inl, inr, arith, length-append}
-use Rattle.std.specs.Prelude.{All, Any, Contains, IfNone, filter, flat_map, min, nat_lt, ◌&&◌, if◌then◌else◌}
-use mathlib.Core.Logic.{dite}
-use native.Mathlib.Decide.{ℕ_discrete}
+use Rattle.std.specs.Prelude.{All, Any, Contains, IfNone, flat_map, min, nat_lt, if◌then◌else◌}
 use Rattle.std.proofs.lemmas.Bool.{false≢true}
 use Rattle.std.proofs.lemmas.Bool.Decides.{nat_tests}
 use Rattle.std.proofs.lemmas.List.{get_or_append_left}
 use Rattle.std.proofs.lemmas.List.Concat.{flat_map-append}
-use Rattle.std.proofs.lemmas.List.Elements.{All-append, All-push, All-nil, Contains-append_cases, filter-append}
+use Rattle.std.proofs.lemmas.List.Elements.{All-append, All-push, All-nil, Contains-append_cases}
 use Rattle.std.proofs.lemmas.List.Quantifiers.{Any-push}
 use Rattle.std.specs.Option.{IfSome}
 use Rattle.pb_inst.specs.Problem.{Problem}
@@ -15,10 +13,11 @@ use Rattle.pb_inst.specs.Incumbent.{Solution}
 use Rattle.pb_cubes.specs.Pieces.{CubeList}
 use Rattle.pb_board.specs.Seats.{BoardView, SeatView}
 use Rattle.pb_board.specs.Numbers.{IsEachOnceBelow, times}
-use Rattle.pb_board.proofs.Counts.{counted, found, mark, none_here, times-append, times-cons}
+use Rattle.pb_board.proofs.Counts.{counted, found, times-append, times-cons}
 use Rattle.pb_workers.specs.Parts.{PartView, AreDone, AreWhole, IsAnswerOf, KeepsBudget, IsFirst, all_numbers}
-use Rattle.pb_workers.specs.Dealing.{TaskView, AreDealtWork, IsEachOwnOnce, is_dealt, is_own_piece}
-use Rattle.pb_workers.specs.Claims.{piece_count, pieces_among, AreDealt, EndsPast, GoesPast, IsWork, AreWholeWork}
+use Rattle.pb_workers.specs.Dealing.{TaskView, AreDealtWork, ArePieces, IsEachOwnOnce, has_claims, is_own_piece, numbers_for, piece_of}
+use Rattle.pb_workers.specs.Claims.{piece_count, pieces_among, AreDealt, AreNamed, EndsPast, GoesPast, IsWork, AreWholeWork}
+use Rattle.pb_workers.proofs.NumberLaws.{more_numbers, once_at_most, own_below, times_own}
 
 Any-append_left : {X : Type 0} (P : X → Type 0) (xs ys : List X) → Any P xs → Any P (xs ++ ys)
 Any-append_left P xs ys h =
@@ -43,30 +42,14 @@ dealt_times [] some others i dealt = omega (arith, ap (times i) dealt.0, ap (tim
 dealt_times (m ∷ all) some others i (inl h) = omega (arith, times-cons i m all, times-cons i m h.0, ap (times i) h.1, dealt_times all h.0 others i h.2)
 dealt_times (m ∷ all) some others i (inr h) = omega (arith, times-cons i m all, times-cons i m h.0, ap (times i) h.1, dealt_times all some h.0 i h.2)
 
-times_kept : (b : Bool) (i m : ℕ) (kept : List ℕ) → times i (cond b (m ∷ kept) kept) ≡ cond b (mark i m) 0 + times i kept
-times_kept true i m kept = times-cons i m kept
-times_kept false i m kept = omega arith
+-- the numbers that are named stand in the list at least as often, and just as often where none was passed over
+named_at_most : (claims : Bool) (all done cut : List ℕ) (i : ℕ) → AreNamed claims all done cut → times i (done ++ cut) ≤ times i all
+named_at_most claims all done cut i h =
+    omega (arith, times-append i done cut, dealt_times all h.granted h.passed i h.is_granted, dealt_times h.granted done cut i h.named)
 
-kept_alike : (b c : Bool) (m n : ℕ) → (b ≡ c) ⊎ (m ≡ 0) → cond b m 0 + cond c n 0 ≡ cond c (m + n) 0
-kept_alike true true m n alike = refl
-kept_alike false false m n alike = omega arith
-kept_alike true false m n (inl alike) = absurd (false≢true (sym alike))
-kept_alike true false m n (inr none) = omega (arith, none)
-kept_alike false true m n (inl alike) = absurd (false≢true alike)
-kept_alike false true m n (inr none) = omega (arith, none)
-
--- a number that is chosen stands among the chosen ones as often as before, and another one does not
-times_chosen : (chosen : ℕ → Bool) (claimed : List ℕ) (i : ℕ) → times i (filter chosen claimed) ≡ cond (chosen i) (times i claimed) 0
-times_chosen chosen [] i = none (chosen i)
-  where
-    none : (b : Bool) → times i [] ≡ cond b (times i []) 0
-    none true = refl
-    none false = refl
-times_chosen chosen (m ∷ claimed) i =
-    times_kept (chosen m) i m (filter chosen claimed)
-    ∙ ap (λ n. cond (chosen m) (mark i m) 0 + n) (times_chosen chosen claimed i)
-    ∙ kept_alike (chosen m) (chosen i) (mark i m) (times i claimed) (dite (ℕ_discrete m i) (λ same. inl (ap chosen same)) (λ differs. inr (none_here i m differs)))
-    ∙ ap (λ n. cond (chosen i) n 0) (sym (times-cons i m claimed))
+named_exactly : (claims : Bool) (all done cut : List ℕ) (i : ℕ) → AreNamed claims all done cut → claims ≡ false → times i (done ++ cut) ≡ times i all
+named_exactly claims all done cut i h none =
+    omega (arith, times-append i done cut, dealt_times all h.granted h.passed i h.is_granted, dealt_times h.granted done cut i h.named, ap (times i) (h.all_granted none))
 
 -- without a budget the list of one part has no cut piece
 uncut_of_one : (nodes : Option ℕ) (part : PartView) → IfNone nodes (part.cut ≡ []) → IfNone nodes (All (λ (x : PartView). x.cut ≡ []) (part ∷ []))
@@ -92,15 +75,21 @@ work_of_one p pieces task nodes race part parts none claimed pushed empty h =
     subst (λ (l : List PartView). AreWholeWork p pieces task nodes race l claimed) (sym is) (record {
       of_instance = All-push (λ (x : PartView). x.best.problem ≡ p) [] part (All-nil (λ (x : PartView). x.best.problem ≡ p)) h.of_instance;
       of_pieces = All-push (λ (x : PartView). x.pieces ≡ pieces) [] part (All-nil (λ (x : PartView). x.pieces ≡ pieces)) h.of_pieces;
-      named = λ i. omega (arith, times-append i (part.named ++ part.cut) [], times-append i part.named part.cut, dealt_times (pieces_among task (piece_count pieces) claimed) part.named part.cut i h.named);
+      at_most = λ i. omega (arith, times-append i (part.named ++ part.cut) [], named_at_most (has_claims task) (pieces_among task (piece_count pieces) claimed) part.named part.cut i h.named);
+      named = λ none i. omega (arith, times-append i (part.named ++ part.cut) [], named_exactly (has_claims task) (pieces_among task (piece_count pieces) claimed) part.named part.cut i h.named none);
       uncut = λ none. uncut_of_one nodes part (h.uncut none);
       budget = budget_of_one nodes part h.budget;
       past = past h.ends;
     })
   where
-    past : EndsPast (piece_count pieces) claimed ⊎ (length claimed ≡ piece_count pieces + 1) → GoesPast (piece_count pieces) claimed
-    past (inl e) = inl (subst (λ (l : List ℕ). Any (λ n. piece_count pieces ≤ n) l) (sym e.ends) (Any-push (λ n. piece_count pieces ≤ n) e.front e.last e.no_piece))
-    past (inr all) = inr (omega arith)
+    more : piece_count pieces ≤ numbers_for task (piece_count pieces)
+    more = more_numbers task (piece_count pieces)
+
+    past : EndsPast (numbers_for task (piece_count pieces)) claimed ⊎ (length claimed ≡ numbers_for task (piece_count pieces) + 1) → GoesPast (piece_count pieces) claimed
+    past (inl e) =
+        let last : numbers_for task (piece_count pieces) ≤ e.last = e.no_piece in
+        inl (subst (λ (l : List ℕ). Any (λ n. piece_count pieces ≤ n) l) (sym e.ends) (Any-push (λ n. piece_count pieces ≤ n) e.front e.last (omega (arith, more))))
+    past (inr all) = inr (omega (arith, more))
 
 goes_past_more : (count : ℕ) (xs ys : List ℕ) → GoesPast count xs → GoesPast count (xs ++ ys)
 goes_past_more count xs ys (inl h) = inl (Any-append_left (λ n. count ≤ n) xs ys h)
@@ -112,20 +101,20 @@ work_of_all p pieces task nodes race some others all claimed more both parts_are
     subst (λ (l : List PartView). AreWholeWork p pieces task nodes race l both) (sym parts_are) (subst (λ (l : List ℕ). AreWholeWork p pieces task nodes race (some ++ others) l) (sym claims_are) (record {
       of_instance = All-append (λ (x : PartView). x.best.problem ≡ p) some others h.of_instance k.of_instance;
       of_pieces = All-append (λ (x : PartView). x.pieces ≡ pieces) some others h.of_pieces k.of_pieces;
-      named = λ i. named_of_all i;
+      at_most = λ i. omega (arith, named_of_all i, pieces_of_all i, h.at_most i, k.at_most i);
+      named = λ none i. omega (arith, named_of_all i, pieces_of_all i, h.named none i, k.named none i);
       uncut = λ none. uncut_of_all nodes some others (h.uncut none) (k.uncut none);
       budget = budget_of_all nodes some others h.budget k.budget;
       past = goes_past_more (piece_count pieces) claimed more h.past;
     }))
   where
-    named_of_all : (i : ℕ) → times i (all_numbers (some ++ others)) ≡ times i (pieces_among task (piece_count pieces) (claimed ++ more))
-    named_of_all i =
-        ap (times i) (flat_map-append (λ (x : PartView). x.named ++ x.cut) some others)
-        ∙ times-append i (all_numbers some) (all_numbers others)
-        ∙ ap (λ n. n + times i (all_numbers others)) (h.named i)
-        ∙ ap (λ n. times i (pieces_among task (piece_count pieces) claimed) + n) (k.named i)
-        ∙ sym (times-append i (pieces_among task (piece_count pieces) claimed) (pieces_among task (piece_count pieces) more))
-        ∙ ap (times i) (sym (filter-append (λ n. is_own_piece task (piece_count pieces) n) claimed more))
+    named_of_all : (i : ℕ) → times i (all_numbers (some ++ others)) ≡ times i (all_numbers some) + times i (all_numbers others)
+    named_of_all i = ap (times i) (flat_map-append (λ (x : PartView). x.named ++ x.cut) some others) ∙ times-append i (all_numbers some) (all_numbers others)
+
+    pieces_of_all : (i : ℕ) → times i (pieces_among task (piece_count pieces) (claimed ++ more)) ≡ times i (pieces_among task (piece_count pieces) claimed) + times i (pieces_among task (piece_count pieces) more)
+    pieces_of_all i =
+        ap (times i) (flat_map-append (piece_of task (piece_count pieces)) claimed more)
+        ∙ times-append i (pieces_among task (piece_count pieces) claimed) (pieces_among task (piece_count pieces) more)
 
 -- two seats as one
 abbrev joined : BoardView → SeatView → SeatView → SeatView
@@ -151,17 +140,6 @@ once_chosen true n count total k is fewer below = let lower : n < count = below 
     below_once n total k is lower = grind (arith, nat_tests)
 once_chosen false n count total k is fewer below = refl
 
-second_of_both : (a b : Bool) → a && b ≡ true → b ≡ true
-second_of_both true b both = both
-second_of_both false b both = absurd (false≢true both)
-
-below_by_test : (n count : ℕ) → nat_lt n count ≡ true → n < count
-below_by_test n count told = grind (arith, nat_tests)
-
--- a piece that the task is dealt is one of the `count` pieces
-own_below : (task : Option TaskView) (count n : ℕ) → is_own_piece task count n ≡ true → n < count
-own_below task count n own = below_by_test n count (second_of_both (is_dealt task n) (nat_lt n count) own)
-
 -- claims that are the numbers below `total`, each once, and go past the pieces, are as many as the pieces at least
 passes_pieces : (count total : ℕ) (claimed : List ℕ) → total ≡ length claimed → IsEachOnceBelow total claimed → GoesPast count claimed → count ≤ total
 passes_pieces count total claimed number once (inr more) = omega arith
@@ -171,16 +149,20 @@ passes_pieces count total claimed number once (inl some) =
     let past : count ≤ some.1 = some.4 in
     omega arith
 
--- each piece that the task is dealt is among them once
-each_claimed : (task : Option TaskView) (count total : ℕ) (claimed : List ℕ) → total ≡ length claimed → IsEachOnceBelow total claimed → GoesPast count claimed → IsEachOwnOnce task count (pieces_among task count claimed)
-each_claimed task count total claimed number once past i =
+-- each piece that the task is dealt is among them once, where no others are claimed
+each_claimed : (task : Option TaskView) (count total : ℕ) (claimed : List ℕ) → total ≡ length claimed → IsEachOnceBelow total claimed → GoesPast count claimed → has_claims task ≡ false → IsEachOwnOnce task count (pieces_among task count claimed)
+each_claimed task count total claimed number once past none i =
     let all : count ≤ total = passes_pieces count total claimed number once past in
-    times_chosen (λ n. is_own_piece task count n) claimed i
+    times_own task count claimed i none
     ∙ once_chosen (is_own_piece task count i) i count total (times i claimed) (once i) all (own_below task count i)
 
--- the joined claims of all workers leave no piece out, so the parts name each piece that the task is dealt once
-pub each_named : (p : Problem) (pieces : CubeList) (task : Option TaskView) (nodes : Option ℕ) (race : Bool) (parts : List PartView) (claimed : List ℕ) (total : ℕ) → AreWholeWork p pieces task nodes race parts claimed → total ≡ length claimed → IsEachOnceBelow total claimed → IsEachOwnOnce task (piece_count pieces) (all_numbers parts)
-each_named p pieces task nodes race parts claimed total h number once = λ i. h.named i ∙ each_claimed task (piece_count pieces) total claimed number once h.past i
+-- the joined claims of all workers stand for no piece twice and leave none out, so the parts name each once at most, and where no
+-- others are claimed each that the task is dealt once
+pub each_named : (p : Problem) (pieces : CubeList) (task : Option TaskView) (nodes : Option ℕ) (race : Bool) (parts : List PartView) (claimed : List ℕ) (total : ℕ) → AreWholeWork p pieces task nodes race parts claimed → total ≡ length claimed → IsEachOnceBelow total claimed → ArePieces task (piece_count pieces) (all_numbers parts)
+each_named p pieces task nodes race parts claimed total h number once = record {
+  at_most_once = λ i. omega (arith, h.at_most i, once_at_most task (piece_count pieces) total i claimed once);
+  dealt = λ none i. h.named none i ∙ each_claimed task (piece_count pieces) total claimed number once h.past none i;
+}
 
 -- what some part names, where no part has a cut piece, it names as done
 named_as_done : (parts : List PartView) (i : ℕ) → (Any (λ (x : PartView). x.cut ≢ []) parts → ⊥) → Any (λ (x : PartView). Contains (x.named ++ x.cut) i) parts → Any (λ (x : PartView). Contains x.named i) parts
@@ -210,7 +192,7 @@ dealt_work p q pieces list task dealt nodes budget race in_race parts seen claim
     (subst (λ (r : Bool). AreDealtWork q list dealt budget r parts held some_cut) same_race (record {
       of_instance = work.of_instance;
       of_pieces = work.of_pieces;
-      each_once = each_named q list dealt budget in_race parts claimed total work number once;
+      pieces = each_named q list dealt budget in_race parts claimed total work number once;
       uncut = work.uncut;
       budget = work.budget;
       done = subst (λ (l : List PartView). All AreDone l) same done;
@@ -223,7 +205,7 @@ pub answer_of_work : (p : Problem) (pieces : CubeList) (nodes : Option ℕ) (rac
 answer_of_work p pieces nodes race parts held some_cut work = record {
   of_instance = work.of_instance;
   of_pieces = work.of_pieces;
-  each_once = work.each_once;
+  each_once = work.pieces.dealt refl;
   done = work.done;
   first = work.first;
   told = work.told;

@@ -12,7 +12,7 @@ use Rattle.pb_board.proofs.Counts.{times-append}
 use Rattle.pb_cubes.specs.Pieces.{CubeList}
 use Rattle.pb_search.specs.Done.{Division, IsDone}
 use Rattle.pb_workers.specs.Parts.{PartView, AreDone, IsNotBefore, all_numbers, division}
-use Rattle.pb_workers.specs.Dealing.{TaskView, AreDealtWork, AreNamesOf, IsAnswerOfTask, IsEachOwnOnce}
+use Rattle.pb_workers.specs.Dealing.{TaskView, AreDealtWork, AreNamesOf, ArePieces, IsAnswerOfTask}
 use Rattle.pb_workers.proofs.LeastLaws.{All-from_map, done_by_first}
 
 -- how often a number stands in either of two lists that parts give, and in both
@@ -31,14 +31,20 @@ times_both (part ∷ parts) i =
 times_shuffled : (xs ys : List ℕ) (i : ℕ) → IsPermutation xs ys → times i ys ≡ times i xs
 times_shuffled xs ys i moved = sum_by-IsPermutation (λ y. cond (y == i) 1 0) xs ys moved
 
--- the names together, as often as the parts have them
-named_once : (task : TaskView) (count : ℕ) (parts : List PartView) (done cut : List ℕ) → IsEachOwnOnce (Some task) count (all_numbers parts) → AreNamesOf (Some task) parts done cut → IsEachOwnOnce (Some task) count (done ++ cut)
-named_once task count parts done cut each names i =
+-- a number stands in the names together as often as the parts have it
+named_as_often : (task : TaskView) (parts : List PartView) (done cut : List ℕ) (i : ℕ) → AreNamesOf (Some task) parts done cut → times i (done ++ cut) ≡ times i (all_numbers parts)
+named_as_often task parts done cut i names =
     times-append i done cut
     ∙ ap (λ n. n + times i cut) (times_shuffled (flat_map (λ (x : PartView). x.named) parts) done i names.0)
     ∙ ap (λ n. times i (flat_map (λ (x : PartView). x.named) parts) + n) (times_shuffled (flat_map (λ (x : PartView). x.cut) parts) cut i names.1)
     ∙ times_both parts i
-    ∙ each i
+
+-- so the names are those of pieces, as the parts' are
+pieces_named : (task : TaskView) (count : ℕ) (parts : List PartView) (done cut : List ℕ) → ArePieces (Some task) count (all_numbers parts) → AreNamesOf (Some task) parts done cut → ArePieces (Some task) count (done ++ cut)
+pieces_named task count parts done cut pieces names = record {
+  at_most_once = λ i. omega (arith, named_as_often task parts done cut i names, pieces.at_most_once i);
+  dealt = λ none i. named_as_often task parts done cut i names ∙ pieces.dealt none i;
+}
 
 -- what holds of each number that some part names holds of all of them
 all_of_parts : (P : ℕ → Type 0) (parts : List PartView) → All (λ (x : PartView). All P x.named) parts → All P (flat_map (λ (x : PartView). x.named) parts)
@@ -68,7 +74,7 @@ answer_of_task p pieces task nodes race parts done cut held some_cut work names 
     let each : All (λ (x : PartView). All (λ i. IsDone d i held) x.named) parts =
     λ k part within. part_done_by_first p pieces held (get_or parts k part) is (work.of_instance k part within) (work.of_pieces k part within) (work.done k part within) (none_before k part within) in
     record {
-      each_once = named_once task (length pieces.cubes + 1) parts done cut work.each_once names;
+      named = pieces_named task (length pieces.cubes + 1) parts done cut work.pieces names;
       solution = is;
       are_done = All-permutation (λ i. IsDone d i held) (flat_map (λ (x : PartView). x.named) parts) done names.0 (all_of_parts (λ i. IsDone d i held) parts each);
     }

@@ -1,3 +1,4 @@
+pub mod NumberLaws
 pub mod AloneLaws
 pub mod ClaimLaws
 pub mod DealingLaws

@@ -1,8 +1,9 @@
 -- How the pieces that a worker claims are done one by one.
 use Rattle.std.proofs.Common.{◌≡◌, ℕ, ◌+◌, ◌<◌, ◌≤◌, List, [], ◌∷◌, ◌++◌, ◌⊎◌, inl, inr, Bool, true, false, cond, length, Option, None, Some, refl, sym, ◌∙◌, ap, subst, arith, rules, tests, length-append}
-use Rattle.std.specs.Prelude.{All, nat_lt, ◌&&◌, IfNone}
+use Rattle.std.specs.Prelude.{All, IfNone}
 use Rattle.std.specs.Option.{IfSome, option_map}
-use Rattle.std.proofs.lemmas.List.Elements.{All-nil, All-push, All-weaker, filter-append}
+use Rattle.std.proofs.lemmas.Bool.{false≢true}
+use Rattle.std.proofs.lemmas.List.Elements.{All-nil, All-push, All-weaker}
 use Rattle.pb_inst.specs.Problem.{Problem}
 use Rattle.pb_inst.specs.Incumbent.{Incumbent, Solution, IsSolution}
 use Rattle.pb_cubes.specs.Pieces.{CubeList}
@@ -12,8 +13,9 @@ use Rattle.pb_subtree.proofs.HeldLemmas.{improvement_on_earlier}
 use Rattle.pb_workers.specs.Parts.{PartView, AreCounted, AreDone}
 use Rattle.pb_subtree.specs.declared.outcome.Outcome.{Outcome}
 use Rattle.pb_subtree.specs.declared.outcome.Outcome.TheVariants.{Whole, Cut}
-use Rattle.pb_workers.specs.Dealing.{TaskView, is_dealt, is_own_piece}
-use Rattle.pb_workers.specs.Claims.{piece_count, pieces_among, AreDealt, EndsPast, IsWork, NamesOneMore}
+use Rattle.pb_workers.specs.Dealing.{TaskView, has_claims, numbers_for, piece_of}
+use Rattle.pb_workers.specs.Claims.{piece_count, pieces_among, AreDealt, AreNamed, EndsPast, IsWork, NamesOneMore}
+use Rattle.pb_workers.proofs.NumberLaws.{among_more, among_same, past_none}
 use Rattle.pb_workers.specs.Sharing.{BoardShareView, KeepsClaims, SameSeat}
 
 -- what is held is a solution, where anything is
@@ -68,26 +70,39 @@ dealt_by_outcome Whole all done cut done' cut' i dealt names =
 dealt_by_outcome Cut all done cut done' cut' i dealt names =
     subst (λ (l : List ℕ). AreDealt (all ++ i ∷ []) done' l) (sym names.1) (subst (λ (l : List ℕ). AreDealt (all ++ i ∷ []) l (cut ++ i ∷ [])) (sym names.0) (dealt_to_others all done cut i dealt))
 
-among_more : (task : Option TaskView) (count : ℕ) (claimed after : List ℕ) (i : ℕ) (own : Bool) → after ≡ claimed ++ i ∷ [] → is_own_piece task count i ≡ own → pieces_among task count after ≡ pieces_among task count claimed ++ cond own (i ∷ []) []
-among_more task count claimed after i own claim is =
-    ap (pieces_among task count) claim ∙ filter-append (λ n. is_own_piece task count n) claimed (i ∷ []) ∙ ap (λ b. pieces_among task count claimed ++ cond b (i ∷ []) []) is
+-- what is named, where one claim more stands for no piece
+pub still_named : (task : Option TaskView) (count : ℕ) (done cut claimed after : List ℕ) (n : ℕ) → AreNamed (has_claims task) (pieces_among task count claimed) done cut → after ≡ claimed ++ n ∷ [] → piece_of task count n ≡ [] → AreNamed (has_claims task) (pieces_among task count after) done cut
+still_named task count done cut claimed after n h claim none =
+    subst (λ (l : List ℕ). AreNamed (has_claims task) l done cut) (sym (among_same task count claimed after n claim none)) h
 
--- one more claim is a piece that the task is dealt, and is named
-pub dealt_more : (task : Option TaskView) (count : ℕ) (outcome : Outcome) (done cut done' cut' claimed after : List ℕ) (i : ℕ) → AreDealt (pieces_among task count claimed) done cut → NamesOneMore outcome i done cut done' cut' → after ≡ claimed ++ i ∷ [] → is_own_piece task count i ≡ true → AreDealt (pieces_among task count after) done' cut'
-dealt_more task count outcome done cut done' cut' claimed after i dealt names claim own =
-    subst (λ (l : List ℕ). AreDealt l done' cut') (sym (among_more task count claimed after i true claim own)) (dealt_by_outcome outcome (pieces_among task count claimed) done cut done' cut' i dealt names)
+-- where its piece is passed over
+pub passed_more : (task : Option TaskView) (count : ℕ) (done cut claimed after : List ℕ) (n piece : ℕ) → AreNamed (has_claims task) (pieces_among task count claimed) done cut → after ≡ claimed ++ n ∷ [] → piece_of task count n ≡ piece ∷ [] → has_claims task ≡ true → AreNamed (has_claims task) (pieces_among task count after) done cut
+passed_more task count done cut claimed after n piece h claim is claims =
+    subst (λ (l : List ℕ). AreNamed (has_claims task) l done cut) (sym (among_more task count claimed after n (piece ∷ []) claim is)) (record {
+      granted = h.granted;
+      passed = h.passed ++ piece ∷ [];
+      is_granted = dealt_to_others (pieces_among task count claimed) h.granted h.passed piece h.is_granted;
+      named = h.named;
+      all_granted = λ none. absurd (false≢true (sym none ∙ claims));
+    })
 
--- a number below the number of pieces is a piece
-is_piece : (n count : ℕ) → n < count → nat_lt n count ≡ true
-is_piece n count h = search (rules, tests)
+-- and where its piece is named
+pub named_more : (task : Option TaskView) (count : ℕ) (outcome : Outcome) (done cut done' cut' claimed after : List ℕ) (n piece : ℕ) → AreNamed (has_claims task) (pieces_among task count claimed) done cut → NamesOneMore outcome piece done cut done' cut' → after ≡ claimed ++ n ∷ [] → piece_of task count n ≡ piece ∷ [] → AreNamed (has_claims task) (pieces_among task count after) done' cut'
+named_more task count outcome done cut done' cut' claimed after n piece h names claim is =
+    subst (λ (l : List ℕ). AreNamed (has_claims task) l done' cut') (sym (among_more task count claimed after n (piece ∷ []) claim is)) (record {
+      granted = h.granted ++ piece ∷ [];
+      passed = h.passed;
+      is_granted = dealt_to_some (pieces_among task count claimed) h.granted h.passed piece h.is_granted;
+      named = dealt_by_outcome outcome h.granted done cut done' cut' piece h.named names;
+      all_granted = h.all_granted;
+    })
 
--- whether the task is dealt a number, by whether it is a piece
-pub own_piece : (task : Option TaskView) (count i : ℕ) (told : Bool) → told ≡ is_dealt task i → i < count → is_own_piece task count i ≡ told
-own_piece task count i told is below = ap (λ b. is_dealt task i && b) (is_piece i count below) ∙ and_true (is_dealt task i) ∙ sym is
-  where
-    and_true : (b : Bool) → b && true ≡ b
-    and_true true = refl
-    and_true false = refl
+-- where the last claim is past all numbers
+pub named_past : (task : Option TaskView) (count numbers : ℕ) (done cut claimed after : List ℕ) → numbers ≡ numbers_for task count → AreNamed (has_claims task) (pieces_among task count claimed) done cut → (n : ℕ) × (numbers ≤ n) × (after ≡ claimed ++ n ∷ []) → AreNamed (has_claims task) (pieces_among task count after) done cut
+named_past task count numbers done cut claimed after all h (n, past, claim) = still_named task count done cut claimed after n h claim (past_none task count n (subst (λ (k : ℕ). k ≤ n) all past))
+
+pub ends_past : (task : Option TaskView) (count numbers : ℕ) (claimed after : List ℕ) → numbers ≡ numbers_for task count → (n : ℕ) × (numbers ≤ n) × (after ≡ claimed ++ n ∷ []) → EndsPast (numbers_for task count) after
+ends_past task count numbers claimed after all (n, past, claim) = record { front = claimed; last = n; ends = claim; no_piece = subst (λ (k : ℕ). k ≤ n) all past }
 
 -- without a budget each search is whole, by what it tells
 pub whole_by : (nodes : Option ℕ) (outcome : Outcome) → IfNone nodes (outcome ≡ Whole) → nodes ≡ None → outcome ≡ Whole
@@ -120,8 +135,15 @@ pub same_seat_kept : (s t : BoardShareView) → KeepsClaims s t → SameSeat s t
 same_seat_kept s t h = record { board = h.board; worker = h.worker; seat_of = h.seat_of; parts = h.parts }
 
 -- no claim is named yet
-pub none_named : (task : Option TaskView) (count : ℕ) (done cut claimed : List ℕ) → done ≡ [] → cut ≡ [] → claimed ≡ [] → AreDealt (pieces_among task count claimed) done cut
-none_named task count done cut claimed none_done none_cut unclaimed = subst (λ (l : List ℕ). AreDealt (pieces_among task count l) done cut) (sym unclaimed) (none_done, none_cut)
+pub none_named : (task : Option TaskView) (count : ℕ) (done cut claimed : List ℕ) → done ≡ [] → cut ≡ [] → claimed ≡ [] → AreNamed (has_claims task) (pieces_among task count claimed) done cut
+none_named task count done cut claimed none_done none_cut unclaimed =
+    subst (λ (l : List ℕ). AreNamed (has_claims task) (pieces_among task count l) done cut) (sym unclaimed) (record {
+      granted = [];
+      passed = [];
+      is_granted = (refl, refl);
+      named = (none_done, none_cut);
+      all_granted = λ _. refl;
+    })
 
 pub none_cut : (nodes : Option ℕ) (cut : List ℕ) → cut ≡ [] → IfNone nodes (cut ≡ [])
 none_cut None cut is = is
@@ -185,18 +207,18 @@ room_told X (Some budget) told n is room = subst (λ (o : Option ℕ). IfSome o 
 -- what a worker did, from what it claimed and named
 pub whole_work : (p : Problem) (pieces : CubeList) (task : Option TaskView) (nodes : Option ℕ) (race : Bool) (part : PartView) (claimed after named cut decisions cut_decisions : List ℕ) (count : ℕ) (best : Incumbent)
     → part ≡ record { pieces = pieces; named = named; cut = cut; decisions = decisions; cut_decisions = cut_decisions; best = best } → claimed ≡ after → count ≡ piece_count pieces → best.problem ≡ p
-    → AreDealt (pieces_among task count after) named cut → (race ≡ false → IfNone nodes (cut ≡ [])) → IfSome nodes (λ budget. AreCounted budget named decisions cut cut_decisions)
-    → length after ≤ count + 1 → EndsPast count after ⊎ (length after ≡ count + 1) → IsWork p pieces task nodes race part claimed
+    → AreNamed (has_claims task) (pieces_among task count after) named cut → (race ≡ false → IfNone nodes (cut ≡ [])) → IfSome nodes (λ budget. AreCounted budget named decisions cut cut_decisions)
+    → length after ≤ numbers_for task count + 1 → EndsPast (numbers_for task count) after ⊎ (length after ≡ numbers_for task count + 1) → IsWork p pieces task nodes race part claimed
 whole_work p pieces task nodes race part claimed after named cut decisions cut_decisions count best is same number of_instance names uncut budget most ends =
     subst (λ (x : PartView). IsWork p pieces task nodes race x claimed) (sym is)
     (subst (λ (l : List ℕ). IsWork p pieces task nodes race (record { pieces = pieces; named = named; cut = cut; decisions = decisions; cut_decisions = cut_decisions; best = best }) l) (sym same) (record {
       of_instance = of_instance;
       of_pieces = refl;
-      named = subst (λ (n : ℕ). AreDealt (pieces_among task n after) named cut) number names;
+      named = subst (λ (n : ℕ). AreNamed (has_claims task) (pieces_among task n after) named cut) number names;
       uncut = uncut;
       budget = budget;
-      most = subst (λ (n : ℕ). length after ≤ n + 1) number most;
-      ends = subst (λ (n : ℕ). EndsPast n after ⊎ (length after ≡ n + 1)) number ends;
+      most = subst (λ (n : ℕ). length after ≤ numbers_for task n + 1) number most;
+      ends = subst (λ (n : ℕ). EndsPast (numbers_for task n) after ⊎ (length after ≡ numbers_for task n + 1)) number ends;
     }))
 
 -- the named pieces are done in the part's own words

@@ -35,7 +35,7 @@ numbers_for task count = if has_claims task && nat_lt count (2 ^ 31) then 2 * co
 
 -- whether the number stands for a piece that another task is dealt
 abbrev pub is_for_others : Option TaskView → ℕ → ℕ → Bool
-is_for_others task count n = has_claims task && nat_lt n (numbers_for task count) && not (nat_lt n count) && not (is_dealt task (2 * count - (n + 1)))
+is_for_others task count n = has_claims task && (nat_lt n (numbers_for task count) && (not (nat_lt n count) && not (is_dealt task (2 * count - (n + 1)))))
 
 -- the piece that the number stands for, if any: itself, where the task is dealt that, and of numbers from `count` on the pieces that
 -- others are dealt, the last one first

@@ -3,7 +3,7 @@ ghost use Rattle.std.specs.Prelude.{◌≤◌, length};
 
 use crate::tests::note_texts::{DIGEST, assignment, below_first_line, bits_of, note};
 use pb_inst::{Assignment, Number};
-use pb_notes::{Exchange, Notes, looks_apart};
+use pb_notes::{Block, Exchange, Notes, looks_apart};
 use std::alloc::Global;
 use std::cell::{Cell, RefCell};
 use std::io::{self, Error, ErrorKind};
@@ -123,6 +123,21 @@ impl Notes for Shelf {
         Ok(())
     }
 
+    fn claim(
+        &self,
+        _worker: u32,
+        _block: Block,
+        _text: &[u8],
+        _room: &mut [u8],
+    ) -> io::Result<Option<usize>> {
+        self.call(b"c");
+        Ok(None)
+    }
+
+    fn tell_foreign(&self, _block: Block) {
+        self.call(b"?");
+    }
+
     fn tell(&self, _fault: &io::Error) {
         self.call(b"!");
     }
@@ -218,12 +233,19 @@ fn goes(
     true
 }
 
-/// The place of the first move that went otherwise than it says, in an exchange of `tasks` tasks.
-fn first_otherwise(rt: &impl Abort, alloc: Global, tasks: u32, moves: &[Move]) -> Option<usize> {
+/// The place of the first move that went otherwise than it says, in an exchange of `tasks` tasks of so many workers.
+fn first_otherwise(
+    rt: &impl Abort,
+    alloc: Global,
+    tasks: u32,
+    workers: u32,
+    moves: &[Move],
+) -> Option<usize> {
     let shelf = Shelf::new(alloc);
-    let mut exchange = Exchange::new(alloc, &shelf, DIGEST, VARS, TASK, tasks, 0).expect(
-        rt, "memory",
-    );
+    let mut exchange = Exchange::new(
+        alloc, &shelf, DIGEST, VARS, TASK, tasks, 0, workers,
+    )
+    .expect(rt, "memory");
     let mut first = None;
     for (place, step) in moves.iter().enumerate() {
         if !goes(rt, alloc, &mut exchange, &shelf, *step) {
@@ -234,10 +256,11 @@ fn first_otherwise(rt: &impl Abort, alloc: Global, tasks: u32, moves: &[Move]) -
     first
 }
 
-const SCENES: &[(&str, u32, &[Move])] = &[
+const SCENES: &[(&str, u32, u32, &[Move])] = &[
     (
         "looks are apart, and other tasks have their turns",
         3,
+        2,
         &[
             Move::Borrow(100, None),
             Move::Calls(b"r1r0r2"),
@@ -257,6 +280,7 @@ const SCENES: &[(&str, u32, &[Move])] = &[
     (
         "the first call of a piece looks",
         3,
+        2,
         &[
             Move::Borrow(100, None),
             Move::Calls(b"r1r0r2"),
@@ -272,6 +296,7 @@ const SCENES: &[(&str, u32, &[Move])] = &[
     (
         "the first look is at the task's own note",
         3,
+        2,
         &[
             Move::Put(1, 5, 0b0001),
             Move::Put(0, 3, 0b0010),
@@ -285,6 +310,7 @@ const SCENES: &[(&str, u32, &[Move])] = &[
     (
         "the first look goes on where there is no note",
         3,
+        2,
         &[
             Move::PutText(1, b"cost 5\nvalues 0\n"),
             Move::Put(2, 3, 0b0010),
@@ -295,6 +321,7 @@ const SCENES: &[(&str, u32, &[Move])] = &[
     (
         "the first look ends at a note that is too dear",
         3,
+        2,
         &[
             Move::Put(1, 5, 0b0001),
             Move::Put(0, 3, 0b0010),
@@ -305,6 +332,7 @@ const SCENES: &[(&str, u32, &[Move])] = &[
     (
         "what is found is written at the next look",
         3,
+        2,
         &[
             Move::Borrow(100, None),
             Move::Calls(b"r1r0r2"),
@@ -320,16 +348,66 @@ const SCENES: &[(&str, u32, &[Move])] = &[
             Move::Offer(-2, 0b0011),
             Move::Begin,
             Move::Borrow(-2, None),
-            Move::Calls(b"r1wr2"),
+            Move::Calls(b"r2"),
+            Move::Note(1, 7, 0b1000),
+            Move::Begin,
+            Move::Borrow(-2, None),
+            Move::Calls(b"r1wr0"),
             Move::Note(1, -2, 0b0011),
             Move::Begin,
             Move::Borrow(-2, None),
-            Move::Calls(b"r0"),
+            Move::Calls(b"r2"),
+        ],
+    ),
+    (
+        "from one writing to the next there are as many looks as other tasks",
+        5,
+        2,
+        &[
+            Move::Borrow(100, None),
+            Move::Calls(b"r1r2r?r?r0"),
+            Move::Offer(9, 0b0100),
+            Move::Begin,
+            Move::Borrow(9, None),
+            Move::Calls(b"r1wr2"),
+            Move::Offer(8, 0b1000),
+            Move::Begin,
+            Move::Borrow(8, None),
+            Move::Begin,
+            Move::Borrow(8, None),
+            Move::Offer(7, 0b0010),
+            Move::Begin,
+            Move::Borrow(7, None),
+            Move::Calls(b"r?r?r0"),
+            Move::Note(1, 9, 0b0100),
+            Move::Begin,
+            Move::Borrow(7, None),
+            Move::Calls(b"r1wr2"),
+            Move::Note(1, 7, 0b0010),
+        ],
+    ),
+    (
+        "the only worker of a task knows what it has written",
+        2,
+        1,
+        &[
+            Move::Borrow(100, None),
+            Move::Calls(b"r1r0"),
+            Move::Offer(9, 0b0100),
+            Move::Begin,
+            Move::Borrow(9, None),
+            Move::Calls(b"r1wr0"),
+            Move::Offer(8, 0b1000),
+            Move::Begin,
+            Move::Borrow(8, None),
+            Move::Calls(b"wr0"),
+            Move::Note(1, 8, 0b1000),
         ],
     ),
     (
         "what is taken over is passed on",
         3,
+        2,
         &[
             Move::Put(0, 5, 0b1010),
             Move::Borrow(100, Some(0b1010)),
@@ -346,6 +424,7 @@ const SCENES: &[(&str, u32, &[Move])] = &[
     (
         "what was not as it was told is not passed on",
         3,
+        2,
         &[
             Move::Put(0, -99, 0b1010),
             Move::Borrow(100, Some(0b1010)),
@@ -360,6 +439,7 @@ const SCENES: &[(&str, u32, &[Move])] = &[
     (
         "an own note that was not as it was told is written over",
         3,
+        2,
         &[
             Move::Put(1, -99, 0b1010),
             Move::Borrow(100, Some(0b1010)),
@@ -374,6 +454,7 @@ const SCENES: &[(&str, u32, &[Move])] = &[
     (
         "a better note of another worker of the task stays",
         3,
+        2,
         &[
             Move::Borrow(100, None),
             Move::Calls(b"r1r0r2"),
@@ -399,6 +480,7 @@ const SCENES: &[(&str, u32, &[Move])] = &[
     (
         "a better own note is looked at before it is written over",
         3,
+        2,
         &[
             Move::Borrow(100, None),
             Move::Calls(b"r1r0r2"),
@@ -416,6 +498,7 @@ const SCENES: &[(&str, u32, &[Move])] = &[
     (
         "an own note that came to tell what is not so is written over",
         3,
+        2,
         &[
             Move::Borrow(100, None),
             Move::Calls(b"r1r0r2"),
@@ -433,6 +516,7 @@ const SCENES: &[(&str, u32, &[Move])] = &[
     (
         "texts that are no notes are passed over",
         3,
+        2,
         &[
             Move::Borrow(100, None),
             Move::PutText(0, b"cost 5\nvalues 01100\n"),
@@ -450,6 +534,7 @@ const SCENES: &[(&str, u32, &[Move])] = &[
     (
         "faults are told, and later looks try again",
         3,
+        2,
         &[
             Move::Fail(true),
             Move::Borrow(100, None),
@@ -469,6 +554,7 @@ const SCENES: &[(&str, u32, &[Move])] = &[
     (
         "one task alone reads its own note",
         1,
+        2,
         &[
             Move::Put(1, 5, 0b0001),
             Move::Borrow(100, Some(0b0001)),
@@ -484,11 +570,13 @@ const SCENES: &[(&str, u32, &[Move])] = &[
     (
         "no task at all reads its own note",
         0,
+        2,
         &[Move::Borrow(100, None), Move::Calls(b"r1")],
     ),
     (
         "other lengths are passed over",
         3,
+        2,
         &[
             Move::Put(1, 5, 0b0110),
             Move::Longer(0b1_0000),
@@ -501,8 +589,8 @@ const SCENES: &[(&str, u32, &[Move])] = &[
 
 #[test]
 fn exchanges_go_as_told(rt: HostRuntime) {
-    for (name, tasks, moves) in SCENES {
-        let otherwise = first_otherwise(&rt, rt.alloc(), *tasks, *moves);
+    for (name, tasks, workers, moves) in SCENES {
+        let otherwise = first_otherwise(&rt, rt.alloc(), *tasks, *workers, *moves);
         assert!(rt; otherwise.is_none(), "{name}: {otherwise:?}");
     }
 }

@@ -1,16 +1,22 @@
-//! Notes in a folder of the system.
+//! Notes and claims in a folder of the system.
 
-use pb_notes::{Folder, Notes};
+use pb_notes::{Block, Folder, Notes};
 use std::alloc::AllocError;
 use std::os::unix::fs::symlink;
-use std::{env, fs};
+use std::{env, fs, io};
 
 /// How many tasks there are, and how many workers of each.
 const TASKS: u32 = 3;
 
 const WORKERS: u32 = 2;
 
-/// What is read of a note.
+/// The block that is claimed.
+const BLOCK: Block = Block {
+    task: 0,
+    number: 5,
+};
+
+/// What is read of a note or a claim.
 #[derive(Clone, Copy)]
 enum Found {
     /// All that it has, or its first ten bytes, for which there is room.
@@ -29,6 +35,8 @@ enum Call {
     WriteFails(u32),
     /// The note of a task is read, and this is found.
     Read(u32, Found),
+    /// A worker claims the block by this text, and this is found there.
+    Claim(u32, &'static [u8], Found),
 }
 
 /// What is put under a name, or is to be there.
@@ -55,8 +63,22 @@ enum Step {
 fn finds(notes: &Folder<'_, HostRuntime>, task: u32, expected: Found) -> bool {
     let mut room = [0; 10];
     let answer = notes.read(task, &mut room);
+    is_as_expected(answer, &room, expected)
+}
+
+/// Whether claiming the block finds what is expected.
+fn claims(notes: &Folder<'_, HostRuntime>, worker: u32, text: &[u8], expected: Found) -> bool {
+    let mut room = [0; 10];
+    let answer = notes.claim(worker, BLOCK, text, &mut room);
+    is_as_expected(answer, &room, expected)
+}
+
+/// Whether so many bytes were read into the room, or none, or there was a fault.
+fn is_as_expected(answer: io::Result<Option<usize>>, room: &[u8; 10], expected: Found) -> bool {
     match expected {
-        Found::Text(text) => matches!(answer, Ok(Some(len)) if &room[..len] == text),
+        Found::Text(text) => {
+            matches!(answer, Ok(Some(len)) if room[..len.min(room.len())] == *text)
+        }
         Found::Nothing => matches!(answer, Ok(None)),
         Found::Fault => answer.is_err(),
     }
@@ -68,6 +90,7 @@ fn goes(notes: &Folder<'_, HostRuntime>, call: Call) -> bool {
         Call::Write(worker, text) => notes.write(worker, text).is_ok(),
         Call::WriteFails(worker) => notes.write(worker, b"text").is_err(),
         Call::Read(task, expected) => finds(notes, task, expected),
+        Call::Claim(worker, text, expected) => claims(notes, worker, text, expected),
     }
 }
 
@@ -140,6 +163,36 @@ const SCENES: &[(&str, &[Step])] = &[
             Step::Ask(1, Call::Read(1, Found::Text(b"a longer o"))),
             Step::Ask(1, Call::WriteFails(2)),
             Step::Files(2),
+        ],
+    ),
+    // Of all who claim a block one does, and the others find its claim. No draft stays.
+    (
+        "a block is claimed once",
+        &[
+            Step::Ask(1, Call::Claim(0, b"of 1", Found::Fault)),
+            Step::Ask(1, Call::Make),
+            Step::Ask(1, Call::Claim(2, b"of 1", Found::Fault)),
+            Step::Ask(1, Call::Claim(0, b"of 1", Found::Nothing)),
+            Step::Ask(2, Call::Claim(0, b"of 2", Found::Text(b"of 1"))),
+            Step::Ask(1, Call::Claim(1, b"of 1", Found::Text(b"of 1"))),
+            Step::Files(1),
+        ],
+    ),
+    (
+        "what leads nowhere is nobody's claim",
+        &[
+            Step::Ask(1, Call::Make),
+            Step::Name("0.5.claim", Thing::Link("nowhere")),
+            Step::Ask(1, Call::Claim(0, b"of 1", Found::Fault)),
+            Step::Files(1),
+        ],
+    ),
+    (
+        "a folder is no claim",
+        &[
+            Step::Ask(1, Call::Make),
+            Step::Name("0.5.claim/in", Thing::Folder),
+            Step::Ask(1, Call::Claim(0, b"of 1", Found::Fault)),
         ],
     ),
     // A file that lies in the place of a draft is not opened: nothing is written through a link.

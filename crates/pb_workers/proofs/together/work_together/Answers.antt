@@ -1,10 +1,10 @@
-use Rattle.std.proofs.Common.{◌≡◌, ◌≢◌, ◌∙◌, ◌∷◌, [], ℕ, List, map, Option, None, IsTrue, ap, sym, subst}
+use Rattle.std.proofs.Common.{◌≡◌, ◌≢◌, ◌∙◌, ◌∷◌, [], ℕ, List, map, Option, None, IsTrue, ap, refl, sym, subst}
 use Rattle.std.specs.Prelude.{All, Any, IfNone}
 use Rattle.pb_inst.specs.Problem.{Problem}
 use Rattle.std.specs.Option.{IfSome}
 use Rattle.pb_inst.specs.Incumbent.{Incumbent, IsSolution}
 use Rattle.pb_cubes.specs.Pieces.{CubeList}
-use Rattle.pb_workers.specs.Dealing.{TaskView, IsEachOwnOnce, AreNamesOf}
+use Rattle.pb_workers.specs.Dealing.{TaskView, ArePieces, AreNamesOf}
 use Rattle.pb_workers.specs.Claims.{piece_count}
 use Rattle.pb_workers.specs.Parts.{PartView, AreWhole, IsFirst, IsSettled, all_numbers}
 use Rattle.pb_cubes.specs.Solving.{HoldsLeast}
@@ -29,10 +29,10 @@ returns-clause-least g c = λ every uncut.
     let none = none_cut_told parts c.gather-cut.result (subst (λ (ps : List PartView). Any (λ (x : PartView). x.cut ≢ []) ps → IsTrue c.gather-cut.result) c.deref.ensures.value c.gather-cut.ensures.cut.1) uncut in
     let work = c.in_ok-parts.ensures.whole in
     let list = c.new-set.result.pieces.now in
-    let named : IsEachOwnOnce None (piece_count list) (all_numbers parts) =
-    subst (λ (t : Option TaskView). IsEachOwnOnce t (piece_count list) (all_numbers parts)) (c.new-set.ensures.lent.4 ∙ every)
+    let pieces : ArePieces None (piece_count list) (all_numbers parts) =
+    subst (λ (t : Option TaskView). ArePieces t (piece_count list) (all_numbers parts)) (c.new-set.ensures.lent.4 ∙ every)
     (each_named c.new-set.result.inst.now list c.new-set.result.task c.new-set.result.nodes c.new-set.result.is_race parts c.in_ok-parts.seat.claimed c.close.result.claims work c.close.ensures.count c.close.ensures.numbers) in
-    let whole : AreWhole list parts = all_named list parts work.of_pieces named none in
+    let whole : AreWhole list parts = all_named list parts work.of_pieces (pieces.dealt refl) none in
     subst (λ (p : Problem). HoldsLeast p c.gather-cut.new.into.held) (ap (λ (b : Incumbent). b.problem) c.in_ok-best.ensures)
     (c.gather-cut.ensures.least list (subst (λ (ps : List PartView). AreWhole list ps) (sym c.deref.ensures.value) whole))
 
