@@ -24,7 +24,7 @@ pub struct Block {
     pub number: u32,
 }
 
-/// The most blocks of one task: a task claims its pieces in so many calls at most, however many these are.
+/// The most blocks of one task, and thus the most claims of its pieces, however many these are.
 pub(crate) const MOST_BLOCKS: u32 = 64;
 
 impl Division {

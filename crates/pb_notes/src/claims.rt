@@ -136,7 +136,7 @@ impl<'n, N: Notes> Claims<'n, N> {
         }
     }
 
-    /// Whether the task has a block by the claim on it, of so many bytes, that was read.
+    /// Whether the task has a block by the claim on it, of `len` bytes, that was read.
     fn is_ours_by(&mut self, block: Block, len: usize) -> bool
         ensures { self.new ≡ self.old }
     {

@@ -146,10 +146,10 @@ impl<'n, N: Notes> Exchange<'n, N> {
     }
 
     /// Looks, at the first call after `begin` and then at each `looks_apart`-th one: writes what is to be written, and reads one
-    /// note. From one writing to the next there are as many looks as there are other tasks, which need about so many looks of their
-    /// own to read it. At the first look the note is the task's own, or, where it has none, that of the next task that has one; at
-    /// a later look it is that of the next other task in turn. Where the task's own note turns out to tell less than what is to be
-    /// written, that one is read.
+    /// note. From one writing to the next there are as many looks as there are other tasks, each of which reads the note about once
+    /// in as many looks of its own. At the first look the note that is read is the task's own, or, where it has none, that of the
+    /// next task that has one; at a later look it is that of the next other task in turn. Where the task's own note turns out to
+    /// tell less than what is to be written, that one is read.
     ///
     /// Where the note tells a cost below the given one, which is that of the best assignment of the search, answers true and
     /// copies its values into the assignment. They need not cost what the note tells, nor be feasible. Where the search takes

@@ -117,8 +117,16 @@ pub(crate) fn piece_at(task: &Option<Task>, count: u32, number: u32) -> Option<u
     ensures none { IfNone result (piece_of task.now count number ≡ []) }
 {
     if number < count {
-        return if has_piece(task, number) { Some(number) } else { None };
+        return if has_piece(task, number) {
+            Some(number)
+        } else {
+            None
+        };
     }
     let piece = 2 * count - (number + 1);
-    if has_piece(task, piece) { None } else { Some(piece) }
+    if has_piece(task, piece) {
+        None
+    } else {
+        Some(piece)
+    }
 }

@@ -233,7 +233,7 @@ fn goes(
     true
 }
 
-/// The place of the first move that went otherwise than it says, in an exchange of `tasks` tasks of so many workers.
+/// The place of the first move that went otherwise than it says, in an exchange of `tasks` tasks, each of `workers` workers.
 fn first_otherwise(
     rt: &impl Abort,
     alloc: Global,
@@ -242,10 +242,9 @@ fn first_otherwise(
     moves: &[Move],
 ) -> Option<usize> {
     let shelf = Shelf::new(alloc);
-    let mut exchange = Exchange::new(
-        alloc, &shelf, DIGEST, VARS, TASK, tasks, 0, workers,
-    )
-    .expect(rt, "memory");
+    let mut exchange = Exchange::new(alloc, &shelf, DIGEST, VARS, TASK, tasks, 0, workers).expect(
+        rt, "memory",
+    );
     let mut first = None;
     for (place, step) in moves.iter().enumerate() {
         if !goes(rt, alloc, &mut exchange, &shelf, *step) {

@@ -11,10 +11,7 @@ const TASKS: u32 = 3;
 const WORKERS: u32 = 2;
 
 /// The block that is claimed.
-const BLOCK: Block = Block {
-    task: 0,
-    number: 5,
-};
+const BLOCK: Block = Block { task: 0, number: 5 };
 
 /// What is read of a note or a claim.
 #[derive(Clone, Copy)]
@@ -73,7 +70,7 @@ fn claims(notes: &Folder<'_, HostRuntime>, worker: u32, text: &[u8], expected: F
     is_as_expected(answer, &room, expected)
 }
 
-/// Whether so many bytes were read into the room, or none, or there was a fault.
+/// Whether what was read into the room is what is expected.
 fn is_as_expected(answer: io::Result<Option<usize>>, room: &[u8; 10], expected: Found) -> bool {
     match expected {
         Found::Text(text) => {
