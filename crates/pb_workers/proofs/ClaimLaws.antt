@@ -192,7 +192,7 @@ dealt_work p q pieces list task dealt nodes budget race in_race parts seen claim
     (subst (λ (r : Bool). AreDealtWork q list dealt budget r parts held some_cut) same_race (record {
       of_instance = work.of_instance;
       of_pieces = work.of_pieces;
-      pieces = each_named q list dealt budget in_race parts claimed total work number once;
+      named = each_named q list dealt budget in_race parts claimed total work number once;
       uncut = work.uncut;
       budget = work.budget;
       done = subst (λ (l : List PartView). All AreDone l) same done;
@@ -205,7 +205,7 @@ pub answer_of_work : (p : Problem) (pieces : CubeList) (nodes : Option ℕ) (rac
 answer_of_work p pieces nodes race parts held some_cut work = record {
   of_instance = work.of_instance;
   of_pieces = work.of_pieces;
-  each_once = work.pieces.dealt refl;
+  each_once = work.named.dealt refl;
   done = work.done;
   first = work.first;
   told = work.told;

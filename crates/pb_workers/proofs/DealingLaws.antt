@@ -74,7 +74,7 @@ answer_of_task p pieces task nodes race parts done cut held some_cut work names 
     let each : All (λ (x : PartView). All (λ i. IsDone d i held) x.named) parts =
     λ k part within. part_done_by_first p pieces held (get_or parts k part) is (work.of_instance k part within) (work.of_pieces k part within) (work.done k part within) (none_before k part within) in
     record {
-      named = pieces_named task (length pieces.cubes + 1) parts done cut work.pieces names;
+      named = pieces_named task (length pieces.cubes + 1) parts done cut work.named names;
       solution = is;
       are_done = All-permutation (λ i. IsDone d i held) (flat_map (λ (x : PartView). x.named) parts) done names.0 (all_of_parts (λ i. IsDone d i held) parts each);
     }

@@ -188,6 +188,18 @@ counted_where None outcome i n done decisions cut cut_decisions done' decisions'
 counted_where (Some budget) outcome i n done decisions cut cut_decisions done' decisions' cut' cut_decisions' names counts within used_up h =
     counted_of_more budget outcome i n done decisions cut cut_decisions done' decisions' cut' cut_decisions' names counts within (λ is_cut. let same : Some budget ≡ Some n = used_up is_cut in cc) h
 
+-- they are counted as before, where the lists are as before
+pub counted_as : (nodes : Option ℕ) (done decisions cut cut_decisions done' decisions' cut' cut_decisions' : List ℕ)
+    → done' ≡ done → decisions' ≡ decisions → cut' ≡ cut → cut_decisions' ≡ cut_decisions
+    → IfSome nodes (λ budget. AreCounted budget done decisions cut cut_decisions) → IfSome nodes (λ budget. AreCounted budget done' decisions' cut' cut_decisions')
+counted_as None done decisions cut cut_decisions done' decisions' cut' cut_decisions' same_done same_decisions same_cut same_cut_decisions h = tt
+counted_as (Some budget) done decisions cut cut_decisions done' decisions' cut' cut_decisions' same_done same_decisions same_cut same_cut_decisions h = record {
+  counted = ap length same_decisions ∙ h.counted ∙ sym (ap length same_done);
+  within = subst (λ (l : List ℕ). All (λ n. n ≤ budget) l) (sym same_decisions) h.within;
+  cut_counted = ap length same_cut_decisions ∙ h.cut_counted ∙ sym (ap length same_cut);
+  used_up = subst (λ (l : List ℕ). All (λ n. n ≡ budget) l) (sym same_cut_decisions) h.used_up;
+}
+
 -- and they are counted by what is told of the search
 pub counted_more : (nodes told : Option ℕ) (outcome : Outcome) (i n : ℕ) (done decisions cut cut_decisions done' decisions' cut' cut_decisions' : List ℕ)
     → told ≡ option_map (λ _. n) nodes → NamesOneMore outcome i done cut done' cut' → IfSome told (λ k. NamesOneMore outcome k decisions cut_decisions decisions' cut_decisions')

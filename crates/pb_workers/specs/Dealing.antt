@@ -57,7 +57,7 @@ pub record ArePieces (task : Option TaskView) (count : ℕ) (numbers : List ℕ)
 pub record AreDealtWork (p : Problem) (pieces : CubeList) (task : Option TaskView) (nodes : Option ℕ) (race : Bool) (parts : List PartView) (held : Option Solution) (some_cut : Bool) : Type 0 where
   pub of_instance : All (λ part. part.best.problem ≡ p) parts
   pub of_pieces : All (λ part. part.pieces ≡ pieces) parts
-  pub pieces : ArePieces task (length pieces.cubes + 1) (all_numbers parts)
+  pub named : ArePieces task (length pieces.cubes + 1) (all_numbers parts)
   pub uncut : race ≡ false → IfNone nodes (All (λ part. part.cut ≡ []) parts)
   pub budget : IfSome nodes (λ budget. All (KeepsBudget budget) parts)
   pub done : All AreDone parts

@@ -102,6 +102,7 @@ fn search_with_notes<'i, R: Threads + Sync, N: Notes + Sync>(
 ) -> Result<TaskAnswer<'i>, SolveFault>
     requires task { line.now.task < line.now.tasks }
     requires same_variables { prepared.now.pieces.vars ≡ prepared.now.instance.vars }
+    requires exchange { is_some line.now.exchange ≡ true }
     ensures same_instance { IfOk result (λ answer. answer.best.problem ≡ prepared.now.instance) }
     ensures answer { IfOk result (λ answer. IsAnswerOfTask prepared.now.instance prepared.now.pieces (task_of line.now) answer.done.items answer.cut.items answer.best.held) }
     ensures no_budget { IfNone line.now.nodes (IfOk result (λ answer. answer.cut.items ≡ [])) }
