@@ -35,13 +35,7 @@ pub fn search<'i, R: Threads + Sync, N: Notes + Sync + Drop, P: Places<N>, E: Wr
     }
     match place_of(alloc, line, pieces, places, err)? {
         Some(notes) => search_with_notes(rt, alloc, line, prepared, &notes),
-        None => search_with(
-            rt,
-            alloc,
-            line,
-            prepared,
-            None::<&Correspondence<'_, NoNotes>>,
-        ),
+        None => search_without_notes(rt, alloc, line, prepared),
     }
 }
 
@@ -124,6 +118,24 @@ fn search_with_notes<'i, R: Threads + Sync, N: Notes + Sync>(
     if let Err(fault) = leave_note(alloc, notes, &prepared.digest, &answer.best) {
         notes.tell(&fault);
     }
+    Ok(answer)
+}
+
+/// Searches the pieces that the task is dealt, and no others.
+fn search_without_notes<'i, R: Threads + Sync>(
+    rt: &R,
+    alloc: Global,
+    line: &Line<'_>,
+    prepared: &'i Prepared,
+) -> Result<TaskAnswer<'i>, SolveFault>
+    requires task { line.now.task < line.now.tasks }
+    requires same_variables { prepared.now.pieces.vars ≡ prepared.now.instance.vars }
+    ensures same_instance { IfOk result (λ answer. answer.best.problem ≡ prepared.now.instance) }
+    ensures answer { IfOk result (λ answer. IsAnswerOfTask prepared.now.instance prepared.now.pieces (task_of line.now) answer.done.items answer.cut.items answer.best.held) }
+    ensures no_budget { IfNone line.now.nodes (IfOk result (λ answer. answer.cut.items ≡ [])) }
+{
+    let nobody = None::<&Correspondence<'_, NoNotes>>;
+    let answer = search_with(rt, alloc, line, prepared, nobody)?;
     Ok(answer)
 }
 
