@@ -306,7 +306,7 @@ enum Made {
     WithCliques,
 }
 
-fn made(alloc: Global, instance: &Instance, way: Made) -> Result<Normal, Memory> {
+fn form_made(alloc: Global, instance: &Instance, way: Made) -> Result<Normal, Memory> {
     match way {
         Made::OfAllRows => normalise(alloc, instance),
         Made::WithCliques => normalise_merged(alloc, instance),
@@ -314,9 +314,9 @@ fn made(alloc: Global, instance: &Instance, way: Made) -> Result<Normal, Memory>
 }
 
 fn normal_form(rt: &impl Abort, alloc: Global, instance: &Instance, way: Made) -> Normal {
-    match made(alloc, instance, way) {
+    match form_made(alloc, instance, way) {
         Ok(form) => form,
-        Err(_) => made(alloc, instance, way).expect(rt, "memory"),
+        Err(_) => form_made(alloc, instance, way).expect(rt, "memory"),
     }
 }
 

@@ -74,7 +74,7 @@ fn claims(notes: &Folder<'_, HostRuntime>, worker: u32, text: &[u8], expected: F
 fn is_as_expected(answer: io::Result<Option<usize>>, room: &[u8; 10], expected: Found) -> bool {
     match expected {
         Found::Text(text) => {
-            matches!(answer, Ok(Some(len)) if room[..len.min(room.len())] == *text)
+            matches!(answer, Ok(Some(len)) if &room[..len.min(room.len())] == text)
         }
         Found::Nothing => matches!(answer, Ok(None)),
         Found::Fault => answer.is_err(),
