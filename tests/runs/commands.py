@@ -641,7 +641,7 @@ TASK = [
     *(
         Row(
             f"--split 1 --task 1 --tasks 3 --exchange {folder} tie.opb",
-            part("1 of 3", FILES["tie.opb"], IN_THREE, " 1") + ATTAINED,
+            part("1 of 3", FILES["tie.opb"], IN_THREE, " 0 1 2") + ATTAINED,
             f"pbcube_task: cannot exchange {folder}/{note}: invalid input parameter\n",
             10,
             files=files,
