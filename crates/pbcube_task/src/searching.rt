@@ -150,7 +150,7 @@ fn search_with<'i, R: Threads + Sync, N: Notes + Sync>(
     requires task { line.now.task < line.now.tasks }
     requires same_variables { prepared.now.pieces.vars ≡ prepared.now.instance.vars }
     ensures same_instance { IfOk result (λ answer. answer.best.problem ≡ prepared.now.instance) }
-    ensures answer { IfOk result (λ answer. IsAnswerOfTask prepared.now.instance prepared.now.pieces (record { number = line.now.task; tasks = line.now.tasks; claims = is_some with }) answer.done.items answer.cut.items answer.best.held) }
+    ensures answer { IfOk result (λ answer. IsAnswerOfTask prepared.now.instance prepared.now.pieces (record { number = line.now.task; tasks = line.now.tasks; claims = is_some with.entry }) answer.done.items answer.cut.items answer.best.held) }
     ensures no_budget { IfNone line.now.nodes (IfOk result (λ answer. answer.cut.items ≡ [])) }
 {
     let Some(task) = Task::new(line.task, line.tasks, with.is_some()) else {
