@@ -222,6 +222,25 @@ class Array:
         return 2
 
 
+class Items:
+    """An array of names or constraints of another package, which has an index and a truth value only where it has one item."""
+
+    def __init__(self, *items):
+        self.items = items
+
+    def __len__(self):
+        return len(self.items)
+
+    def __iter__(self):
+        return iter(self.items)
+
+    def __index__(self):
+        raise TypeError("only integer scalar arrays can be converted to a scalar index")
+
+    def __bool__(self):
+        raise ValueError("the truth value of an array is ambiguous")
+
+
 def number_facts():
     """Numbers of other packages on either side."""
     model = Model()
@@ -239,6 +258,7 @@ def number_facts():
     model.at_most(Whole(1), [x, y])
     yield "values and counts", model.solve(Whole(9), start={"x": Whole(1), "y": None}).values == (False, False)
     yield "variables", len(model.variables(Whole(2))) == 2
+    yield "an array of names", repr(model.variables(Items("u", "v"))) == "[u, v]"
 
 
 def other_name_facts():
@@ -248,7 +268,9 @@ def other_name_facts():
     cases = (
         (lambda: x // 2, "2 * q <= x + y"), (lambda: (x + y) // 2, "x / 2 is half"), (lambda: 7 // x, "2 * q"), (lambda: x % 2, "2 * q + r"),
         (lambda: 5 % (x + y), "remainder"), (lambda: x**2, "write x for x ** 2"), (lambda: (x + y) ** 2, "each product"),
-        (lambda: abs(x - y), "x - y >= -1"), (lambda: min(x, y), "model.implies(z, x)"), (lambda: max(x, y), "model.implies(x, z)"),
+        (lambda: abs(x - y), "x - y >= -1"), (lambda: abs(x - y), "a sum z of new variables"),
+        (lambda: model.add(Items(x >= 1, y >= 1)), "add each by itself"), (lambda: model.solve(nodes=Items(1, 2)), "a whole number of decisions"),
+        (lambda: model.solve(workers=Items(1, 2)), "a whole number from"), (lambda: min(x, y), "model.implies(z, x)"), (lambda: max(x, y), "model.implies(x, z)"),
         (lambda: x / y, "x >= 2 * y"), (lambda: 2 / x, "x / 2"), (lambda: (x + y) / (x + 1), "x >= 2 * y"), (lambda: int(x), "answer[x]"),
         (lambda: float(x + y), "answer.value(x + y)"), (lambda: x >> y, "model.implies(x, y)"), (lambda: x == y == z, "or x == y == z"),
         (lambda: 1 if x else 0, "answer[x]"), (lambda: (x >= 1) & (y >= 1), "add each by itself"), (lambda: True & (x >= 1), "by itself"),

@@ -644,7 +644,8 @@ def _names_of(count: object) -> List[Optional[str]]:
     """A name or none for each of the variables that are asked for."""
     if isinstance(count, str):
         return [*_words_of(count)]
-    if isinstance(count, SupportsIndex):
+    # An array of names has an index too, which numpy refuses where it has several.
+    if isinstance(count, SupportsIndex) and not isinstance(count, Iterable):
         number = index(count)
         if not 0 <= number <= MOST_VARIABLES:
             raise Error("BadVariable", f"{number} variables are asked for: write a number from 0 to {MOST_VARIABLES}")

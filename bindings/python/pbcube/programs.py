@@ -66,7 +66,7 @@ class Workers:
 
 def _within(name: str, number: object, least: int, most: int) -> int:
     """The number, which is to be in its range."""
-    if not hasattr(number, "__index__"):
+    if not hasattr(number, "__index__") or hasattr(number, "__len__"):
         raise TypeError(f"{name} is a whole number from {least} to {most}, and not {number!r}")
     given = index(number)  # type: ignore[arg-type]
     if not least <= given <= most:

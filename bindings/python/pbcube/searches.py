@@ -46,7 +46,7 @@ def budget(nodes: Optional[int]) -> int:
     """The budget of decisions as the library takes it."""
     if nodes is None:
         return NO_LIMIT
-    if not hasattr(nodes, "__index__"):
+    if not hasattr(nodes, "__index__") or hasattr(nodes, "__len__"):
         other = "" if isinstance(nodes, float) else ": Model.read(path).solve() solves a file, and pbcube.solve(text) a text"
         raise TypeError(f"a budget is a whole number of decisions, and not {nodes!r}{other}")
     if not 0 <= index(nodes) < NO_LIMIT:

@@ -201,8 +201,8 @@ class _Operand:
 
     def __abs__(self) -> NoReturn:
         raise TypeError(
-            "a sum has no absolute value: add x - y <= 1 and x - y >= -1 for abs(x - y) <= 1; to minimise it, minimise a new variable z, "
-            "with z >= x - y and z >= y - x"
+            "a sum has no absolute value: add x - y <= 1 and x - y >= -1 for abs(x - y) <= 1; to minimise it, minimise a sum z of new "
+            "variables that can be as great as the value, with z >= x - y and z >= y - x"
         )
 
     def __rtruediv__(self, other: NoReturn) -> NoReturn:
@@ -523,7 +523,7 @@ def as_constraint(value: object) -> Constraint:
         raise TypeError(f"no constraint: {value!r}: compare it, as {value!r} >= 1")
     if isinstance(value, str):
         raise TypeError(f"no constraint: {value!r}: write it with variables, as x + y >= 1; Model.read reads a text")
-    if isinstance(value, (list, tuple, set)) or hasattr(value, "__next__"):
+    if isinstance(value, (list, tuple, set)) or hasattr(value, "__next__") or hasattr(value, "__len__"):
         raise TypeError(f"no constraint: {value!r}: add each by itself, as in for rule in rules: model.add(rule)")
     is_truth = hasattr(value, "__bool__") and not (value is None or isinstance(value, (int, float, complex)))
     raise TypeError(f"no constraint: {value!r}{': write bool(value) where it is a truth value' if is_truth else ''}")
