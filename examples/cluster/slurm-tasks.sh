@@ -22,7 +22,7 @@ refuse() {
 }
 
 has_end() { # whether a report has its status, and the values that belong to it up to the end of their line
-  tail -n 1 "$1" | grep -qE '^(v|s UNKNOWN$)' && tail -c 1 "$1" | grep -qx ''
+  tail -n 1 "$1" | grep -qE $'^(v|s UNKNOWN\r?$)' && tail -c 1 "$1" | grep -qx ''
 }
 
 is_cut_off() { # whether it is the beginning of a task's report, or of nothing but zeros

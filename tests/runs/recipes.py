@@ -18,7 +18,7 @@ from pathlib import Path
 sys.dont_write_bytecode = True
 sys.path.insert(0, str(Path(__file__).resolve().parents[1]))
 from lib import PROGRAMS, SECONDS, TOP, Ended, program, ran, run, side_by_side
-from lib.reports import ALL_REFUSED, run_again
+from lib.reports import ALL_REFUSED, in_no_report, run_again
 
 CLUSTER = TOP / "examples/cluster"
 DIVIDERS = ("pbcube_pieces", "pbcube_join")
@@ -306,6 +306,7 @@ class OfTasks(Recipes):
 
     def of_parallel(self):
         yield from self.of_lost_tasks()
+        yield from self.of_lost_claims()
         yield from self.of_other_words()
         yield from self.of_strange_reports()
         yield from self.of_few_decisions()
@@ -315,6 +316,8 @@ class OfTasks(Recipes):
     def of_lost_tasks(self):
         folder = self.room / "parallel"
         for path, lost in (("no solver", range(self.TASKS)), ("a killed task", [self.KILLED])):
+            if path == "a killed task":  # it was lost before too, with all pieces claimed, so no other task takes its pieces first
+                self.claim_all(folder, self.KILLED)
             ended = self.parallel(folder, path=path)
             if "OPTIMUM" in ended.out or not ended.err.endswith(run_again("tasks", lost)):
                 yield f"parallel-tasks.sh, {path}: {ended}"
@@ -329,6 +332,29 @@ class OfTasks(Recipes):
             yield from self.of_lost_report(folder, 1, part)
         if (ended := self.parallel(folder)) != self.answer:
             yield f"parallel-tasks.sh, all reports are there: {ended}"
+
+    def claim_all(self, folder, number):
+        """Has a task claim all pieces, and loses its report."""
+        words = ("--split", self.SPLIT, "--task", number, "--tasks", self.TASKS, "--exchange", folder / "notes")
+        run("pbcube_task", *words, self.file)
+
+    def of_lost_claims(self):
+        """A task has claimed all pieces, and its report is of a run without its claims. Then what the join says is done."""
+        folder = self.room / "lost claims"
+        self.claim_all(folder, self.KILLED)
+        words = ("--split", self.SPLIT, "--task", self.KILLED, "--tasks", self.TASKS)
+        report = run("pbcube_task", *words, self.file).out
+        (folder / f"{self.KILLED}.report").write_text(report)
+        unnamed = [it for it in range(int(report.splitlines()[1].split()[2])) if it % self.TASKS != self.KILLED]
+        others = [it for it in range(self.TASKS) if it != self.KILLED]
+        ended = self.parallel(folder)
+        if "OPTIMUM" in ended.out or not ended.err.endswith(in_no_report(unnamed) + run_again("tasks", others)):
+            yield f"parallel-tasks.sh, lost claims: {ended}"
+        for task in others:
+            for it in (folder / f"{task}.report", *(folder / "notes").glob(f"{task}.*.claim")):
+                it.unlink()
+        if (ended := self.parallel(folder)) != self.answer:
+            yield f"parallel-tasks.sh, after claims were removed: {ended}"
 
     def parts_of(self, report):
         """What a report is where it was cut off: within its heading, behind that, and within its values. One is zeros."""
@@ -556,8 +582,10 @@ class OfTasks(Recipes):
                 yield f"slurm-tasks.sh, once more, task {number}: {said}"
         if times_of(folder, f"{self.KILLED}.report") != old:
             yield "slurm-tasks.sh, once more: other tasks were run again"
-        if not all((folder / f"notes/{number}.note").exists() for number in range(self.TASKS)):
-            yield "slurm-tasks.sh: a task has left no note"
+        # the first task that ran has claimed all pieces, and the others have searched none
+        found = [it.stem for it in folder.glob("*.report") if "\nv " in it.read_text()]
+        if str(self.KILLED) not in found or not all((folder / f"notes/{number}.note").exists() for number in found):
+            yield f"slurm-tasks.sh: a task has left no note, of those that have found an assignment: {found}"
         if (logs := [it.name for it in folder.glob("task-*.log")]) != [f"task-{self.TASKS}.log"]:
             yield f"slurm-tasks.sh, once more: logs {logs}"
 
