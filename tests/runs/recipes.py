@@ -480,7 +480,9 @@ class OfTasks(Recipes):
         ended = self.parallel(folder)
         if (ended.out, ended.status) != (self.answer.out, self.answer.status):
             yield f"parallel-tasks.sh, {name} in the places {places}: {ended}"
-        if self.are_too_many(ended.err) or (ended.err != "") != is_fault:
+        # One task may find all pieces claimed and nothing to tell. Then it writes no note, and does not see what lies in its way.
+        may_be_unseen = ending == "0.new" and len(places) < self.TASKS and ended.err == ""
+        if self.are_too_many(ended.err) or ((ended.err != "") != is_fault and not may_be_unseen):
             yield f"parallel-tasks.sh, {name} in the places {places}: {ended.err!r}"
         if (kept := notes / "kept").exists() and kept.read_text() != "kept\n":
             yield f"parallel-tasks.sh, {name} in the places {places}: another file was written"

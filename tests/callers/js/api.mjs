@@ -276,9 +276,9 @@ async function workers() {
   for (let place = 0; place < 60; place++) {
     for (let other = 1; other <= 20; other++) await solver.clause([them[place], them[(place * other + other * other + 7) % 60]]);
   }
-  const pigeons = hardText(11);
+  const hard = hardText(60);
   const begun = performance.now();
-  await assert.rejects(solver.solveText(pigeons, { signal: AbortSignal.timeout(300) }), { name: "TimeoutError" });
+  await assert.rejects(solver.solveText(hard, { signal: AbortSignal.timeout(300) }), { name: "TimeoutError" });
   is(performance.now() - begun < 10_000, true, "an abort that takes longer");
   await refused("Busy", async () => {
     const first = solver.solve();
@@ -292,7 +292,7 @@ async function workers() {
   const gone = AbortSignal.abort(new Error("gone"));
   await assert.rejects(solver.solve({ signal: gone }), { message: "gone" });
   is((await solver.explain([them[0]])).status, "Satisfiable");
-  const asked = solver.solveText(pigeons);
+  const asked = solver.solveText(hard);
   setTimeout(() => solver.close(), 100);
   await refused("Ended", () => asked);
   is((await solver.solve()).status, "Satisfiable");
@@ -301,18 +301,11 @@ async function workers() {
   solver.close();
 }
 
-/** More pigeons than holes. */
-function hardText(holes) {
-  const at = (pigeon, hole) => pigeon * holes + hole + 1;
-  const places = Array.from({ length: holes }, (_, hole) => hole);
-  const lines = [];
-  for (let pigeon = 0; pigeon <= holes; pigeon++) {
-    lines.push(`${places.map((hole) => `1 x${at(pigeon, hole)}`).join(" ")} >= 1 ;`);
-    for (let other = 0; other < pigeon; other++) {
-      for (const hole of places) lines.push(`1 ~x${at(pigeon, hole)} 1 ~x${at(other, hole)} >= 1 ;`);
-    }
-  }
-  return lines.join("\n");
+/** Even numbers that are to add up to an odd one: a search has to go through nearly all their sums. */
+function hardText(count) {
+  const numbers = Array.from({ length: count }, (_, place) => 2 * (1000 + ((place * place * 37) % 499)));
+  const half = numbers.reduce((sum, number) => sum + number / 2, 0);
+  return `${numbers.map((number, place) => `${number} x${place + 1}`).join(" ")} = ${half % 2 === 0 ? half + 1 : half} ;`;
 }
 
 /** Each class has the methods that are declared, and no others. */
