@@ -29,6 +29,7 @@ from lib import PROCESSORS, TOP, ran, side_by_side
 
 INSTANCES = TOP / "tests/work"
 STEPS = 20_000_000
+LONGER = 30_000_000  # for two instances that take more than STEPS without a comment, since cliques are looked for
 SPARE = 2  # requests for memory that are allowed beyond those of today
 SECONDS = 60  # for the run of the compiled code, with checks, that stands beside the interpreter's
 SIDES = min(4, max(1, PROCESSORS // 2))  # parts of the cases that are run at the same time, each with a build of its own
@@ -39,33 +40,35 @@ MOST_BYTES = 120_000  # a comment of this length takes more steps than the bound
 
 @dataclass(frozen=True)
 class Today:
-    """What belongs to an instance today: the bytes of the comment that is put in, and the requests for memory of its run."""
+    """What belongs to an instance today: the bytes of the comment that is put in, the requests for memory of its run, and the steps
+    that bound it: those of all, or more where it takes more than these without a comment since cliques are looked for."""
 
     bytes: int
     requests: int
+    steps: int = STEPS
 
 
 TODAY = {
-    "aside": Today(36_500, 101),
+    "aside": Today(25_000, 110),
     "assignment": Today(71_300, 124),
     "chain": Today(5_500, 98),
     "clauses": Today(18_000, 95),
-    "colours": Today(27_000, 102),
+    "colours": Today(0, 224, LONGER),
     "cubes": Today(68_886, 328),
-    "cubes_of_a_contradiction": Today(3_888, 343),
+    "cubes_of_a_contradiction": Today(0, 355, LONGER),
     "cubes_of_last_variables": Today(93_887, 168),
-    "descent": Today(63_333, 119),
+    "descent": Today(63_333, 128),
     "garden": Today(64_443, 126),
     "groups": Today(5_500, 117),
     "knapsack": Today(4_100, 105),
     "long_row": Today(12_100, 109),
     "machines": Today(83_900, 127),
-    "met_rows": Today(37_220, 123),
+    "met_rows": Today(26_000, 131),
     "one_of_many": Today(8_886, 110),
-    "packages": Today(99_300, 123),
+    "packages": Today(99_300, 129),
     "short_knapsack": Today(36_300, 109),
     "ties": Today(31_109, 108),
-    "two_sides": Today(108_900, 124),
+    "two_sides": Today(108_900, 132),
     "unconstrained": Today(56_665, 85),
     "wide_knapsack": Today(7_776, 111),
 }
@@ -78,12 +81,12 @@ class End:
     said: str
     requests: int
 
-    def complaint(self, requests):
-        """What is wrong with it where `requests` requests for memory are allowed, or None."""
+    def complaint(self, requests, steps=STEPS):
+        """What is wrong with it where `requests` requests for memory and so many steps are allowed, or None."""
         if "run=ended" not in self.said or "status=0" not in self.said or "output=expected" not in self.said:
             return f"another report, or none ({self.said})"
         if "runners=2" not in self.said:
-            return f"more than {STEPS:,} steps"
+            return f"more than {steps:,} steps"
         if self.requests > requests:
             return f"{self.requests} requests for memory, where {requests - SPARE} were enough"
         return None
@@ -132,14 +135,18 @@ def ends(top, cases, steps=STEPS, sides=SIDES):
 
 
 def ends_of(top, names, steps=STEPS, sides=1):
-    """The same on the instances of these names, each with its comment."""
-    return ends(top, {name: (name, TODAY[name].bytes) for name in names}, steps, sides)
+    """The same on the instances of these names, each with its comment. Those with a bound of their own run apart."""
+    cases = {name: (name, TODAY[name].bytes) for name in names}
+    longer = {name: it for name, it in cases.items() if TODAY[name].steps > STEPS}
+    usual = {name: it for name, it in cases.items() if name not in longer}
+    runs = [(part, most, count) for part, most, count in ((usual, steps, sides), (longer, max(steps, LONGER), 1)) if part]
+    return {name: end for ended in side_by_side(lambda it: ends(top, *it), runs) for name, end in ended.items()}
 
 
 def complaints(top, chosen=()):
     """What is wrong with the runs of the repository in that folder on the chosen instances, or on all, one line for each."""
     ended = ends_of(top, chosen) if chosen else ends_of(top, instances(), sides=SIDES)
-    wrong = {name: end.complaint(TODAY[name].requests + SPARE) for name, end in ended.items()}
+    wrong = {name: end.complaint(TODAY[name].requests + SPARE, TODAY[name].steps) for name, end in ended.items()}
     return [f"{name}: {said}" for name, said in wrong.items() if said]
 
 
