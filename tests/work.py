@@ -82,7 +82,7 @@ class End:
     requests: int
 
     def complaint(self, requests, steps=STEPS):
-        """What is wrong with it where `requests` requests for memory and so many steps are allowed, or None."""
+        """What is wrong with it where `requests` requests for memory and `steps` steps are allowed, or None."""
         if "run=ended" not in self.said or "status=0" not in self.said or "output=expected" not in self.said:
             return f"another report, or none ({self.said})"
         if "runners=2" not in self.said:
