@@ -39,7 +39,7 @@ WIDE = "min: ;\n= 0 ;\n-170141183460469231731687303715884 x2 >= -9 ;\n"
 OWN_CUBES = "p inccnf\n1 20 0\na 1 0\n"  # one, of twenty variables
 
 
-ONE_PIECE = "pbcube: one worker searches the one piece: --split divides the work among several\n"
+ONE_PIECE = "pbcube: one worker searches the one piece: a greater --split divides the work among several\n"
 FIRST = "o 3\ns OPTIMUM FOUND\nv x1 -x2 x3\n"
 SECOND = "o 3\ns OPTIMUM FOUND\nv -x1 x2 -x3\n"
 ATTAINED = "o 3\ns SATISFIABLE\nv -x1 x2 -x3\n"
@@ -424,7 +424,7 @@ PBCUBE = [
     unread("broken.opb", "broken.opb"),
     unread("./none.opb", "./none.opb"),
     unread("''", ""),
-    unread("-", "-"),
+    refused_with_hint("pbcube", "-", "cannot read -", IS_STDIN),
     unread("--workers 4 broken.opb", "broken.opb"),
     unread("--cubes none.cubes tie.opb", "none.cubes"),
     unread("--cubes broken.cubes tie.opb", "broken.cubes"),
@@ -721,7 +721,7 @@ def again(*tasks):
     return run_again("tasks", tasks)
 
 
-UNNUMBERED = "the name has no number of a piece before its last dot: leave out the report of a whole run or of a join"
+UNNUMBERED = "the name has no number of a piece before its last dot: name the report of piece 7 7.report, and leave out that of a whole run or of a join"
 
 
 def number_row(name, number):

@@ -22,7 +22,7 @@ from lib import PROGRAMS, STATUSES, TOP, built, name_of, program, ran, side_by_s
 from lib.examples import divisions_of, examples, with_workers
 from lib.shown_commands import SHOWN
 
-ONE_PIECE = "pbcube: one worker searches the one piece: --split divides the work among several"
+ONE_PIECE = "pbcube: one worker searches the one piece: a greater --split divides the work among several"
 SPLITS = (0, 1, 6)  # of six variables: more pieces than workers
 FRESH = ["./pbcube examples/tie.opb", "./prove", "./test quick", "./test"]  # a newcomer's first commands: the program, and its tests
 

@@ -54,7 +54,8 @@ class Workers:
         told = 1 if workers is None else _within("workers", workers, 1, _MOST_WORKERS)
         program = cls(told, 0 if split is None else _within("split", split, 0, _MOST_SPLIT))
         if program.workers > 1 and program.split == 0 and format != "icnf":
-            warnings.warn("one worker searches the one piece: give split= too, such as split=8, which divides the work", stacklevel=3)
+            advice = "give split= too, such as split=8, and at most the number of variables"
+            warnings.warn(f"one worker searches the one piece: {advice}", stacklevel=3)
         return program
 
     def command(self, format: str, nodes: int) -> List[str]:

@@ -22,15 +22,6 @@ pub fn hint_on_instance(
     written(alloc, line)
 }
 
-/// What may help where the file of this name cannot be read.
-pub fn hint_on_name(name: &str) -> Option<&'static str> {
-    if name == "-" {
-        Some("/dev/stdin is the name of standard input")
-    } else {
-        None
-    }
-}
-
 /// What may help with the cubes over `vars` variables in the file of this name, whose text was refused.
 pub fn hint_on_cube_file(
     alloc: Global,

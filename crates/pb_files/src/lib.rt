@@ -30,7 +30,6 @@ pub use dividing::prepare;
 pub use dividing_fault::DivisionFault;
 pub use files::Files;
 pub use folders::Folders;
-pub use hints::hint_on_name;
 pub use listing::{Named, named_files};
 pub use parts::{PartReports, TaskReports, all_refuse_text, read_tasks};
 pub use pieces::write_pieces;

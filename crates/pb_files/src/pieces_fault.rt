@@ -1,7 +1,7 @@
 //! Why the pieces were not written.
 ghost use Rattle.std.specs.Prelude.{◌≡◌};
 
-use crate::hints::hint_on_name;
+use pb_hint::hint_on_name;
 use pb_read::ReadFault;
 use pb_write::WriteFault;
 use std::alloc::AllocError;

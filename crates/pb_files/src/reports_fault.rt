@@ -1,7 +1,7 @@
 //! What keeps reports from being joined.
 use crate::clue::Clue;
-use crate::hints::hint_on_name;
 use crate::quote::Quote;
+use pb_hint::hint_on_name;
 use pb_join::{PartRejection, Rejection};
 use pb_parts::PartFault;
 use pb_read::ReadFault;
@@ -31,7 +31,7 @@ pub enum IndexFault {
 #[derive(Clone, Copy, Debug, Error)]
 pub enum Refusal {
     /// Its name tells no piece.
-    #[error("the name has no number of a piece before its last dot: leave out the report of a whole run or of a join")]
+    #[error("the name has no number of a piece before its last dot: name the report of piece 7 7.report, and leave out that of a whole run or of a join")]
     NoNumber,
     /// An earlier file has the same name.
     #[error("the file is named twice")]

@@ -67,6 +67,15 @@ pub fn hint_on_cubes<'t>(text: &'t [u8], vars: u32, fault: ReadFault) -> Option<
     }
 }
 
+/// What may help where the file of this name cannot be read, if there is a hint to give.
+pub fn hint_on_name(name: &str) -> Option<&'static str> {
+    if name == "-" {
+        Some("/dev/stdin is the name of standard input")
+    } else {
+        None
+    }
+}
+
 /// A word that is likely to have caused a fault, and what to write in its place, where that is known.
 #[derive(Drop)]
 struct Culprit {

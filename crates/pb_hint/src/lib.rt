@@ -15,7 +15,7 @@ mod variables;
 
 pub use advice::Advice;
 pub use beginnings::{Beginning, foreign_bytes, has_control_bytes};
-pub use hints::{Hint, hint_on, hint_on_cubes};
+pub use hints::{Hint, hint_on, hint_on_cubes, hint_on_name};
 pub use lines::HintLine;
 pub use places::Place;
 pub use rules::Rule;

@@ -37,7 +37,7 @@ pub fn tell_of_one_piece<E: Write>(program: &str, workers: Workers, err: &mut E)
     if workers.get() > 1 {
         let _ = writeln!(
             err,
-            "{program}: one worker searches the one piece: --split divides the work among several"
+            "{program}: one worker searches the one piece: a greater --split divides the work among several"
         );
     }
 }

@@ -15,7 +15,8 @@ use crate::faults::{ProgramFault, tell};
 use crate::files::{Files, Rewind};
 use crate::parse::line;
 use clap::Error;
-use pb_line::{Untold, tell_fault, tell_range};
+use pb_hint::hint_on_name;
+use pb_line::{Untold, tell_fault, tell_hint, tell_range};
 use pb_solve::{Device, Options, Ran, RunFault, Status, report_memory, run};
 use std::alloc::Global;
 use std::io::{Empty, Read, Write};
@@ -26,7 +27,7 @@ const OPTIONS: [&str; 3] = ["--workers", "--split", "--nodes"];
 
 /// Runs the program on its words, of which the first is its own name, and answers its exit status. The input is fetched first,
 /// and where it can be opened the cube file, if there is one. After a run the output has the report on the texts of these
-/// files, in the format and with the split of the words; without a budget no piece was cut. With status 1 one line was written
+/// files, in the format and with the split of the words; without a budget no piece was cut. With status 1 a fault was written
 /// to the standard error, and with status 2 nothing was written to the output. Faults of the standard error are ignored.
 pub fn program<'a, R: Threads + Sync, F: Files, W: Write, E: Write>(
     rt: &R,
@@ -166,10 +167,13 @@ fn end_without_run<W: Write, E: Write>(fault: &Error, out: &mut Device<W>, err: 
     }
 }
 
-/// Writes one line to the standard error, whose own fault is ignored.
+/// Writes one line to the standard error, whose own fault is ignored, and perhaps a second one with what may help.
 fn end_at_fault<E: Write>(fault: ProgramFault<'_>, err: &mut E) -> u8
     ensures { result ≡ 1 }
 {
     let _ = tell(fault, err);
+    if let ProgramFault::CannotRead(name) = fault {
+        tell_hint("pbcube", hint_on_name(name), err);
+    }
     1
 }
