@@ -13,6 +13,7 @@ mod tables_source;
 mod weighs;
 
 pub use clauses::Clauses;
+pub use literal_lists::LiteralLists;
 pub use occurrences::{Occurrence, Occurs, UnitOccurrence, place_of};
 pub use pb_count::{Coefficient, Counter};
 use pb_inst::MAX_CONSTRAINTS;

@@ -35,6 +35,7 @@ impl Model for LiteralLists {
 }
 
 impl LiteralLists {
+    /// No lists. Takes no memory.
     pub fn new(alloc: Global) -> LiteralLists
         ensures { result ≡ [] }
     {
@@ -52,6 +53,7 @@ impl LiteralLists {
         let _lits = &self.lits;
     }
 
+    /// The number of lists.
     pub fn len(&self) -> usize
         ensures value { result ≡ length self.now }
         ensures small { result < 2 ^ 63 }
@@ -60,6 +62,7 @@ impl LiteralLists {
         self.spans.len()
     }
 
+    /// The i-th list, from 0.
     pub fn list(&self, i: usize) -> &[Lit]
         requires { i < length self.now }
         ensures { result.now ≡ slice_index_or self.now i [] }
