@@ -158,15 +158,9 @@ both_stand a lits i j l m first second differ one other one' other' met = elim (
       let turned = subst (λ (k : Literal). IsOneTrue a m k) one' (subst (λ (k : Literal). IsOneTrue a k (slice_index_or lits i m)) other' (one_of_two a lits j i m less first met)) in omega arith)
 ]
 
-at_mapped : {X Y : Type 0} (P : Y → Type 0) (f : X → Y) (xs : List X) (k : ℕ) (x : X) → k < length xs → x ≡ get_or xs k x → All P (map f xs) → P (f x)
-at_mapped P f [] k x within read h = absurd (omega arith)
-at_mapped P f (y ∷ ys) zero x within read h = subst (λ z. P (f z)) (sym read) (All-head P (f y) (map f ys) h)
-at_mapped P f (y ∷ ys) (suc k) x within read h = at_mapped P f ys k x (omega arith) read (All-tail P (f y) (map f ys) h)
-
-pub follows_from : {X : Type 0} (f : X → List Literal) (cliques : List X) (c : LinearConstraint) (l m : Literal) (k : ℕ) (x : X) → k < length cliques → x ≡ get_or cliques k x → IsClauseOf l m c
-    → ((a : List Bool) → Meets a (all_but_one (f x)) → IsOneTrue a l m) → FollowsFrom (map f cliques) c
+pub follows_from : (cliques : List (List Literal)) (c : LinearConstraint) (l m : Literal) (k : ℕ) → k < length cliques → IsClauseOf l m c → ((a : List Bool) → Meets a (all_but_one (slice_index_or cliques k [])) → IsOneTrue a l m) → FollowsFrom cliques c
 unfolding IsClauseOf FollowsFrom
-follows_from f cliques c l m k x within read clause has a say = (clause a).1 (has a (at_mapped (λ (lits : List Literal). Meets a (all_but_one lits)) f cliques k x within read say))
+follows_from cliques c l m k within clause has a say = (clause a).1 (has a (All-get_or (λ (lits : List Literal). Meets a (all_but_one lits)) cliques k [] within say))
 
 -- ---- the constraints that are kept
 
@@ -201,21 +195,21 @@ all_mapped : {X Y : Type 0} (P : Y → Type 0) (Q : X → Type 0) (f : X → Y) 
 all_mapped P Q f each [] h = All-nil P
 all_mapped P Q f each (x ∷ xs) h = All-cons P (f x) (map f xs) (each x (All-head Q x xs h)) (all_mapped P Q f each xs (All-tail Q x xs h))
 
-pub says_same : {X : Type 0} (f : X → List Literal) (cliques : List X) (p q : Problem) (kept : List LinearConstraint) → q.vars ≡ p.vars → q.objective ≡ p.objective → q.constraints ≡ kept ++ map (λ x. all_but_one (f x)) cliques
-    → Keeps (map f cliques) p.constraints kept → All (λ x. IsClique p (f x)) cliques → SaysTheSame p q
-says_same {X = X} f cliques p q kept vars objective constraints keeps are = record {
+pub says_same : (cliques : List (List Literal)) (p q : Problem) (kept : List LinearConstraint) → q.vars ≡ p.vars → q.objective ≡ p.objective → q.constraints ≡ kept ++ map all_but_one cliques
+    → Keeps cliques p.constraints kept → All (IsClique p) cliques → SaysTheSame p q
+says_same cliques p q kept vars objective constraints keeps are = record {
   vars = vars;
   objective = objective;
   feasible = λ a. (
     (λ met. let all = subst (All (Meets a)) constraints met in
-        keeps.whole a (all_left (Meets a) kept (map (λ x. all_but_one (f x)) cliques) all) (say a cliques (all_right (Meets a) kept (map (λ x. all_but_one (f x)) cliques) all))),
-    (λ met. subst (All (Meets a)) (sym constraints) (All-append (Meets a) kept (map (λ x. all_but_one (f x)) cliques) (keeps.sound a met)
-        (all_mapped (Meets a) (λ x. IsClique p (f x)) (λ x. all_but_one (f x)) (λ x clique. clique_met p (f x) a clique met) cliques are))),
+        keeps.whole a (all_left (Meets a) kept (map all_but_one cliques) all) (say a cliques (all_right (Meets a) kept (map all_but_one cliques) all))),
+    (λ met. subst (All (Meets a)) (sym constraints) (All-append (Meets a) kept (map all_but_one cliques) (keeps.sound a met)
+        (all_mapped (Meets a) (IsClique p) all_but_one (λ lits clique. clique_met p lits a clique met) cliques are))),
   );
 } where
-  say : (a : List Bool) (xs : List X) → All (Meets a) (map (λ x. all_but_one (f x)) xs) → MeetsCliques a (map f xs)
+  say : (a : List Bool) (xs : List (List Literal)) → All (Meets a) (map all_but_one xs) → MeetsCliques a xs
   say a [] h = All-nil (λ (lits : List Literal). Meets a (all_but_one lits))
-  say a (x ∷ xs) h = All-cons (λ (lits : List Literal). Meets a (all_but_one lits)) (f x) (map f xs) (All-head (Meets a) (all_but_one (f x)) (map (λ y. all_but_one (f y)) xs) h) (say a xs (All-tail (Meets a) (all_but_one (f x)) (map (λ y. all_but_one (f y)) xs) h))
+  say a (x ∷ xs) h = All-cons (λ (lits : List Literal). Meets a (all_but_one lits)) x xs (All-head (Meets a) (all_but_one x) (map all_but_one xs) h) (say a xs (All-tail (Meets a) (all_but_one x) (map all_but_one xs) h))
 
 -- a normal form of an instance is one of those that say the same
 pub form_of_same : (p q : Problem) (f : NormalForm) → SaysTheSame p q → KeepsFeasible q f → KeepsFeasible p f

@@ -4,6 +4,7 @@ ghost use Rattle.pb_clique.specs.Cliques.{Covers, IsClique};
 
 use crate::arcs::{Arcs, NO_CLIQUE};
 use pb_inst::{Lit, Memory};
+use pb_rows::LiteralLists;
 use std::alloc::Global;
 
 /// The fewest literals of a clique: of two literals the clause says as much.
@@ -15,11 +16,11 @@ const LOOKS_PER_ARC: u64 = 64;
 /// Cliques of three literals and more, as they are found by going over the arcs in their order: from each arc that no clique has
 /// yet, a clique grows by each further literal that has a clause with all its literals so far. Which cliques are found depends on
 /// the order alone. Each arc pays for some looks; when all are made, the rest is left as it is.
-pub(crate) fn find_cliques(alloc: Global, arcs: &mut Arcs<'_>) -> Result<Vec<Vec<Lit>>, Memory>
+pub(crate) fn find_cliques(alloc: Global, arcs: &mut Arcs<'_>) -> Result<LiteralLists, Memory>
     ensures same { arcs.new ≡ arcs.old }
-    ensures cliques { IfOk result (λ cliques. All (λ clique. IsClique arcs.old clique.items) cliques.items) }
+    ensures cliques { IfOk result (λ cliques. All (IsClique arcs.old) cliques) }
 {
-    let mut cliques = Vec::new(alloc);
+    let mut cliques = LiteralLists::new(alloc);
     let mut clique = Vec::new(alloc);
     let mut looks = LOOKS_PER_ARC.saturating_mul(arcs.len() as u64);
     for place in 0..arcs.len() {
@@ -27,33 +28,24 @@ pub(crate) fn find_cliques(alloc: Global, arcs: &mut Arcs<'_>) -> Result<Vec<Vec
             continue;
         }
         grow_from(arcs, place, &mut clique, &mut looks)?;
-        keep(alloc, arcs, &clique, &mut cliques)?;
+        keep(arcs, &clique, &mut cliques)?;
     }
     Ok(cliques)
 }
 
 /// Adds the clique to those that were found, and records at its arcs that it has them, where it has enough literals.
-fn keep(
-    alloc: Global,
-    arcs: &mut Arcs<'_>,
-    clique: &[Lit],
-    cliques: &mut Vec<Vec<Lit>>,
-) -> Result<(), Memory>
+fn keep(arcs: &mut Arcs<'_>, clique: &[Lit], cliques: &mut LiteralLists) -> Result<(), Memory>
     requires clique { IsClique arcs.old clique.now }
-    requires cliques { All (λ clique. IsClique arcs.old clique.items) cliques.old.items }
+    requires cliques { All (IsClique arcs.old) cliques.old }
     ensures same { arcs.new ≡ arcs.old }
-    ensures cliques { OnOk result (All (λ clique. IsClique arcs.old clique.items) cliques.new.items) }
+    ensures cliques { OnOk result (All (IsClique arcs.old) cliques.new) }
 {
     if clique.len() < FEWEST {
         return Ok(());
     }
-    let copy = Vec::from_slice(alloc, clique)?;
-    mark(
-        arcs,
-        clique,
-        u32::try_from(cliques.len()).unwrap_or(NO_CLIQUE),
-    );
-    cliques.push(copy)?;
+    let number = u32::try_from(cliques.len()).unwrap_or(NO_CLIQUE);
+    cliques.push(clique)?;
+    mark(arcs, clique, number);
     Ok(())
 }
 

@@ -1,5 +1,5 @@
 //! Which constraints follow from cliques.
-ghost use Rattle.std.specs.Prelude.{◌≡◌, ◌<◌, Bool, List, length, map, slice_index_or, IfSome, IsTrue};
+ghost use Rattle.std.specs.Prelude.{◌≡◌, ◌<◌, Bool, List, length, slice_index_or, IfSome, IsTrue};
 ghost use Rattle.pb_inst.specs.Constraints.{linear};
 ghost use Rattle.pb_inst.specs.Literal.{Literal};
 ghost use Rattle.pb_inst.specs.Meaning.{Meets};
@@ -8,10 +8,15 @@ ghost use Rattle.pb_clique.specs.Cliques.{FollowsFrom, IsOneTrue, all_but_one};
 use crate::arcs::Arcs;
 use crate::clauses::clause_of;
 use pb_inst::{Constraint, Lit};
+use pb_rows::LiteralLists;
 
 /// Whether the constraint is a clause of two literals that a clique has.
-pub(crate) fn follows(constraint: &Constraint<'_>, arcs: &Arcs<'_>, cliques: &[Vec<Lit>]) -> bool
-    ensures { IsTrue result → FollowsFrom (map (λ clique. clique.items) cliques.now) (linear constraint.now) }
+pub(crate) fn follows(
+    constraint: &Constraint<'_>,
+    arcs: &Arcs<'_>,
+    cliques: &LiteralLists,
+) -> bool
+    ensures { IsTrue result → FollowsFrom cliques.now (linear constraint.now) }
 {
     let Some((one, other)) = clause_of(constraint) else {
         return false;
@@ -19,10 +24,8 @@ pub(crate) fn follows(constraint: &Constraint<'_>, arcs: &Arcs<'_>, cliques: &[V
     let Some(number) = arcs.clique_of(one, other) else {
         return false;
     };
-    match cliques.get(number as usize) {
-        Some(clique) => has_both(clique, one, other),
-        None => false,
-    }
+    let place = number as usize;
+    place < cliques.len() && has_both(cliques.list(place), one, other)
 }
 
 /// Whether the clique has both literals, at different places.

@@ -9,6 +9,7 @@ use crate::covers::follows;
 use pb_inst::{
     Constraint, InstFault, Instance, InstanceBuilder, Lit, Memory, Number, Relation, Term,
 };
+use pb_rows::LiteralLists;
 use std::alloc::{AllocError, Global};
 
 /// An instance that says the same, in which one constraint for each clique that was found stands in place of the clauses of two
@@ -18,7 +19,7 @@ pub fn merge_cliques(alloc: Global, instance: &Instance) -> Result<Option<Instan
 {
     let mut arcs = Arcs::new(alloc, instance)?;
     let cliques = find_cliques(alloc, &mut arcs)?;
-    if cliques.is_empty() {
+    if cliques.len() == 0 {
         return Ok(None);
     }
     match merged(alloc, instance, &arcs, &cliques) {
@@ -34,9 +35,9 @@ fn merged(
     alloc: Global,
     instance: &Instance,
     arcs: &Arcs<'_>,
-    cliques: &[Vec<Lit>],
+    cliques: &LiteralLists,
 ) -> Result<Option<Instance>, InstFault>
-    requires { All (λ clique. IsClique instance.now clique.items) cliques.now }
+    requires { All (IsClique instance.now) cliques.now }
     ensures { IfOk result (λ merged. IfSome merged (λ other. SaysTheSame instance.now other)) }
 {
     let mut builder = InstanceBuilder::new(alloc);
@@ -71,12 +72,12 @@ fn put_kept(
     builder: &mut InstanceBuilder,
     instance: &Instance,
     arcs: &Arcs<'_>,
-    cliques: &[Vec<Lit>],
+    cliques: &LiteralLists,
     room: &mut Vec<Term>,
 ) -> Result<(), InstFault>
     requires { builder.old.constraints ≡ [] }
     ensures objective { OnOk result (builder.new.objective ≡ builder.old.objective) }
-    ensures kept { OnOk result (Keeps (map (λ clique. clique.items) cliques.now) instance.now.constraints builder.new.constraints) }
+    ensures kept { OnOk result (Keeps cliques.now instance.now.constraints builder.new.constraints) }
 {
     for i in 0..instance.len() {
         let constraint = instance.constraint(i);
@@ -103,14 +104,14 @@ fn put_constraint(
 /// Adds for each clique the constraint that all its literals but one are true.
 fn put_cliques(
     builder: &mut InstanceBuilder,
-    cliques: &[Vec<Lit>],
+    cliques: &LiteralLists,
     room: &mut Vec<Term>,
 ) -> Result<(), InstFault>
     ensures objective { OnOk result (builder.new.objective ≡ builder.old.objective) }
-    ensures added { OnOk result (builder.new.constraints ≡ builder.old.constraints ++ map (λ clique. all_but_one clique.items) cliques.now) }
+    ensures added { OnOk result (builder.new.constraints ≡ builder.old.constraints ++ map all_but_one cliques.now) }
 {
-    for clique in cliques {
-        put_clique(builder, clique, room)?;
+    for i in 0..cliques.len() {
+        put_clique(builder, cliques.list(i), room)?;
     }
     Ok(())
 }

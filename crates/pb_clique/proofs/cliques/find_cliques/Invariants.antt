@@ -6,5 +6,5 @@ use Rattle.pb_clique.proofs.cliques.find_cliques.Given as goal
 abbrev pub invariant-loop-place : goal.invariant-loop-place
 invariant-loop-place l = record {
   same : l.arcs ≡ l.fn.arcs;
-  cliques : All (λ clique. IsClique l.arcs clique.items) l.cliques.items;
+  cliques : All (IsClique l.arcs) l.cliques;
 }

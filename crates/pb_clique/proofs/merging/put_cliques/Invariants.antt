@@ -3,8 +3,8 @@ use Rattle.pb_clique.specs.Cliques.{all_but_one}
 use Rattle.pb_clique.proofs.merging.put_cliques.Given as goal
 
 -- the constraints of the cliques so far were added
-abbrev pub invariant-loop-clique : goal.invariant-loop-clique
-invariant-loop-clique l = record {
+abbrev pub invariant-loop-i : goal.invariant-loop-i
+invariant-loop-i l = record {
   objective : l.builder.objective ≡ l.fn.builder.objective;
-  added : l.builder.constraints ≡ l.fn.builder.constraints ++ map (λ clique. all_but_one clique.items) (take l.clique-index l.cliques);
+  added : l.builder.constraints ≡ l.fn.builder.constraints ++ map all_but_one (take l.i l.cliques);
 }

@@ -1,4 +1,4 @@
-use Rattle.std.proofs.Common.{◌≡◌, take, map}
+use Rattle.std.proofs.Common.{◌≡◌, take}
 use Rattle.pb_clique.specs.Cliques.{Keeps}
 use Rattle.pb_clique.proofs.merging.put_kept.Given as goal
 
@@ -6,5 +6,5 @@ use Rattle.pb_clique.proofs.merging.put_kept.Given as goal
 abbrev pub invariant-loop-i : goal.invariant-loop-i
 invariant-loop-i l = record {
   objective : l.builder.objective ≡ l.fn.builder.objective;
-  kept : Keeps (map (λ clique. clique.items) l.cliques) (take l.i l.instance.constraints) l.builder.constraints;
+  kept : Keeps l.cliques (take l.i l.instance.constraints) l.builder.constraints;
 }
