@@ -22,6 +22,7 @@ from lib import PROGRAMS, STATUSES, TOP, built, name_of, program, ran, side_by_s
 from lib.examples import divisions_of, examples, with_workers
 from lib.shown_commands import SHOWN
 
+NO_TEXT = "pbcube: an argument is not valid UTF-8"
 ONE_PIECE = "pbcube: one worker searches the one piece: a greater --split divides the work among several"
 SPLITS = (0, 1, 6)  # of six variables: more pieces than workers
 FRESH = ["./pbcube examples/tie.opb", "./prove", "./test quick", "./test"]  # a newcomer's first commands: the program, and its tests
@@ -66,8 +67,8 @@ def readme_rows():
 
 def word_rows():
     """The same for words that are no text."""
-    yield [b"\xff"], "", "", 2
-    yield ["examples/tie.opb", b"\xff"], "", "", 2
+    yield [b"\xff"], "", NO_TEXT, 2
+    yield ["examples/tie.opb", b"\xff"], "", NO_TEXT, 2
 
 
 def version_rows():

@@ -31,6 +31,15 @@ pub fn tell_hint<H: Display + Drop, E: Write>(program: &str, hint: Option<H>, er
     }
 }
 
+/// The end where a word of the command line is no text: writes one line to the standard error, whose own faults are ignored, and
+/// answers the exit status.
+pub fn end_at_no_text<E: Write>(program: &str, err: &mut E) -> u8
+    ensures { result ≡ 2 }
+{
+    let _ = writeln!(err, "{program}: an argument is not valid UTF-8");
+    2
+}
+
 /// Writes one line to the standard error on these workers of one piece, if there are several. Faults of the standard error are
 /// ignored.
 pub fn tell_of_one_piece<E: Write>(program: &str, workers: Workers, err: &mut E) {

@@ -17,7 +17,7 @@ pub mod tasks;
 mod version;
 mod words;
 
-pub use failures::{tell_failure, tell_hint, tell_of_one_piece};
+pub use failures::{end_at_no_text, tell_failure, tell_hint, tell_of_one_piece};
 pub use faults::{Untold, end_at_line, tell_fault};
 pub use formats::format_of;
 pub use help::{FORMAT_HELP, NODES_HELP};

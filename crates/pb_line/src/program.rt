@@ -12,14 +12,17 @@ pub trait Program {
 
     /// Ends the program where there was no memory for the words, and answers its exit status.
     fn end_without_memory(&self) -> u8;
+
+    /// Ends the program where a word is no text, and answers its exit status.
+    fn end_at_no_text(&self) -> u8;
 }
 
-/// Runs the program on the system's words. Where a word is no text it ends with status 2.
+/// Runs the program on the system's words.
 pub fn main_with<R: Env + Alloc<A = Global>, P: Program>(rt: &R, program: &P) -> ExitCode {
     let status = match texts_of(rt) {
         Ok(texts) => run_on(rt.alloc(), program, &texts),
         Err(fault) if fault.kind() == ErrorKind::OutOfMemory => program.end_without_memory(),
-        Err(_) => 2,
+        Err(_) => program.end_at_no_text(),
     };
     ExitCode::from(status)
 }

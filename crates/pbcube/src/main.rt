@@ -3,7 +3,7 @@
 
 ghost use Rattle.std.specs.Prelude.{◌≡◌, ⊤};
 
-use pb_line::{texts_of, words_of};
+use pb_line::{end_at_no_text, texts_of, words_of};
 use pb_program::{Files, out_of_memory, program};
 use pb_solve::Device;
 use std::fs::{self, File};
@@ -29,7 +29,7 @@ impl Files for SystemFiles<'_> {
     }
 }
 
-/// Runs the program on the system's words, files and outputs. Words that are no text end with status 2.
+/// Runs the program on the system's words, files and outputs.
 fn main(rt: HostRuntime) -> ExitCode {
     let mut out = Device::new(rt.stdout());
     let mut err = rt.stderr();
@@ -39,7 +39,7 @@ fn main(rt: HostRuntime) -> ExitCode {
             return if fault.kind() == ErrorKind::OutOfMemory {
                 ExitCode::from(out_of_memory(&mut out, &mut err))
             } else {
-                ExitCode::from(2)
+                ExitCode::from(end_at_no_text("pbcube", &mut err))
             };
         }
     };

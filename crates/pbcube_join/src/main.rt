@@ -7,7 +7,7 @@ mod run;
 
 use crate::run::{out_of_memory, program};
 use pb_files::SystemFiles;
-use pb_line::{LastFault, Noting, Program, main_with};
+use pb_line::{LastFault, Noting, Program, end_at_no_text, main_with};
 use pb_report::Device;
 use std::process::ExitCode;
 
@@ -35,6 +35,10 @@ impl Program for System<'_> {
 
     fn end_without_memory(&self) -> u8 {
         out_of_memory(&mut self.rt.stderr())
+    }
+
+    fn end_at_no_text(&self) -> u8 {
+        end_at_no_text("pbcube_join", &mut self.rt.stderr())
     }
 }
 

@@ -5,7 +5,7 @@ mod run;
 
 use crate::run::{out_of_memory, program};
 use pb_files::SystemFiles;
-use pb_line::{Program, main_with};
+use pb_line::{Program, end_at_no_text, main_with};
 use std::process::ExitCode;
 
 /// The program on the system's files and outputs.
@@ -29,6 +29,10 @@ impl Program for System<'_> {
 
     fn end_without_memory(&self) -> u8 {
         out_of_memory(&mut self.rt.stderr())
+    }
+
+    fn end_at_no_text(&self) -> u8 {
+        end_at_no_text("pbcube_pieces", &mut self.rt.stderr())
     }
 }
 

@@ -12,7 +12,7 @@ use crate::notes::TaskNotes;
 use crate::places::Places;
 use crate::run::{out_of_memory, program};
 use pb_files::SystemFiles;
-use pb_line::{LastFault, Noting, texts_of, words_of};
+use pb_line::{LastFault, Noting, end_at_no_text, texts_of, words_of};
 use pb_notes::Folder;
 use pb_solve::Device;
 use std::alloc::Global;
@@ -47,7 +47,7 @@ impl<'a> Places<TaskNotes<'a>> for SystemPlaces<'a> {
     }
 }
 
-/// Runs the program on the system's words, files and outputs. Words that are no text end with status 2.
+/// Runs the program on the system's words, files and outputs.
 fn main(rt: HostRuntime) -> ExitCode {
     let faults = LastFault::new();
     let mut out = Device::new(Noting::new(rt.stdout(), &faults));
@@ -58,7 +58,7 @@ fn main(rt: HostRuntime) -> ExitCode {
             return if fault.kind() == ErrorKind::OutOfMemory {
                 ExitCode::from(out_of_memory(&faults, &mut out, &mut err))
             } else {
-                ExitCode::from(2)
+                ExitCode::from(end_at_no_text("pbcube_task", &mut err))
             };
         }
     };
