@@ -28,9 +28,13 @@ class NoAnswer(Exception):
 
 def text_of(path: str) -> str:
     """The text in UTF-8 that the file has, behind a signature or none, or `NoAnswer` with the first line that is none."""
+    if path == "-" and not Path(path).exists():
+        raise NoAnswer("/dev/stdin is the name of standard input")
     try:
         text, zero, _ = Path(path).read_text(encoding="utf-8-sig").partition("\0")
     except UnicodeDecodeError as fault:
+        if fault.object.startswith(b"\x1f\x8b"):
+            raise NoAnswer("the file is compressed by gzip: gunzip it first") from None
         line = fault.object.count(b"\n", 0, fault.start) + 1
         raise NoAnswer(f"line {line} is no text in UTF-8") from None
     if zero:
@@ -111,10 +115,10 @@ class Program:
         """The report on this text in OPB, or `NoAnswer`. What pbcube said beside the report is passed on, once."""
         if self.seconds is None:
             report = self._search(opb, self.nodes, None, tell)
-        elif 0 <= self.seconds < math.inf:
+        elif _is_limit(self.seconds):
             report = self._best(opb, time.monotonic() + self.seconds, tell)
         else:
-            raise NoAnswer(f"a time limit is a number of seconds, 0 or more, and not {self.seconds}")
+            raise NoAnswer(f"a time limit is a number of seconds, 0 or more, and not {self.seconds!r}")
         print(report.said, end="", file=sys.stderr)
         return report
 
@@ -169,6 +173,11 @@ class Program:
             raise NoAnswer(f"{self.path}: {said or f'no report, status {ended.returncode}'}{_advice(said, opb)}") from None
 
 
+def _is_limit(seconds: object) -> bool:
+    """Whether it is a number of seconds within which a search can end."""
+    return isinstance(seconds, (int, float)) and 0 <= seconds < math.inf
+
+
 def _advice(said: str, opb: str) -> str:
     """What helps where pbcube refused the split of this text, which tells how many variables it has."""
     count = re.match(r"\* #variable= (\d+)", opb)
@@ -182,11 +191,14 @@ def end_with_program() -> None:
 
 
 def end_with_status(main: Callable[[], int]) -> None:
-    """Ends this process with the status that `main` returns, or silently with 1, as pbcube's tools do, where nobody reads its output."""
+    """Ends this process with the status that `main` returns, or with 1 where its output cannot be written: silently, as pbcube's tools
+    do, where nobody reads it."""
     try:
         status = main()
         sys.stdout.flush()
-    except BrokenPipeError:
+    except OSError as fault:
+        if not isinstance(fault, BrokenPipeError):
+            print(f"{Path(sys.argv[0]).name}: cannot write: {fault.strerror}", file=sys.stderr)
         os.dup2(os.open(os.devnull, os.O_WRONLY), sys.stdout.fileno())  # for what is left, which Python writes at the end
         status = 1
     sys.exit(status)

@@ -28,6 +28,7 @@ _STATUSES = {
     Status.UNSATISFIABLE: (constants.LpStatusInfeasible, constants.LpSolutionInfeasible),
     Status.UNKNOWN: (constants.LpStatusNotSolved, constants.LpSolutionNoSolutionFound),
 }
+_TAKEN = "it takes program, workers (how many threads), split, nodes, msg, timeLimit and options"
 
 
 class PBCUBE(LpSolver):
@@ -48,7 +49,10 @@ class PBCUBE(LpSolver):
         msg: bool = False,
         timeLimit: float | None = None,
         options: Sequence[str] | None = None,
+        **others: object,
     ):
+        if others:
+            raise PulpSolverError(f"PBCUBE takes no {', '.join(others)}: {_TAKEN}")
         if isinstance(options, str):
             raise PulpSolverError(f"options is a list of words, as ['--cubes', 'FILE'], and not {options!r}")
         super().__init__(msg=msg, timeLimit=timeLimit, options=list(options or ()))

@@ -70,7 +70,7 @@ SHOWN = [
     ),
     Shown(
         "pbcube_task --task 2 --tasks 2 examples/tie.opb",
-        complaint="error: the number of --task is below that of --tasks",
+        complaint="error: tasks are numbered from 0, so --task has to be below --tasks",
         status=2,
     ),
 ]

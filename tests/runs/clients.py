@@ -7,6 +7,7 @@ Random models in CPLEX's LP format, in PuLP and in MiniZinc are solved by pbcube
 CBC, and worked models of MiniZinc also by its Gecode. The commands of docs/CLIENTS.md must write what the `.expected` file beside
 their model has. PuLP, MiniZinc and mccs are tried where they are installed; a line says what is left out.
 """
+import gzip
 import io
 import os
 import random
@@ -134,7 +135,10 @@ def lp_faults(path):
 def word_faults(path, room):
     """pbcube-lp with options, and where there is no answer: one line on standard error, and status 1."""
     file = CLIENTS / "mixture.lp"
-    refused, bytes_, signed, zeros, small = (room / f"{name}.lp" for name in ("refused", "bytes", "signed", "zeros", "small"))
+    refused, bytes_, signed, zeros, small, packed = (
+        room / f"{name}.lp" for name in ("refused", "bytes", "signed", "zeros", "small", "packed")
+    )
+    packed.write_bytes(gzip.compress(file.read_bytes()))
     small.write_text("Max\n x\nBounds\n 0 <= x <= 3\nGenerals\n x\nEnd\n")
     refused.write_text("Min\n x\n")
     bytes_.write_bytes(b"Min\n \xff\n")
@@ -151,6 +155,8 @@ def word_faults(path, room):
         ("--program", "/no/pbcube", file): Ended("", f"{here}cannot run /no/pbcube: No such file or directory\n", 1),
         (refused,): Ended("", f"pbcube-lp: {refused}: line 2: x is continuous, and pbcube has integers alone\n", 1),
         (bytes_,): Ended("", f"pbcube-lp: {bytes_}: line 2 is no text in UTF-8\n", 1),
+        (packed,): Ended("", f"pbcube-lp: {packed}: the file is compressed by gzip: gunzip it first\n", 1),
+        ("-",): Ended("", "pbcube-lp: -: /dev/stdin is the name of standard input\n", 1),
         (signed,): Ended(expected, "", 30),
         (zeros,): Ended("", f"pbcube-lp: {zeros}: line 3 is no text: it has a zero byte\n", 1),
         ("/no/file.lp",): Ended("", "pbcube-lp: /no/file.lp: [Errno 2] No such file or directory: '/no/file.lp'\n", 1),
@@ -158,6 +164,11 @@ def word_faults(path, room):
     ends = side_by_side(lambda words: ran([CLIENTS / "pbcube-lp", "--program", path, *words]), rows)
     for (words, expected), end in zip(rows.items(), ends):
         yield f"pbcube-lp {words}", "" if end == expected else f"{end} and not {expected}"
+    with open("/dev/full", "w") as full:
+        ended = subprocess.run([CLIENTS / "pbcube-lp", "--program", path, file], stdout=full, stderr=subprocess.PIPE, text=True)
+    said = ended.returncode, ended.stderr
+    told = 1, "pbcube-lp: cannot write: No space left on device\n"
+    yield "pbcube-lp on a full device", "" if said == told else f"{said} and not {told}"
 
 
 def beside_faults(path, room):
@@ -277,9 +288,9 @@ def timed_faults(room):
     with redirect_stderr(io.StringIO()) as said:
         searched(nodes=1000, seconds=SECONDS)
     yield "what each search says is told once", "" if said.getvalue() == "as a program says\n" else repr(said.getvalue())
-    for seconds in (-1, float("nan"), float("inf")):
+    for seconds in (-1, float("nan"), float("inf"), "10"):
         said = no_answer(lambda: searched(seconds=seconds))
-        told = f"a time limit is a number of seconds, 0 or more, and not {seconds}"
+        told = f"a time limit is a number of seconds, 0 or more, and not {seconds!r}"
         yield f"the time limit {seconds}", "" if said == told else f"told {said!r}"
     for line, is_enough in {"s SATISFIABLE\nv x1": True, "s UNSATISFIABLE": True, "s UNKNOWN": False}.items():
         stand_in.write_text(f"{head}echo '{line}'\n")
@@ -408,6 +419,10 @@ def pulp_words(pulp, solver, path):
         f"{path}: error: invalid value '13' for '--split <K>': 13 is not in 0..=12": {"options": ["--split", "13"]},
         "a time limit is a number of seconds, 0 or more, and not -1": {"timeLimit": -1},
         f"{path}: refused split: BadSplit: the greatest split of this model is 2": {"split": 3},
+        "PBCUBE takes no threads, path: it takes program, workers (how many threads), split, nodes, msg, timeLimit and options": {
+            "threads": 4,
+            "path": "pbcube",
+        },
     }
     for told, words in refused.items():
         try:

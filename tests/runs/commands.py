@@ -685,7 +685,7 @@ TASK = [
     refused("--tasks 1 tie.opb", "--task <I>"),
     refused("--task 0 --tasks 0 tie.opb", "0 is not in 1..=4294967295"),
     refused("--task 0 --tasks 4294967296 tie.opb", "4294967296 is not in 1..=4294967295"),
-    refused("--task 1 --tasks 1 tie.opb", "the number of --task is below that of --tasks"),
+    refused("--task 1 --tasks 1 tie.opb", "tasks are numbered from 0, so --task has to be below --tasks"),
     refused("--task 0 --tasks 1 --exchange '' tie.opb", "'--exchange <DIR>'"),
     refused("--task 0 --tasks 1 --exchange= tie.opb", "'--exchange"),
     refused("--format wcnf --task 0 --tasks 1 tie.opb", "opb, cnf and icnf"),

@@ -78,6 +78,15 @@ fn is_dealt(pieces: Option<u32>, number: usize) -> bool {
     }
 }
 
+/// Writes one line to the standard error where there is no report at all: its files may have other names. A fault of the standard error
+/// is ignored.
+pub(crate) fn tell_of_no_report<E: Write>(err: &mut E) {
+    let _ = writeln!(
+        err,
+        "pbcube_join: no report was found: name files, or folders with files whose names end in .report"
+    );
+}
+
 /// Writes one line to the standard error with the numbers of the pieces that have to be run again, in the form that the option
 /// `--array` of Slurm takes: `3,5-7`. A fault of the standard error is ignored.
 pub(crate) fn name_pieces_again<E: Write>(states: &[PieceState], err: &mut E) {

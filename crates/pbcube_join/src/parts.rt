@@ -9,7 +9,7 @@ ghost use Rattle.pbcube_join.specs.Joining.{JoinsOrRefuses, JoinsTasks, TellsOfP
 ghost use Rattle.pbcube_join.specs.Reading.{ReadsRefusals};
 ghost use Rattle.std.specs.Io.KnownBytes.{Appends};
 
-use crate::again::name_tasks_again;
+use crate::again::{name_tasks_again, tell_of_no_report};
 use pb_files::{
     Files, PartReports, Refusal, ReportsFault, TaskReports, Whole, all_refuse_text, named_files,
     read_instance, read_tasks,
@@ -244,10 +244,13 @@ fn refusal_of(why: PartRejection, part: Option<&PartReport>, tasks: u32) -> Refu
 }
 
 /// Writes one line to the standard error: that every task refused its input, or which tasks have to be run again, unless every piece
-/// is done; and one more where pieces are in no report, though each task has one.
+/// is done; and one more where there is no report, or where pieces are in none, though each task has one.
 pub(crate) fn tell_tasks<E: Write>(end: &TasksEnd, err: &mut E) {
     match end {
         TasksEnd::Joined(end) if !end.joined.whole => {
+            if end.pieces.is_none() {
+                tell_of_no_report(err);
+            }
             name_tasks_again(&end.joined, end.pieces, err);
         }
         TasksEnd::Joined(_) => {}

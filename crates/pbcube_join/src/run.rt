@@ -12,7 +12,7 @@ ghost use Rattle.pb_files.specs.Reading.{ReadsReports};
 ghost use Rattle.pb_files.specs.Texts.{texts};
 ghost use Rattle.pb_report.specs.Statuses.{IsExitStatus};
 
-use crate::again::name_pieces_again;
+use crate::again::{name_pieces_again, tell_of_no_report};
 use crate::parts::{join_tasks, tell_tasks};
 use clap::Error;
 use pb_files::{
@@ -196,8 +196,11 @@ fn name_refused<E: Write>(read: &Reports, err: &mut E) {
 }
 
 /// Writes one line to the standard error for each piece that is missing or was cut, and one that names them all, unless every
-/// piece is done.
+/// piece is done; and one more where there is no report.
 fn name_pieces<E: Write>(joined: &Joined, err: &mut E) {
+    if joined.states.iter().all(|state| *state == PieceState::Missing) {
+        tell_of_no_report(err);
+    }
     for (number, state) in joined.states.iter().enumerate() {
         let _ = name_piece(number, *state, err);
     }

@@ -14,7 +14,7 @@ use clap::{ArgMatches, Command, Error};
 use std::alloc::{AllocError, Global};
 
 /// The message for a task number that no task has.
-const NO_SUCH_TASK: &str = "the number of --task is below that of --tasks";
+const NO_SUCH_TASK: &str = "tasks are numbered from 0, so --task has to be below --tasks";
 
 /// Reads the words, the program's name first. Fails where clap refuses them, where they ask for help or the version, where no
 /// format has the name given, where no task has the number given, and where memory runs out; the kind of the fault says which.
