@@ -87,6 +87,7 @@ BEGUN = [
     ("cnf", b"[\n  [1, 2]\n]\n", "begins as JSON, which is not read"),
     ("opb", b'[ {"x1": 1}]\n', "begins as JSON, which is not read"),
     ("opb", b'<?xml version="1.0"?>\n<instance/>\n', "begins as XML, which is not read"),
+    ("opb", b"<!DOCTYPE html>\n<p>Not found</p>\n", "begins as HTML, which is not read"),
     ("cnf", b"%PDF-1.4\n", "begins as PDF, which is not read"),
     ("opb", b"\xef\xbb\xbf1 x1 >= 1 ;\n", IS_MARKED),
     ("icnf", b"\xff\xfep\x00", IS_MARKED),

@@ -531,7 +531,7 @@ PIECES = [
     ),
     # folders and files that cannot be made or written
     Row("--out product.opb tie.opb", err=f"pbcube_pieces: cannot use product.opb: {reason(errno.EEXIST)}\n", status=1),
-    Row("--out with_index tie.opb", err="pbcube_pieces: with_index holds an index already\n", status=1),
+    Row("--out with_index tie.opb", err="pbcube_pieces: with_index holds an index already: remove it, or name another folder\n", status=1),
     Row(
         "--split 1 --out with_piece tie.opb",
         err=f"pbcube_pieces: cannot write with_piece/0.opb: {reason(errno.EEXIST)}\n",

@@ -100,7 +100,7 @@ def faults_of(pbcube, splitter, instance, words, folder):
     if first != instance.with_suffix(".expected").read_text():
         yield f"the first answer of the pieces is {first!r}"
     again = ran([splitter, "--format", instance.suffix[1:], "--out", str(folder), str(instance)])
-    if again.status != 1 or again.err != f"pbcube_pieces: {folder} holds an index already\n":
+    if again.status != 1 or again.err != f"pbcube_pieces: {folder} holds an index already: remove it, or name another folder\n":
         yield f"a folder with an index is taken: {again}"
 
 

@@ -27,7 +27,7 @@ pub enum PiecesFault<'a> {
     #[error("cannot use {0}: {1}")]
     CannotUse(&'a str, io::Error),
     /// The folder holds an index.
-    #[error("{0} holds an index already")]
+    #[error("{0} holds an index already: remove it, or name another folder")]
     HoldsIndex(&'a str),
     /// The file cannot be made or written, for this reason.
     #[error("cannot write {0}: {1}")]

@@ -168,6 +168,8 @@ pub fn foreign_bytes(text: &[u8]) -> Option<Beginning> {
         Some(Beginning::ByteOrderMark)
     } else if text.starts_with(b"<?xml") {
         Some(Beginning::Unread("XML"))
+    } else if text.starts_with(b"<!") || text.starts_with(b"<html") {
+        Some(Beginning::Unread("HTML"))
     } else if text.starts_with(b"%PDF") {
         Some(Beginning::Unread("PDF"))
     } else if has_zero_byte(text) {
