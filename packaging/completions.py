@@ -31,7 +31,7 @@ pbcube_task --cubes FILE File of cubes that divide the instance, with lines `a L
 pbcube_task --nodes B Stop each piece after B decisions, 0 to 1000000000; no limit by default
 pbcube_task --task I Number of this task, from 0 to T - 1
 pbcube_task --tasks T Number of tasks among which the pieces are dealt in turn
-pbcube_task --exchange DIR Folder through which the tasks exchange their best assignments; none by default
+pbcube_task --exchange DIR Folder in which the tasks exchange assignments and claim pieces; none by default
 pbcube_join --format FORMAT Format of FILE and of the reports: opb, cnf or icnf
 pbcube_join --pieces N Number of pieces, 1 to 1048576; by default the index gives it
 pbcube_join --tasks T Join the reports that pbcube_task wrote for T tasks, 1 or more; not with --pieces

@@ -15,7 +15,7 @@ complete -c pbcube_task -l cubes -r -F -d 'File of cubes that divide the instanc
 complete -c pbcube_task -l nodes -x -d 'Stop each piece after B decisions, 0 to 1000000000; no limit by default'
 complete -c pbcube_task -l task -x -d 'Number of this task, from 0 to T - 1'
 complete -c pbcube_task -l tasks -x -d 'Number of tasks among which the pieces are dealt in turn'
-complete -c pbcube_task -l exchange -x -a '(__fish_complete_directories)' -d 'Folder through which the tasks exchange their best assignments; none by default'
+complete -c pbcube_task -l exchange -x -a '(__fish_complete_directories)' -d 'Folder in which the tasks exchange assignments and claim pieces; none by default'
 complete -c pbcube_join -l format -x -a 'opb cnf icnf' -d 'Format of FILE and of the reports: opb, cnf or icnf'
 complete -c pbcube_join -l pieces -x -d 'Number of pieces, 1 to 1048576; by default the index gives it'
 complete -c pbcube_join -l tasks -x -d 'Join the reports that pbcube_task wrote for T tasks, 1 or more; not with --pieces'
