@@ -5,8 +5,10 @@
 
 It takes the programs that the merge gate built. The recipes for GNU parallel are run where that is here or can be fetched, those
 for Slurm task by task, without Slurm. Reports are lost in them, a solver is killed, and once there is no solver at all. The tasks
-that exchange notes meet hostile files in the folder of notes, and some are run twice at a time.
+that exchange notes meet hostile files in the folder of notes, and some are run twice at a time. Where there is a C compiler, that
+folder also goes wrong under them, by the preloaded library folder.c.
 """
+import itertools
 import os
 import shutil
 import subprocess
@@ -17,7 +19,7 @@ from pathlib import Path
 
 sys.dont_write_bytecode = True
 sys.path.insert(0, str(Path(__file__).resolve().parents[1]))
-from lib import PROGRAMS, SECONDS, TOP, Ended, program, ran, run, side_by_side
+from lib import PROGRAMS, SECONDS, TOP, Ended, preloaded, program, ran, run, side_by_side
 from lib.reports import ALL_REFUSED, in_no_report, run_again
 
 CLUSTER = TOP / "examples/cluster"
@@ -312,6 +314,7 @@ class OfTasks(Recipes):
         yield from self.of_few_decisions()
         yield from self.of_two_recipes_at_once()
         yield from self.of_hostile_notes()
+        yield from self.of_wrong_folders()
 
     def of_lost_tasks(self):
         folder = self.room / "parallel"
@@ -486,6 +489,20 @@ class OfTasks(Recipes):
             yield f"parallel-tasks.sh, {name} in the places {places}: {ended.err!r}"
         if (kept := notes / "kept").exists() and kept.read_text() != "kept\n":
             yield f"parallel-tasks.sh, {name} in the places {places}: another file was written"
+
+    def of_wrong_folders(self):
+        """The folder of notes goes wrong from the first call of each task on, or while the tasks search."""
+        if library := preloaded(self.room, "folder"):
+            cases = list(itertools.product(("kept", "full", "single", "gone"), (1, 9)))
+            yield from (line for lines in side_by_side(lambda it: list(self.of_wrong_folder(library, *it)), cases) for line in lines)
+
+    def of_wrong_folder(self, library, how, at):
+        folder = self.room / f"{how} {at}"
+        (folder / "notes").mkdir(parents=True)
+        wrong = {"LD_PRELOAD": library, "FOLDER": "notes", "FOLDER_HOW": how, "FOLDER_AT": str(at), "FOLDER_TELL": "-1"}
+        ended = self.ran("parallel-tasks.sh", self.file, "opb", self.SPLIT, self.TASKS, folder, **wrong)
+        if (ended.out, ended.status) != (self.answer.out, self.answer.status) or self.are_too_many(ended.err):
+            yield f"parallel-tasks.sh, the folder of notes is {how} from call {at} on: {ended}"
 
     def slurm(self, folder, number, path="all", kind="opb", file=None, split=SPLIT, tasks=TASKS):
         """The status of a task of Slurm, and its log."""

@@ -1,24 +1,28 @@
 #!/usr/bin/env python3
 """Searches the pieces of each example in one to five tasks at the same time, alone and with a folder of notes between them, and
 prints where their reports together are not the answer on the whole instance. Of worked texts it also looks which pieces a budget
-cuts, which a task of some of many names as done, what a note lends, and which pieces a task takes by the claims in the folder. Each
-piece of other worked instances is searched by a task of its own, whose report is owed.
+cuts, which a task of some of many names as done, what a note lends, and which pieces a task takes by the claims in the folder. The
+library folder.c is compiled by cc and preloaded: with it the folder goes wrong under a task, from each of its calls on. Without a C
+compiler this is left out. Each piece of other worked instances is searched by a task of its own, whose report is owed.
 
     tests/runs/tasks.py [PBCUBE_TASK]
 
 Without a word it takes the program that the merge gate built by LLVM.
 """
+import errno
 import hashlib
 import itertools
 import os
+import re
 import sys
 import tempfile
 from concurrent.futures import ThreadPoolExecutor
+from dataclasses import dataclass
 from pathlib import Path
 
 sys.dont_write_bytecode = True
 sys.path.insert(0, str(Path(__file__).resolve().parents[1]))
-from lib import Ended, program, ran, side_by_side
+from lib import Ended, preloaded, program, ran, reason, side_by_side
 from lib.efforts import ring_before_others
 from lib.examples import divisions_of, examples
 from lib.reports import HEADING, claim, digest, part, rank
@@ -46,6 +50,10 @@ NOTED = [
     ("cost 0\nvalues 000\n", UNKNOWN),
     ("cost -5\nvalues 101\n", "o 4\ns SATISFIABLE\nv x1 -x2 x3\n"),
 ]
+
+# How the folder of notes goes wrong, as tests/preload/folder.c has it, and what the system says of it then.
+WRONG_FOLDERS = {"kept": errno.EACCES, "full": errno.ENOSPC, "single": errno.EPERM, "gone": errno.ENOENT}
+MOST_CALLS = 1000
 
 # Texts with cubes, and for each piece the first of its assignments, where it has any.
 WORKED = [
@@ -251,6 +259,99 @@ def wrongly_claimed_twice(task, file, folder):
             yield f"task {number}, of two runs at a time: {ended}"
 
 
+def pieces_of(ended):
+    """The pieces that a report names as done."""
+    return [int(word) for word in told(ended.out)[0][2][1:]]
+
+
+def wrongly_disturbed(task, room):
+    """What is wrong with the pieces that three tasks name of the nine of a worked text, where the folder of notes goes wrong under
+    the second one."""
+    if library := preloaded(room, "folder"):
+        file = room / "disturbed.opb"
+        file.write_text(TWO_OF_THREE)
+        disturbed = [Disturbed(task, library, file, how) for how in WRONG_FOLDERS]
+        yield from disturbed[0].faults_of_a_missing_folder()
+        yield from (line for lines in side_by_side(lambda it: list(it.faults()), disturbed) for line in lines)
+
+
+@dataclass(frozen=True)
+class Disturbed:
+    """A task, and how its folder of notes goes wrong by the preloaded library."""
+
+    task: str
+    library: str
+    file: Path
+    how: str
+
+    def run(self, number, folder, at=None):
+        """How a task ends, and whether the call of this number came, from which on the folder is wrong."""
+        told, tell = os.pipe()
+        wrong = {"LD_PRELOAD": self.library, "FOLDER": str(folder), "FOLDER_HOW": self.how, "FOLDER_AT": str(at), "FOLDER_TELL": str(tell)}
+        command = [self.task, "--split", "3", "--tasks", "3", "--task", str(number), "--exchange", folder, self.file]
+        with open(told, "rb") as came:
+            try:
+                ended = ran(command, env=wrong if at else None, pass_fds=[tell])
+            finally:
+                os.close(tell)
+            return ended, bool(came.read())
+
+    def faults(self):
+        """What is wrong where the folder goes wrong from each call of the task on, and then from none."""
+        for at in range(1, MOST_CALLS):
+            is_come, wrong = self.run_all(at)
+            yield from (f"the folder is {self.how} from call {at} on: {fault}" for fault in wrong)
+            if not is_come:
+                return
+        yield f"the folder is {self.how}: the calls do not end"
+
+    def run_all(self, at):
+        """Whether the call of this number came, and what is wrong. Each of the two other tasks has claimed a piece before. They run
+        afterwards, when the folder is in order again, with what is left in it."""
+        folder = self.file.with_name(f"{self.how}-{at}")
+        folder.mkdir()
+        for block, number in (("0.0", 0), ("2.2", 2)):
+            put(folder, f"{block}.claim", claim(TWO_OF_THREE, IN_NINE, f"{number} of 3"))
+        ended, is_come = self.run(1, folder, at)
+        if (away := folder.with_name(f"{folder.name}.gone")).exists():
+            away.rename(folder)
+        others = [self.run(number, folder)[0] for number in (0, 2)]
+        return is_come, [*self.faults_of(folder, at, is_come, ended), *faults_together([others[0], ended, others[1]])]
+
+    def faults_of(self, folder, at, is_come, ended):
+        """What is wrong with what the task says. At most one line tells of the folder."""
+        fault = reason(WRONG_FOLDERS[self.how])
+        line = rf"pbcube_task: cannot (claim {folder}/\d\.\d\.claim|exchange {folder}/\d\.note): {re.escape(fault)}\n"
+        if ended.err and not (is_come and re.fullmatch(line, ended.err)):
+            yield f"it says {ended.err!r}"
+        if at == 1 and ended.err != f"pbcube_task: cannot claim {folder}/1.0.claim: {fault}\n":
+            yield f"at once: it says {ended.err!r}"
+        heading = part("1 of 3", TWO_OF_THREE, IN_NINE, " 1 4 7")
+        if at == 1 and not ended.out.startswith(heading):
+            yield f"at once: {ended.out!r}"
+
+    def faults_of_a_missing_folder(self):
+        """The task may not make the folder."""
+        folder = self.file.with_name("missing")
+        ended, _ = self.run(1, folder, 1)
+        heading = part("1 of 3", TWO_OF_THREE, IN_NINE, " 1 4 7")
+        line = f"pbcube_task: cannot use {folder}, so task 1 exchanges no assignments: {reason(errno.EACCES)}\n"
+        if not ended.out.startswith(heading) or ended.err != line or folder.exists():
+            yield f"a folder that may not be made: {ended}"
+
+
+def faults_together(ends):
+    """What is wrong with the reports of three tasks together, of which the second one is dealt the pieces 1, 4 and 7."""
+    named = [pieces_of(ended) for ended in ends]
+    if any(it != sorted(set(it)) for it in named) or not {1, 4, 7} <= set(named[1]) or set().union(*named) != set(range(9)):
+        yield f"the tasks are done with {named}"
+    if [(it.err, it.status) for it in (ends[0], ends[2])] != 2 * [("", 10)] or ends[1].status != 10:
+        yield f"the tasks end so: {ends}"
+    first = min((told(it.out)[1] for it in ends if rank(told(it.out)[1])), key=rank, default=None)
+    if as_answer(first) != "o 3\ns OPTIMUM FOUND\nv x1 x2 -x3\n":
+        yield f"the first of the claims is {first!r}"
+
+
 def miscounted(task, room):
     """Whether a text of a million cubes has another number of pieces."""
     text = "p inccnf\n1 0\n" + 1_000_000 * "a -2 0\n"
@@ -287,7 +388,7 @@ def wrong_pieces(task, folder):
 
 
 def wrong_on_worked_texts(task):
-    tellers = (wrongly_cut, wrongly_dealt, wrongly_claimed, miscounted, wrong_pieces)
+    tellers = (wrongly_cut, wrongly_dealt, wrongly_claimed, wrongly_disturbed, miscounted, wrong_pieces)
     with tempfile.TemporaryDirectory(prefix="pbcube-tasks-") as room:
         return [f"tasks: {line}" for lines in tellers for line in lines(task, Path(room))]
 
