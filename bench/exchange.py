@@ -1,14 +1,16 @@
 #!/usr/bin/env python3
-"""Counts the decisions of tasks that exchange notes, beside those of as many workers of one run on the same pieces, and measures the
-share of time that the exchange takes.
+"""Counts the decisions of tasks that exchange notes and claim pieces, beside those of as many workers of one run on the same pieces,
+and measures the share of time that the tasks' folder takes.
 
     exchange.py CRATES [--splits 4,6,8] [--cores 4] FILE...
 
-CRATES is the folder crates/ whose programs are built. As many tasks as cores run at a time, each with one worker. A search asks for a
-better assignment as a piece begins and after each 256th decision, which gdb counts: so up to 255 decisions of a piece are not seen.
-Behind the decisions the table has the share of the task that makes most of them. The last column is the share of all calls on files,
-those on the instance and the report too, in the seconds (wall clock) of the tasks. It is measured by the library files.c, which is
-compiled by cc and preloaded; beside other work these calls wait for a processor too.
+CRATES is the folder crates/ whose programs are built. As many tasks as cores run at a time, each with one worker. Each searches the
+pieces that it is dealt, and then those of others that it can claim. Which these are depends on how fast the tasks go, and so on gdb,
+which counts the decisions: a search asks for a better assignment as a piece begins and after each 256th decision. So up to 255
+decisions of a piece are not seen. Behind the decisions the table has the share of the task that makes most of them. The last column is
+the share of all calls on files, those on the instance and the report too, in the seconds (wall clock) of the tasks, in a run without
+gdb. It is measured by the library files.c, which is compiled by cc and preloaded; beside other work these calls wait for a processor
+too.
 """
 import argparse
 import os
