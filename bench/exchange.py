@@ -10,7 +10,8 @@ which counts the decisions: a search asks for a better assignment as a piece beg
 decisions of a piece are not seen. Behind the decisions the table has the share of the task that makes most of them. The last column is
 the share of all calls on files, those on the instance and the report too, in the seconds (wall clock) of the tasks, in a run without
 gdb. It is measured by the library files.c, which is compiled by cc and preloaded; beside other work these calls wait for a processor
-too.
+too. A question for each piece is taken off. A worker that has searched the whole asks none in its pieces, and workers of one run end
+once the whole is searched: so the decisions of short runs are too few, and may be below 0.
 """
 import argparse
 import os
