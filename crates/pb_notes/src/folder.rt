@@ -10,10 +10,15 @@ use std::io::{self, Error, ErrorKind, Read, Write};
 use std::rt::Files;
 use std::sync::atomic::{AtomicBool, Ordering};
 
+/// How often a worker tries to write a note or a claim. Where it fails but for the last time, another run of the same task may have
+/// taken its draft away. Chosen by hand.
+const MOST_TRIES: u32 = 16;
+
 /// A folder of notes and claims. The note of task 3 is the file `3.note`. Worker 2 first writes it whole to `3.2.new` and then
 /// renames that file, so that no reader sees half a note. The claim on block 5 of task 4 is the file `4.5.claim`. Worker 2 first
-/// writes it to `3.2.new` too, and then gives that file its second name, which one of all workers can. Where the folder knows no
-/// second names, that is a fault, and nobody claims anything.
+/// writes it to `3.2.claim.new`, and then gives that file its second name, which one of all workers can. Where the folder knows no
+/// second names, that is a fault, and nobody claims anything. Two runs of a task at a time have the same drafts. Where one takes
+/// away a draft of the other, the other writes it again. All claims of a task have the same text, whichever run writes them.
 #[derive(Drop)]
 pub struct Folder<'a, R> {
     rt: &'a R,
@@ -22,7 +27,7 @@ pub struct Folder<'a, R> {
     task: u32,
     /// The paths of the notes of all tasks.
     notes: Vec<String>,
-    /// The paths of the files to which the workers write.
+    /// The paths of the files to which the workers write notes.
     drafts: Vec<String>,
     has_told: AtomicBool,
 }
@@ -81,19 +86,38 @@ impl<'a, R: Files> Folder<'a, R> {
         }
     }
 
-    /// Writes a worker's draft, and answers its path.
-    fn write_draft(&self, worker: u32, text: &[u8]) -> io::Result<&str> {
-        let Some(draft) = self.drafts.get(worker as usize) else {
-            return Err(Error::from(ErrorKind::InvalidInput));
-        };
-        let mut file = create_anew(self.rt, draft.as_str())?;
-        file.write_all(text)?;
-        Ok(draft.as_str())
+    /// Writes a draft.
+    fn write_draft(&self, draft: &str, text: &[u8]) -> io::Result<()> {
+        let mut file = create_anew(self.rt, draft)?;
+        file.write_all(text)
+    }
+
+    /// Writes a note of this path, by way of a draft. A fault may pass.
+    fn try_to_write(&self, draft: &str, path: &str, text: &[u8]) -> io::Result<()> {
+        self.write_draft(draft, text)?;
+        fs::rename(self.rt, draft, path)
+    }
+
+    /// Reads the claim of this path, where there is one, and else makes it, by way of a draft. A fault may pass.
+    fn try_to_claim(
+        &self,
+        draft: &str,
+        path: &str,
+        text: &[u8],
+        room: &mut [u8],
+    ) -> io::Result<Option<usize>>
+        ensures { IfOk result (λ found. IfSome found (λ n. n ≤ length room.new)) }
+    {
+        if let Some(len) = self.read_file(path, room)? {
+            return Ok(Some(len));
+        }
+        self.make_claim(draft, path, text)?;
+        Ok(None)
     }
 
     /// Makes a claim of this path. Fails with the kind `AlreadyExists` where there is one.
-    fn make_claim(&self, worker: u32, path: &str, text: &[u8]) -> io::Result<()> {
-        let draft = self.write_draft(worker, text)?;
+    fn make_claim(&self, draft: &str, path: &str, text: &[u8]) -> io::Result<()> {
+        self.write_draft(draft, text)?;
         let made = fs::hard_link(self.rt, draft, path);
         // A draft that stays is replaced by the next one.
         let _ = fs::remove_file(self.rt, draft);
@@ -110,11 +134,19 @@ impl<R: Files + Eprint> Notes for Folder<'_, R> {
     }
 
     fn write(&self, worker: u32, text: &[u8]) -> io::Result<()> {
-        let Some(note) = self.notes.get(self.task as usize) else {
+        let (Some(note), Some(draft)) = (
+            self.notes.get(self.task as usize),
+            self.drafts.get(worker as usize),
+        ) else {
             return Err(Error::from(ErrorKind::InvalidInput));
         };
-        let draft = self.write_draft(worker, text)?;
-        fs::rename(self.rt, draft, note.as_str())
+        for _ in 1..MOST_TRIES {
+            match self.try_to_write(draft.as_str(), note.as_str(), text) {
+                Err(fault) if may_pass(&fault) => {}
+                ended => return ended,
+            }
+        }
+        self.try_to_write(draft.as_str(), note.as_str(), text)
     }
 
     fn claim(
@@ -124,25 +156,24 @@ impl<R: Files + Eprint> Notes for Folder<'_, R> {
         text: &[u8],
         room: &mut [u8],
     ) -> io::Result<Option<usize>> {
-        let folder = &self.folder;
-        let Ok(path) = format!(in self.alloc; "{folder}/{}.{}.claim", block.task, block.number)
-        else {
+        if self.drafts.get(worker as usize).is_none() {
+            return Err(Error::from(ErrorKind::InvalidInput));
+        }
+        let (folder, own) = (&self.folder, self.task);
+        let (Ok(path), Ok(draft)) = (
+            format!(in self.alloc; "{folder}/{}.{}.claim", block.task, block.number),
+            format!(in self.alloc; "{folder}/{own}.{worker}.claim.new"),
+        ) else {
             return Err(Error::from(ErrorKind::OutOfMemory));
         };
-        if let Some(len) = self.read_file(path.as_str(), room)? {
-            return Ok(Some(len));
-        }
-        match self.make_claim(worker, path.as_str(), text) {
-            Ok(()) => Ok(None),
-            // Another worker was first. A name that leads nowhere is nobody's claim.
-            Err(fault) if fault.kind() == ErrorKind::AlreadyExists => {
-                match self.read_file(path.as_str(), room)? {
-                    Some(len) => Ok(Some(len)),
-                    None => Err(fault),
-                }
+        // Where another worker was first, the next try reads its claim. A name that leads nowhere is nobody's claim.
+        for _ in 1..MOST_TRIES {
+            match self.try_to_claim(draft.as_str(), path.as_str(), text, room) {
+                Err(fault) if may_pass(&fault) => {}
+                ended => return ended,
             }
-            Err(fault) => Err(fault),
         }
+        self.try_to_claim(draft.as_str(), path.as_str(), text, room)
     }
 
     // Writes one line to the standard error, as for a fault.
@@ -175,6 +206,11 @@ fn create_anew<R: Files>(rt: &R, path: &str) -> io::Result<R::File> {
         }
         made => made,
     }
+}
+
+/// Whether the fault is that a file is there or is not, which another run of the same task may have brought about.
+fn may_pass(fault: &io::Error) -> bool {
+    matches!(fault.kind(), ErrorKind::AlreadyExists | ErrorKind::NotFound)
 }
 
 /// No note where the file is missing, and else the fault.
