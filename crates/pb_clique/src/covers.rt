@@ -11,11 +11,7 @@ use pb_inst::{Constraint, Lit};
 use pb_rows::LiteralLists;
 
 /// Whether the constraint is a clause of two literals that a clique has.
-pub(crate) fn follows(
-    constraint: &Constraint<'_>,
-    arcs: &Arcs<'_>,
-    cliques: &LiteralLists,
-) -> bool
+pub(crate) fn follows(constraint: &Constraint<'_>, arcs: &Arcs<'_>, cliques: &LiteralLists) -> bool
     ensures { IsTrue result → FollowsFrom cliques.now (linear constraint.now) }
 {
     let Some((one, other)) = clause_of(constraint) else {

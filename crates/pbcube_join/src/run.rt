@@ -198,7 +198,11 @@ fn name_refused<E: Write>(read: &Reports, err: &mut E) {
 /// Writes one line to the standard error for each piece that is missing or was cut, and one that names them all, unless every
 /// piece is done; and one more where there is no report.
 fn name_pieces<E: Write>(joined: &Joined, err: &mut E) {
-    if joined.states.iter().all(|state| *state == PieceState::Missing) {
+    if joined
+        .states
+        .iter()
+        .all(|state| *state == PieceState::Missing)
+    {
         tell_of_no_report(err);
     }
     for (number, state) in joined.states.iter().enumerate() {
