@@ -5,6 +5,7 @@
  *                full: a file there takes half of what is first written to it, and then nothing
  *                single: no file there gets a second name
  *                gone: the folder moves away, to its name and `.gone`
+ *                taken: a draft is not there any more as it gets its name, at this call alone, as where another run took it
  *   FOLDER_AT    the number of the call on a file of the folder, from 1, from which on it is wrong
  *   FOLDER_TELL  a file descriptor on which a byte is written when that call came
  */
@@ -48,11 +49,15 @@ static void move_away(void)
     NEXT(rename)(told("FOLDER"), away);
 }
 
+/* Whether the last call of this thread was the one of the number FOLDER_AT. */
+static _Thread_local bool has_just_come;
+
 /* Counts a call on a file of the folder, and says whether the folder is wrong by then. */
 static bool counts(void)
 {
     unsigned long number = atomic_fetch_add(&calls, 1) + 1, at = strtoul(told("FOLDER_AT"), NULL, 10);
-    if (number == at) {
+    has_just_come = number == at;
+    if (has_just_come) {
         syscall(SYS_write, atoi(told("FOLDER_TELL")), "!", 1);
         if (strcmp(told("FOLDER_HOW"), "gone") == 0)
             move_away();
@@ -101,10 +106,20 @@ int statx(int place, const char *name, int flags, unsigned mask, struct statx *f
     return fails(name, "", 0) ? -1 : NEXT(statx)(place, name, flags, mask, found);
 }
 
+/* Takes the draft away before it gets its name, where this is the call. */
+static void take(const char *draft)
+{
+    if (has_just_come && strcmp(told("FOLDER_HOW"), "taken") == 0)
+        NEXT(unlink)(draft);
+}
+
 int link(const char *from, const char *to)
 {
     const char *how = strcmp(told("FOLDER_HOW"), "kept") == 0 ? "kept" : "single";
-    return fails(to, how, strcmp(how, "kept") == 0 ? EACCES : EPERM) ? -1 : NEXT(link)(from, to);
+    if (fails(to, how, strcmp(how, "kept") == 0 ? EACCES : EPERM))
+        return -1;
+    take(from);
+    return NEXT(link)(from, to);
 }
 
 int mkdir(const char *name, mode_t mode)
@@ -119,7 +134,10 @@ int mkdir(const char *name, mode_t mode)
 
 int rename(const char *from, const char *to)
 {
-    return fails(to, "kept", EACCES) ? -1 : NEXT(rename)(from, to);
+    if (fails(to, "kept", EACCES))
+        return -1;
+    take(from);
+    return NEXT(rename)(from, to);
 }
 
 int unlink(const char *name)

@@ -51,8 +51,9 @@ NOTED = [
     ("cost -5\nvalues 101\n", "o 4\ns SATISFIABLE\nv x1 -x2 x3\n"),
 ]
 
-# How the folder of notes goes wrong, as tests/preload/folder.c has it, and what the system says of it then.
-WRONG_FOLDERS = {"kept": errno.EACCES, "full": errno.ENOSPC, "single": errno.EPERM, "gone": errno.ENOENT}
+# How the folder of notes goes wrong, as tests/preload/folder.c has it, and what the system says of it then. A draft that another run
+# takes away is written again.
+WRONG_FOLDERS = {"kept": errno.EACCES, "full": errno.ENOSPC, "single": errno.EPERM, "gone": errno.ENOENT, "taken": None}
 MOST_CALLS = 1000
 
 # Texts with cubes, and for each piece the first of its assignments, where it has any.
@@ -320,13 +321,17 @@ class Disturbed:
 
     def faults_of(self, folder, at, is_come, ended):
         """What is wrong with what the task says. At most one line tells of the folder."""
+        heading = part("1 of 3", TWO_OF_THREE, IN_NINE, " 1 4 7" if self.how != "taken" else " 1 3 4 6 7")
+        if not WRONG_FOLDERS[self.how]:
+            if ended.err or not ended.out.startswith(heading):
+                yield f"{ended}"
+            return
         fault = reason(WRONG_FOLDERS[self.how])
         line = rf"pbcube_task: cannot (claim {folder}/\d\.\d\.claim|exchange {folder}/\d\.note): {re.escape(fault)}\n"
         if ended.err and not (is_come and re.fullmatch(line, ended.err)):
             yield f"it says {ended.err!r}"
         if at == 1 and ended.err != f"pbcube_task: cannot claim {folder}/1.0.claim: {fault}\n":
             yield f"at once: it says {ended.err!r}"
-        heading = part("1 of 3", TWO_OF_THREE, IN_NINE, " 1 4 7")
         if at == 1 and not ended.out.startswith(heading):
             yield f"at once: {ended.out!r}"
 
