@@ -1,15 +1,23 @@
 #!/usr/bin/env python3
-"""Measures tasks that search an instance together on several cores of this machine: with notes between them, without, and against
-as many workers of one run on the same pieces.
+"""Measures tasks that search an instance together on this machine, beside as many workers of one run on the same pieces.
 
-    tasks.py CRATES [--splits 4,6,8] [--cores 4] [--tasks 4,16] [--runs N] [--limit SECONDS] FILE...
+    tasks.py CRATES [--columns alone,workers,4,16,killed,without] [--splits 4,6,8] [--cores 4] [--runs N] [--limit SECONDS]
+             [--alone N] FILE[:SPLIT,SPLIT]...
 
-CRATES is the folder crates/ whose programs are built. A file whose first line begins with `p cnf` is read as CNF, any other as
-OPB. For each split the table has seconds (wall clock, from the start to the report of the whole): one run with one worker, one run
-with a worker for each core, tasks with notes, for each number of tasks, and as many tasks as cores without notes, each from their start
-to the joined report. As many tasks as there are cores run at a time, in the order of their numbers. Of each the table has the median of
-N runs (of one worker, and of tasks without notes, one run), and behind it the seconds of all processors in that run. The reports
-must be those of one run; where they are not, the table says so.
+CRATES is the folder crates/ whose programs are built. A file whose first line begins with `p cnf` is read as CNF, any other as OPB.
+A file has a row for each of the splits behind its colon, or else of --splits. The columns are those that are chosen of these:
+
+    alone    one run with one worker and no split
+    workers  one run with a worker for each core
+    NUMBER   this number of tasks with notes
+    killed   as many tasks with notes as there are cores. After a third of the seconds that these took before, the first task that still
+             runs gets SIGKILL, and runs again at once
+    without  as many tasks without notes as there are cores
+
+A cell has seconds by the clock, from the start to the report of the whole, and in brackets those of all processors. They are of the
+run of median seconds of N runs, and in `alone` and `without` of one run. As many tasks as cores run at a time, in the order of their
+numbers. Runs of one worker come first, --alone of them at a time, and have ten times the limit. Where a report is not that of the
+first run, or no task was killed, the cell says so.
 """
 import argparse
 import os
@@ -19,9 +27,13 @@ import tempfile
 import time
 from concurrent.futures import ThreadPoolExecutor
 from pathlib import Path
+from signal import SIGKILL
+from threading import Timer
 
 sys.dont_write_bytecode = True
 from workers import format_of, numbers
+
+HEADS = {"alone": "one worker", "workers": "%d workers", "killed": "%d tasks, one killed", "without": "%d tasks without notes"}
 
 
 class Programs:
@@ -31,96 +43,139 @@ class Programs:
         self.whole, self.task, self.join = (crates / name / "out" / name for name in ("pbcube", "pbcube_task", "pbcube_join"))
 
 
-def processor_seconds():
-    """Those of all programs that have ended."""
-    times = os.times()
-    return times.children_user + times.children_system
+class Unmeasured(Exception):
+    """What a cell has in place of seconds."""
 
 
-def ended(commands, at_once, limit):
-    """Whether all commands ended within the limit, `at_once` of them at a time. Each comes with the file for its output."""
-
-    def run(command):
-        words, out = command
-        try:
-            with out.open("wb") as report:
-                subprocess.run([str(word) for word in words], stdout=report, timeout=max(end - time.monotonic(), 0))
-            return True
-        except subprocess.TimeoutExpired:
-            return False
-
-    end = time.monotonic() + limit
-    with ThreadPoolExecutor(at_once) as pool:
-        return all(list(pool.map(run, commands)))
-
-
-def measured(steps, at_once, out, limit):
-    """The seconds of steps one after the other, those of all processors, and the last one's output, or none past the limit."""
-    start, before = time.perf_counter(), processor_seconds()
-    for commands in steps:
-        if not ended(commands, at_once, limit):
-            return None
-    return time.perf_counter() - start, processor_seconds() - before, out.read_bytes()
+def run(words, out, end, children):
+    """The processor seconds of a program. If it is killed before this end, it runs again at once."""
+    seconds = 0
+    while time.monotonic() < end:
+        with out.open("wb") as report:
+            child = subprocess.Popen([str(word) for word in words], stdout=report)
+        children.append(child)
+        timer = Timer(end - time.monotonic(), child.kill)
+        timer.start()
+        _, status, used = os.wait4(child.pid, 0)
+        child.returncode = os.waitstatus_to_exitcode(status)
+        timer.cancel()
+        seconds += used.ru_utime + used.ru_stime
+        if child.returncode != -SIGKILL:
+            return seconds
+    raise Unmeasured("over the limit")
 
 
-def of_one_run(programs, name, workers, split, room, limit):
-    """What one run takes with `workers` workers."""
-    words = ["--format", format_of(name), "--workers", workers, "--split", split]
-    return measured([[([programs.whole, *words, name], room / "report")]], 1, room / "report", limit)
+def kill_one(children):
+    """Kills the first program of those that still run."""
+    for child in children:
+        if child.returncode is None:
+            return child.kill()
 
 
-def of_tasks(programs, name, tasks, cores, split, notes, room, limit):
-    """What `tasks` tasks take, each with one worker and one for each core at a time, and their join."""
-    kind = ["--format", format_of(name)]
-    words = [*kind, "--split", split, "--tasks", tasks, *(["--exchange", room / "notes"] if notes else [])]
-    reports = [room / f"{task}.report" for task in range(tasks)]
-    searches = [([programs.task, *words, "--task", task, name], report) for task, report in enumerate(reports)]
-    join = [([programs.join, *kind, "--tasks", tasks, name, *reports], room / "joined")]
-    return measured([searches, join], cores, room / "joined", limit)
+def measured(steps, at_once, limit, kill=None):
+    """Seconds by the clock and of all processors for steps one after the other, and the last one's output. Each step has words, each with
+    the file for their output. If there is a time to kill a program, one is killed then."""
+    start, processors, children = time.monotonic(), 0, []
+    killer = Timer(kill or limit, kill_one, [children])
+    killer.start()
+    try:
+        for commands in steps:
+            with ThreadPoolExecutor(at_once) as pool:
+                processors += sum(pool.map(lambda it: run(*it, start + limit, children), commands))
+    finally:
+        killer.cancel()
+    if kill and len(children) == sum(map(len, steps)):
+        raise Unmeasured("none was killed")
+    return time.monotonic() - start, processors, steps[-1][-1][1].read_bytes()
+
+
+def of_one_run(options, name, workers, split, limit):
+    """What measures one run with this number of workers."""
+    words = [options.programs.whole, "--format", format_of(name), "--workers", workers, "--split", split, name]
+    return lambda room: measured([[(words, room / "report")]], 1, limit)
+
+
+def of_tasks(options, name, tasks, split, notes=True, kill=None):
+    """What measures this number of tasks, each with one worker, and their join. One is killed if there is a time to kill it."""
+
+    def way(room):
+        reports = [room / f"{task}.report" for task in range(tasks)]
+        words = ["--format", format_of(name), "--tasks", tasks, name]
+        searching = [options.programs.task, *words, "--split", split, *(["--exchange", room / "notes"] if notes else []), "--task"]
+        searches = [([*searching, task], reports[task]) for task in range(tasks)]
+        join = [([options.programs.join, *words, *reports], room / "joined")]
+        return measured([searches, join], options.cores, options.limit, kill)
+
+    return way
 
 
 def median(way, runs):
-    """The run of median seconds, or none where one took longer than its limit."""
+    """The run of median seconds, with the reports of all runs, or what its cell has in place of seconds."""
     results = []
     for _ in range(runs):
-        with tempfile.TemporaryDirectory() as folder:
-            results.append(way(Path(folder)))
-        if results[-1] is None:
-            return None
-    return sorted(results)[len(results) // 2]
+        with tempfile.TemporaryDirectory() as room:
+            try:
+                results.append(way(Path(room)))
+            except Unmeasured as told:
+                return str(told)
+    seconds, processors, _ = sorted(results)[runs // 2]
+    return seconds, processors, {report for _, _, report in results}
 
 
-def cell(result, report, limit):
-    if result is None:
-        return f"over {limit:g}"
-    seconds, processors, output = result
-    return f"{seconds:.2f} ({processors:.1f}){'' if output == report else ' ANOTHER REPORT'}"
+def result(options, column, name, split, row):
+    """What a column has, beside those that the row has."""
+    cores, runs = options.cores, options.runs
+    if column == "workers":
+        return median(of_one_run(options, name, cores, split, options.limit), runs)
+    if column == "without":
+        return median(of_tasks(options, name, cores, split, notes=False), 1)
+    if column == "killed":
+        whole = row[str(cores)]
+        return whole if isinstance(whole, str) else median(of_tasks(options, name, cores, split, kill=whole[0] / 3), runs)
+    return median(of_tasks(options, name, int(column), split), runs)
+
+
+def cells(options, name, split, alone):
+    """What a row shows. All reports have to be the first one."""
+    row = {}
+    for column in options.columns:
+        row[column] = alone if column == "alone" else result(options, column, name, split, row)
+    reports = [told[2] for told in row.values() if not isinstance(told, str)]
+    return [Path(name).name, str(split), *(told if isinstance(told, str) else shown(*told, reports[0]) for told in row.values())]
+
+
+def shown(seconds, processors, reports, first):
+    """A cell of a result."""
+    return f"{seconds:.2f} ({processors:.1f}){'' if reports == first and len(first) == 1 else ' ANOTHER REPORT'}"
+
+
+def parsed():
+    parser = argparse.ArgumentParser(description=__doc__.splitlines()[0])
+    parser.add_argument("crates", type=Path)
+    parser.add_argument("files", nargs="+")
+    parser.add_argument("--columns", type=lambda text: text.split(","), default=["alone", "workers", "4", "16", "killed", "without"])
+    parser.add_argument("--splits", default="4,6,8")
+    parser.add_argument("--cores", type=int, default=4)
+    parser.add_argument("--runs", type=int, default=1)
+    parser.add_argument("--limit", type=float, default=60)
+    parser.add_argument("--alone", type=int, default=1)
+    options = parser.parse_args()
+    if "killed" in options.columns and str(options.cores) not in options.columns[: options.columns.index("killed")]:
+        parser.error("killed comes behind the column of as many tasks with notes as there are cores")
+    options.programs = Programs(options.crates)
+    return options
 
 
 def main():
-    parser = argparse.ArgumentParser()
-    parser.add_argument("crates", type=Path)
-    parser.add_argument("files", nargs="+")
-    parser.add_argument("--splits", type=numbers, default=[4, 6, 8])
-    parser.add_argument("--cores", type=int, default=4)
-    parser.add_argument("--tasks", type=numbers, default=[4, 16])
-    parser.add_argument("--runs", type=int, default=1)
-    parser.add_argument("--limit", type=float, default=60)
-    options = parser.parse_args()
-    programs, cores, runs, limit = Programs(options.crates), options.cores, options.runs, options.limit
-    heads = [f"{cores} workers", *(f"{tasks} tasks with notes" for tasks in options.tasks), f"{cores} tasks without"]
-    print(f"| instance | split | one worker | {' | '.join(heads)} |\n|---|---|---|{'---|' * len(heads)}")
-    for name in options.files:
-        alone = median(lambda room: of_one_run(programs, name, 1, 0, room, 10 * limit), 1)
-        for split in options.splits:
-            results = [
-                alone,
-                median(lambda room: of_one_run(programs, name, cores, split, room, limit), runs),
-                *(median(lambda room: of_tasks(programs, name, tasks, cores, split, True, room, limit), runs) for tasks in options.tasks),
-                median(lambda room: of_tasks(programs, name, cores, cores, split, False, room, limit), 1),
-            ]
-            cells = [cell(result, alone[2], limit) for result in results]
-            print("| " + " | ".join([Path(name).name, str(split), *cells]) + " |", flush=True)
+    options = parsed()
+    heads = [HEADS.get(column, f"{column} tasks with notes").replace("%d", str(options.cores)) for column in options.columns]
+    print(f"| instance | split | {' | '.join(heads)} |\n|---|---|{'---|' * len(heads)}", flush=True)
+    files = [(name, splits or options.splits) for name, _, splits in (word.partition(":") for word in options.files)]
+    with ThreadPoolExecutor(options.alone) as pool:
+        way = lambda file: median(of_one_run(options, file[0], 1, 0, 10 * options.limit), 1)
+        alone = list(pool.map(way, files if "alone" in options.columns else []))
+    for index, split in [(index, split) for index, (_, splits) in enumerate(files) for split in numbers(splits)]:
+        print("| " + " | ".join(cells(options, files[index][0], split, alone[index] if alone else None)) + " |", flush=True)
 
 
 if __name__ == "__main__":
