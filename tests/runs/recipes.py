@@ -6,7 +6,7 @@
 It takes the programs that the merge gate built. The recipes for GNU parallel are run where that is here or can be fetched, those
 for Slurm task by task, without Slurm. Reports are lost in them, a solver is killed, and once there is no solver at all. The tasks
 that exchange notes meet hostile files in the folder of notes, and some are run twice at a time. Where there is a C compiler, that
-folder also goes wrong under them, by the preloaded library folder.c.
+folder also goes wrong under them, by the preloaded library folder.c. Root runs some as two other users.
 """
 import itertools
 import os
@@ -23,6 +23,7 @@ from lib import PROGRAMS, SECONDS, TOP, Ended, preloaded, program, ran, run, sid
 from lib.reports import ALL_REFUSED, in_no_report, run_again
 
 CLUSTER = TOP / "examples/cluster"
+AS_USERS = [["setpriv", "--reuid", user, "--regid", "65534", "--clear-groups"] for user in ("1", "65534")]
 DIVIDERS = ("pbcube_pieces", "pbcube_join")
 GIGABYTES = 4
 
@@ -33,6 +34,12 @@ def has_parallel():
         for words in (["update"], ["install", "--yes", "--no-install-recommends", "parallel"]):
             subprocess.run(["apt-get", "--quiet", *words], stdin=subprocess.DEVNULL, capture_output=True, timeout=300)
     return shutil.which("parallel") is not None
+
+
+def has_users():
+    """Whether this is root, and other users reach the programs and the instance."""
+    reached = ["test", "-x", program("pbcube_task"), "-a", "-r", OfTasks.FILE]
+    return os.geteuid() == 0 and shutil.which("setpriv") is not None and not any(ran([*it, *reached]).status for it in AS_USERS)
 
 
 def reports_in(folder):
@@ -274,13 +281,13 @@ class OfPieces(Recipes):
 class OfTasks(Recipes):
     """Those of tasks that exchange notes."""
 
-    SPLIT, TASKS, KILLED = 3, 4, 2
+    FILE, SPLIT, TASKS, KILLED = TOP / "examples/hard/knapsack.opb", 3, 4, 2
     # what every task refuses, as one run does: a split that is too great, and a text in another format
     SMALL = TOP / "examples/tie.opb"
     REFUSED = [(SMALL, "opb", 8), (SMALL, "cnf", 1)]
 
     def __init__(self, room):
-        super().__init__(room, TOP / "examples/hard/knapsack.opb")
+        super().__init__(room, self.FILE)
         solver = program("pbcube_task")
         # it leaves its note and is ended by a signal while it writes its report
         killed = f'case "$*" in *"--task {self.KILLED} "*) {solver} "$@" | head -n 5; kill -9 $$ ;; esac'
@@ -572,6 +579,25 @@ class OfTasks(Recipes):
         if statuses != [1, 0] or len(words) != 2 or len(set(words)) != 1:
             yield f"slurm-tasks.sh, requeued: {statuses} {words}"
 
+    def of_users(self):
+        """Two users share a folder of notes: both may write to it, or neither may."""
+        yield from self.of_shared_notes(0o777, "")
+        yield from self.of_shared_notes(0o755, "Permission denied")
+
+    def of_shared_notes(self, mode, told):
+        """Two users run the tasks by turns, and then the other one runs a task again."""
+        folder = self.room / f"users {mode:o}"
+        (notes := folder / "notes").mkdir(parents=True)
+        notes.chmod(mode)
+        words = ["--split", self.SPLIT, "--tasks", self.TASKS, "--exchange", notes, self.FILE, "--task"]
+        for number, user in [*((it, it % 2) for it in range(self.TASKS)), (0, 1)]:
+            ended = ran([*AS_USERS[user], program("pbcube_task"), *map(str, words), str(number)])
+            (folder / f"{number}.report").write_text(ended.out)
+            if ended.err.count("\n") != (told != "") or told not in ended.err:
+                yield f"tasks of two users, mode {mode:o}, task {number}: {ended}"
+        if (joined := run("pbcube_join", "--tasks", self.TASKS, self.FILE, folder)) != self.answer:
+            yield f"tasks of two users, mode {mode:o}: {joined}"
+
     def of_refused_in_slurm(self):
         """Each task helps as one run does, and the join says that every task refused its input."""
         for file, kind, split in self.REFUSED:
@@ -676,17 +702,21 @@ def faults_of_wrong_words(room):
 
 
 def main():
-    is_here = has_parallel()
+    is_here, are_users_here = has_parallel(), has_users()
     wrong = [said for it in sorted(CLUSTER.iterdir()) for said in faults_of_words(it)]
     with tempfile.TemporaryDirectory(prefix="pbcube-recipes-") as folder:
+        os.chmod(folder, 0o755)  # for other users
         wrong += faults_of_wrong_words(Path(folder) / "words")
         kinds = [OfTasks(Path(folder) / "tasks"), OfPieces(Path(folder) / "pieces")]
         steps = [it.of_slurm for it in kinds] + [it.of_parallel for it in kinds if is_here]
+        steps += [kinds[0].of_users] * are_users_here
         wrong += [line for lines in side_by_side(lambda step: list(step()), steps) for line in lines]
     if not is_here:
         print("recipes: those for GNU parallel are left out, since it is not here")
+    if not are_users_here:
+        print("recipes: tasks of two users are left out, since this is not root, or other users do not reach the programs")
     print(*[f"recipes: {line}" for line in wrong], sep="\n", end="\n" if wrong else "")
-    print(f"recipes: {len(steps)} of 4 kinds were run, {len(wrong)} complaints")
+    print(f"recipes: {len(steps)} of 5 kinds were run, {len(wrong)} complaints")
     return 1 if wrong else 0
 
 
