@@ -31,6 +31,7 @@ from dataclasses import replace
 from decimal import Decimal
 from fractions import Fraction
 from pathlib import Path
+from types import SimpleNamespace
 
 sys.dont_write_bytecode = True
 sys.path.insert(0, str(Path(__file__).resolve().parents[1]))
@@ -215,6 +216,22 @@ class Truth:
         return True
 
 
+class Flag:
+    """A truth value of numpy, which some versions of it have as a whole number, with a warning."""
+
+    dtype = SimpleNamespace(kind="b")
+
+    def __init__(self, value):
+        self.value = value
+
+    def __index__(self):
+        warnings.warn("a truth value is taken for an index", DeprecationWarning, stacklevel=2)
+        return int(self.value)
+
+    def __bool__(self):
+        return self.value
+
+
 class Array:
     """Numbers of another package, which leaves operations with literals and sums to these."""
 
@@ -259,6 +276,30 @@ def number_facts():
     yield "values and counts", model.solve(Whole(9), start={"x": Whole(1), "y": None}).values == (False, False)
     yield "variables", len(model.variables(Whole(2))) == 2
     yield "an array of names", repr(model.variables(Items("u", "v"))) == "[u, v]"
+
+
+def flag_facts():
+    """Truth values of numpy are no numbers, and are values of a start, without a warning."""
+    model, true, false = Model(), Flag(True), Flag(False)
+    x, y = model.variables("x y")
+    refused = (
+        (lambda: x + true, "int(value)"), (lambda: true + x, "int(value)"), (lambda: x - true, "int(value)"),
+        (lambda: true - (x + y), "int(value)"), (lambda: x * true, "int(value)"), (lambda: true * (x + y), "int(value)"),
+        (lambda: x / true, "int(value)"), (lambda: x == true, "int(value)"), (lambda: true == x, "int(value)"),
+        (lambda: x + y >= true, "int(value)"), (lambda: true >= x, "int(value)"), (lambda: total([x, true]), "int(value)"),
+        (lambda: sum([x, true]), "int(value)"), (lambda: model.minimise(true), "int(value)"), (lambda: model.add(true), "bool(value)"),
+        (lambda: model.at_most(true, [x, y]), "at_most(1, [x, y])"), (lambda: model.variables(true), "variables(3)"),
+        (lambda: model.solve(true), "whole number"), (lambda: model.solve(workers=true), "whole number"),
+    )  # fmt: skip
+    with warnings.catch_warnings():
+        warnings.simplefilter("error")
+        for at, (call, said) in enumerate(refused):
+            fault = raised(call)
+            yield f"a truth value of numpy {at}: {fault!r}", type(fault) is TypeError and said in str(fault)
+        model.clause([x, y])
+        started = [model.solve(0, start=start).values for start in ([false, true], {"x": false, y: true}, {~x: true, "y": true})]
+        yield f"as a start: {started}", started == [(False, True)] * 3
+    yield "rows of a start", type(raised(lambda: model.solve(start=[[True], [False]]))) is ValueError
 
 
 def other_name_facts():
@@ -1176,7 +1217,7 @@ def death_facts():
 
 
 def main():
-    written = [name_facts, table_facts, many_name_facts, pickle_facts, number_facts, gathered_facts, written_facts, read_facts]
+    written = [name_facts, table_facts, many_name_facts, pickle_facts, number_facts, flag_facts, gathered_facts, written_facts, read_facts]
     calls = [value_facts, page_facts, wide_facts, copy_facts, question_facts, start_facts, random_facts, child_facts, kept_facts]
     refusals = [other_name_facts, mistake_facts, foreign_facts, refusal_facts, room_facts, text_facts, hint_facts, shared_hint_facts, limit_of_text_facts]
     interrupts = [lambda: interrupt_facts(os.kill), lambda: interrupt_facts(os.killpg), question_end_facts]

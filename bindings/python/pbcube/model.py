@@ -9,7 +9,7 @@ from dataclasses import dataclass
 from fractions import Fraction
 from operator import index
 from typing import TYPE_CHECKING, Any, Callable, Dict, FrozenSet, Iterable, List, Mapping, NoReturn, Optional, Sequence
-from typing import SupportsIndex, Tuple, Union
+from typing import Tuple, Union
 
 from . import conflicts, hints, searches, texts
 from .answers import Answer, Explanation, Fixed, Names, Status
@@ -20,6 +20,7 @@ from .programs import Workers
 from .sums import MOST_VARIABLES, Constraint, Exact, Expression, Literal, Owner, Sum, total
 from .sums import as_constraint, as_literal, as_sum, check_owners, compact, lower_bounds, tidy, whole
 from .tables import table
+from .wholes import is_truth_value, is_whole
 
 _MOST_CONSTRAINTS = 4_194_304
 _MOST_TERMS = 16_777_216
@@ -624,8 +625,10 @@ def told_by(on_better: Optional[OnBetter], answer_of: Callable[[Reply], Answer])
 
 def _truth(value: object) -> bool:
     """The value of a variable in a start. None, as `Fixed` tells, is False."""
-    known = index(value) if isinstance(value, SupportsIndex) else value
-    if known is not None and known not in (0, 1):
+    if is_truth_value(value) and not hasattr(value, "__len__"):
+        return bool(value)
+    known = index(value) if is_whole(value) else value  # type: ignore[arg-type]
+    if known is not None and (hasattr(known, "__len__") or known not in (0, 1)):
         raise ValueError(f"a value in a start is True or False, or 1 or 0, and not {value!r}")
     return bool(known)
 
@@ -644,9 +647,8 @@ def _names_of(count: object) -> List[Optional[str]]:
     """A name or none for each of the variables that are asked for."""
     if isinstance(count, str):
         return [*_words_of(count)]
-    # An array of names has an index too, which numpy refuses where it has several.
-    if isinstance(count, SupportsIndex) and not isinstance(count, Iterable):
-        number = index(count)
+    if is_whole(count):
+        number = index(count)  # type: ignore[arg-type]
         if not 0 <= number <= MOST_VARIABLES:
             raise Error("BadVariable", f"{number} variables are asked for: write a number from 0 to {MOST_VARIABLES}")
         return [None] * number
@@ -679,9 +681,9 @@ def _check_words(others: Mapping[str, object]) -> None:
 def _number_of_literals(count: object, call: str, more: Sequence[object]) -> int:
     """How many literals are to be true. It stands before them where the call of that name is made, and nothing more behind them."""
     _check_alone(more, f"{call}(1, [x, y])")
-    if not isinstance(count, SupportsIndex):
+    if not is_whole(count):
         raise TypeError(f"no whole number of literals: {count!r}: it stands before the literals, as in {call}(1, [x, y])")
-    return index(count)
+    return index(count)  # type: ignore[arg-type]
 
 
 def _check_format(format: str) -> None:

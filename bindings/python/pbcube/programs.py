@@ -10,6 +10,8 @@ from operator import index
 from pathlib import Path
 from typing import List, Optional
 
+from .wholes import is_whole
+
 PROGRAMS = ("pbcube", "pbcube_task", "pbcube_join", "pbcube_pieces")
 _MOST_WORKERS = 64
 _MOST_SPLIT = 12
@@ -67,7 +69,7 @@ class Workers:
 
 def _within(name: str, number: object, least: int, most: int) -> int:
     """The number, which is to be in its range."""
-    if not hasattr(number, "__index__") or hasattr(number, "__len__"):
+    if not is_whole(number):
         raise TypeError(f"{name} is a whole number from {least} to {most}, and not {number!r}")
     given = index(number)  # type: ignore[arg-type]
     if not least <= given <= most:

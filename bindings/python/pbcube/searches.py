@@ -30,6 +30,7 @@ from .jobs import Job, Plan, Question, Reply, Statement
 from .library import CUT, NO_LIMIT, NOTHING, Search, begun_with, better, join_of, replies
 from .processes import Child, Program, python_command
 from .programs import MOST_NODES, Workers, is_budget
+from .wholes import is_whole
 
 _FEW_DECISIONS = 200
 _FEW_TERMS = 1000
@@ -46,7 +47,7 @@ def budget(nodes: Optional[int]) -> int:
     """The budget of decisions as the library takes it."""
     if nodes is None:
         return NO_LIMIT
-    if not hasattr(nodes, "__index__") or hasattr(nodes, "__len__"):
+    if not is_whole(nodes):
         other = "" if isinstance(nodes, float) else ": Model.read(path).solve() solves a file, and pbcube.solve(text) a text"
         raise TypeError(f"a budget is a whole number of decisions, and not {nodes!r}{other}")
     if not 0 <= index(nodes) < NO_LIMIT:

@@ -12,6 +12,7 @@ from typing import TYPE_CHECKING, Any, Dict, Iterable, List, Mapping, NoReturn, 
 
 from . import hints
 from .errors import Error, ForeignLiteral
+from .wholes import is_truth_value
 
 MOST_VARIABLES = 1_048_576
 GREATEST_SUM = 2**126 - 1
@@ -60,6 +61,8 @@ def exact(number: object) -> Exact:
         return number
     if isinstance(number, Fraction):
         return tidy(number)
+    if is_truth_value(number):
+        raise TypeError(f"no number: {number!r}{_advice(number)}")
     try:
         return index(number)  # type: ignore[arg-type]
     except TypeError:
@@ -82,7 +85,7 @@ def _advice(value: object) -> str:
         return f": model[{value!r}] is the variable of that name"
     if isinstance(value, bytes) or value is None or isinstance(value, complex):
         return ""
-    if hasattr(value, "__len__"):
+    if hasattr(value, "__len__") and getattr(value, "shape", None) != ():
         return ": take one item after the other, as total(number * x for number, x in zip(numbers, variables))"
     return ": write int(value) where it is a truth value" if hasattr(value, "__bool__") else ""
 
