@@ -325,6 +325,10 @@ def other_name_facts():
         (lambda: model.solve(timeout=1), "solve takes no timeout=: write time_limit=10"), (lambda: model.solve(threads=4), "split=8"),
         (lambda: model.solve(minimize=x), "model.minimise(sum) before"), (lambda: solve(TEXT, timeout=1), "time_limit=10"),
         (lambda: model.solve(assumptions=[x]), "assuming=[x, ~y]"), (lambda: model.solve(colour=1), "solve takes no colour="),
+        (lambda: model.explain(timeout=3), "explain takes no timeout=: write time_limit=10"), (lambda: model.fixed(timeout=3), "time_limit=10"),
+        (lambda: model.fixed(workers=2), "model.solve(workers=4, split=8) takes that"), (lambda: model.fixed(time_limt=3), "write time_limit="),
+        (lambda: model.explain(colour=1), "it takes assuming=, nodes=, time_limit="), (lambda: model.explain(budget=1), "nodes=1000"),
+        (lambda: solve(TEXT, assumptions=[1]), "model.solve(assuming=[x, ~y]) takes that, where model is Model.read(text)"),
     )  # fmt: skip
     for at, (call, said) in enumerate(cases):
         fault = raised(call)
@@ -338,6 +342,11 @@ def other_name_facts():
         (lambda: model.y, "model['y']"), (lambda: Model().read(TEXT), "model = Model.read(path)"), (lambda: model.solve().x, "answer[x]"),
         (lambda: model.solve().objective, "answer.cost"), (lambda: model.solve().colour, "'colour'"),
         (lambda: (x + y).value, "answer.value(x + y)"), (lambda: x.Not(), "write ~x"), (lambda: x.colour, "'colour'"),
+        (lambda: setattr(model, "time_limit", 5), "model.solve(time_limit=10)"), (lambda: setattr(model, "workers", 4), "split=8"),
+        (lambda: setattr(model, "timeout", 5), "model.solve(time_limit=10)"), (lambda: setattr(model, "verbose", True), "class Plan(Model)"),
+        (lambda: model.setParam("TimeLimit", 3), "time_limit=10"), (lambda: model.update(), "holds at once"),
+        (lambda: model.num_variables, "repr(model)"), (lambda: model.soft(x >= 1), "model.implies(~z, constraint)"),
+        (lambda: model.integer(0, 7), "x + 2 * y + 4 * z"), (lambda: model.clauses, "it has clause"), (lambda: model.colour, "variables, write"),
     )  # fmt: skip
     for at, (call, said) in enumerate(attributes):
         fault = raised(call)
@@ -360,6 +369,28 @@ def other_name_facts():
     model.add(x + y == 2 * made[0] + made[1])
     told = {(it[x] + it[y], it[made[0]], it[made[1]]) for it in (model.solve(assuming=[one, two]) for one in (x, ~x) for two in (y, ~y))}
     yield f"the remainder as it is said: {told}", told == {(0, False, False), (1, False, True), (2, True, False)}
+
+
+class Plan(Model):
+    """A model with attributes of its own."""
+
+    def __init__(self):
+        super().__init__()
+        self.nodes = self.variables("x y")
+        self.timeout = 5
+
+
+def subclass_facts():
+    """A subclass has the attributes that it sets, but for those by which a model of another package is told something."""
+    plan = Plan()
+    plan.add(total(plan.nodes) >= 2)
+    yield "attributes of its own", plan.solve(time_limit=plan.timeout).values == (True, True) and repr(plan.nodes) == "[x, y]"
+    yield "pickled", repr(pickle.loads(pickle.dumps(plan))) == repr(plan.copy()) == repr(plan)
+    yield "names of others", "model.minimise(sum)" in str(raised(lambda: setattr(plan, "objective", plan["x"])))
+    yield "and what is missing", "'colour'" in str(raised(lambda: plan.colour)) and not hasattr(plan, "_colour")
+    model = Model()
+    model.cubes, model._noted_by_me = ((),), 1
+    yield "what a model has", (model.copy().cubes, Model().cubes, model._noted_by_me) == (((),), (), 1)
 
 
 def mistake_facts():
@@ -1219,7 +1250,7 @@ def death_facts():
 def main():
     written = [name_facts, table_facts, many_name_facts, pickle_facts, number_facts, flag_facts, gathered_facts, written_facts, read_facts]
     calls = [value_facts, page_facts, wide_facts, copy_facts, question_facts, start_facts, random_facts, child_facts, kept_facts]
-    refusals = [other_name_facts, mistake_facts, foreign_facts, refusal_facts, room_facts, text_facts, hint_facts, shared_hint_facts, limit_of_text_facts]
+    refusals = [other_name_facts, subclass_facts, mistake_facts, foreign_facts, refusal_facts, room_facts, text_facts, hint_facts, shared_hint_facts, limit_of_text_facts]
     interrupts = [lambda: interrupt_facts(os.kill), lambda: interrupt_facts(os.killpg), question_end_facts]
     ends = [taken_facts, warned_facts, stranger_facts, *interrupts, exception_facts, limit_facts, death_facts]
     facts = [fact for part in (*written, *calls, never_worse_facts, *refusals, *ends) for fact in part()]

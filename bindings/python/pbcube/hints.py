@@ -2,7 +2,9 @@
 
 from __future__ import annotations
 
-from typing import Dict, Iterable, Tuple
+import difflib
+import re
+from typing import Dict, Iterable, Sequence, Tuple
 
 _SUM = "minimise(sum) or maximise(sum)"
 _ANSWER = "solve() gives an answer, which has it, as answer.cost"
@@ -21,10 +23,17 @@ _OF_MODELS: Dict[str, Tuple[str, ...]] = {
     "variable('x')": ("var", "add_var", "addVar", "add_variable", "NewBoolVar", "new_bool_var", "bool_var", "binary"),
     "variables('x y')": ("vars", "add_vars", "addVars", "add_variables"),
     "solve()": ("optimize", "optimise", "Solve", "check", "run"),
-    _ANSWER: ("status", "cost", "value", "values", "objective_value", "ObjVal", "named"),
     "write(path)": ("save", "dump", "export", "to_opb", "write_opb"),
     "copy()": ("push", "pop"),
 }
+_NOTES_ON_MODELS: Dict[str, Tuple[str, ...]] = {
+    _ANSWER: ("status", "cost", "value", "values", "objective_value", "ObjVal", "named"),
+    "what it is told holds at once": ("update", "build", "flush"),
+    "repr(model) tells how many": ("num_variables", "num_vars", "NumVars", "num_constraints", "num_constrs", "NumConstrs"),
+    "for a constraint that may fail write model.implies(~z, constraint), with a new variable z that costs": ("soft", "add_soft", "addSoft"),
+    "for an integer write a sum of variables, as x + 2 * y + 4 * z for one from 0 to 7": ("integer", "int_var", "NewIntVar", "new_int_var"),
+}
+"""What is told of names that no call stands for."""
 _READ = "Model.read(path) makes another model: write model = Model.read(path)"
 _VALUE = "an answer tells it, as answer[x] of a literal and answer.value(x + y) of a sum"
 _OF_SUMS: Dict[str, Tuple[str, ...]] = {
@@ -37,8 +46,14 @@ _OF_ANSWERS: Dict[str, Tuple[str, ...]] = {
     "answer.status": ("is_optimal", "optimal", "is_feasible", "feasible", "is_sat", "sat", "success"),
     "answer[x], answer.values or answer.named()": ("x", "get", "items", "keys", "solution", "assignment", "variables"),
 }
+_OF_EXPLANATIONS: Dict[str, Tuple[str, ...]] = {
+    "why.core or why.constraints": ("values", "names", "named", "items", "keys", "literals", "conflict", "rules"),
+}
+_OF_FIXED: Dict[str, Tuple[str, ...]] = {
+    "fixed[x] or fixed.named()": ("values", "value", "get", "items", "keys", "literals", "variables", "x"),
+}
 _OF_SOLVE: Dict[str, Tuple[str, ...]] = {
-    "time_limit=10": ("timeout", "time", "timelimit", "timeLimit", "seconds", "max_time"),
+    "time_limit=10": ("timeout", "time", "timelimit", "timeLimit", "TimeLimit", "seconds", "max_time", "setParam", "Params"),
     "workers=4, split=8": ("threads", "cores", "jobs", "processes", "n_jobs", "num_workers", "parallel"),
     "assuming=[x, ~y]": ("assumptions", "assume", "literals", "under"),
     "nodes=1000": ("budget", "decisions", "max_nodes", "node_limit", "limit"),
@@ -48,37 +63,72 @@ _OF_SOLVE: Dict[str, Tuple[str, ...]] = {
     "model.maximise(sum) before": ("maximise", "maximize"),
 }
 _FOR_ANSWERS = {name: has for has, names in _OF_ANSWERS.items() for name in names}
-_FOR_SOLVE = {name: word for word, names in _OF_SOLVE.items() for name in names}
-_FOR_MODELS = {name: call for call, names in _OF_MODELS.items() for name in names}
+_FOR_EXPLANATIONS = {name: has for has, names in _OF_EXPLANATIONS.items() for name in names}
+_FOR_FIXED = {name: has for has, names in _OF_FIXED.items() for name in names}
+_WORD = re.compile(r"(\w+)=")
+_FOR_SOLVE = {name: word for word, names in _OF_SOLVE.items() for name in (*names, *_WORD.findall(word))}
+_FOR_MODELS = {
+    **{name: f"write model.solve({word})" for name, word in _FOR_SOLVE.items() if _WORD.match(word)},
+    **{name: f"write model.{call}" for call, names in _OF_MODELS.items() for name in names},
+    **{name: note for note, names in _NOTES_ON_MODELS.items() for name in names},
+    **{"read": _READ},
+}
+_OF_OTHERS = {*_NOTES_ON_MODELS[_ANSWER], *(name for names in _OF_MODELS.values() for name in names)}
 _FOR_SUMS = {name: advice for advice, names in _OF_SUMS.items() for name in names}
 IN_OTHER_FORMATS = ("cnf", "icnf", "wcnf", "lp", "mps", "gz", "xz", "bz2", "zst")
 """What the names of files end with that have no plain OPB."""
 
 
-def of_model(name: str) -> str:
-    """What is said where a model is asked for an attribute that it does not have."""
-    call = _FOR_MODELS.get(name)
-    if call is None:
-        return f"a model has no {name!r}{f': {_READ}' if name == 'read' else ''}"
-    return f"a model has no {name!r}: {call if call is _ANSWER else f'write model.{call}'}"
+def of_model(name: str, has: Iterable[str]) -> str:
+    """What is said where a model is asked for an attribute that is not among those that it has."""
+    if name in _FOR_MODELS:
+        return f"a model has no {name!r}: {_FOR_MODELS[name]}"
+    public = [it for it in has if not it.startswith("_")]
+    near = difflib.get_close_matches(name.lower(), public, 3)
+    return f"a model has no {name!r}" + ("" if name.startswith("_") else f": it has {', '.join(near or public)}")
+
+
+def of_value(name: str, has: Iterable[str]) -> str:
+    """What is said where a value is given to such an attribute."""
+    return of_model(name, has) + ("" if name in _FOR_MODELS else "; a subclass, as class Plan(Model), takes values of your own")
 
 
 def of_sum(name: str) -> str:
-    """The same of a literal and of a sum."""
+    """What is said where a literal or a sum is asked for an attribute that it does not have."""
     return f"literals and sums have no {name!r}{f': {_FOR_SUMS[name]}' if name in _FOR_SUMS else ''}"
 
 
 def of_answer(name: str) -> str:
-    """The same of an answer."""
+    """What is said where an answer is asked for one."""
     return f"an answer has no {name!r}{f': write {_FOR_ANSWERS[name]}' if name in _FOR_ANSWERS else ''}"
 
 
-def of_solve(names: Iterable[str]) -> str:
-    """What is said where `solve` is handed words that it does not take."""
-    told = [f"solve takes no {name}={f': write {_FOR_SOLVE[name]}' if name in _FOR_SOLVE else ''}" for name in names]
-    return "; ".join(told)
+def of_explanation(name: str) -> str:
+    """What is said where an explanation is asked for one."""
+    return f"an explanation has no {name!r}{f': write {_FOR_EXPLANATIONS[name]}' if name in _FOR_EXPLANATIONS else ''}"
+
+
+def of_fixed(name: str) -> str:
+    """What is said where an answer on fixed variables is asked for one."""
+    return f"the answer of fixed has no {name!r}{f': write {_FOR_FIXED[name]}' if name in _FOR_FIXED else ''}"
+
+
+def of_words(call: str, others: Iterable[str], takes: Sequence[str]) -> str:
+    """What is said where a call is handed words that are not among those that it takes."""
+    return "; ".join(f"{call} takes no {name}=: {_in_place_of(name, takes)}" for name in others)
+
+
+def _in_place_of(name: str, takes: Sequence[str]) -> str:
+    """What to write where a call does not take this word, by those that it takes."""
+    if name not in _FOR_SOLVE:
+        near = difflib.get_close_matches(name, takes, 1)
+        return f"write {near[0]}=" if near else f"it takes {', '.join(f'{it}=' for it in takes)}"
+    word = _FOR_SOLVE[name]
+    if {*_WORD.findall(word)} <= {*takes}:
+        return f"write {word}"
+    return f"model.solve({word}) takes that{', where model is Model.read(text)' if 'text' in takes else ''}"
 
 
 def is_of_other(name: str) -> bool:
     """Whether other packages have the name where a model has another one."""
-    return name in _FOR_MODELS
+    return name in _OF_OTHERS

@@ -2,6 +2,7 @@
 
 from __future__ import annotations
 
+import inspect
 import os
 import threading
 from array import array
@@ -49,12 +50,13 @@ class Model:
     `cubes` are those of the text in iCNF that it was read from, each as its literals, and else none. They divide the work of other
     programs, and no answer here depends on them."""
 
+    cubes: Tuple[Tuple[Literal, ...], ...] = ()
+
     def __init__(self, *given: NoReturn) -> None:
         if given:
             raise TypeError("a model is made without a text: Model.read(path) reads a file or a text, and pbcube.solve(text) solves one")
         self._lock = threading.Lock()
         self._inherited: Dict[int, int] = {}  # owners and greatest numbers of variables that were copied with their model
-        self.cubes: Tuple[Tuple[Literal, ...], ...] = ()
         self._variables = 0
         self._names: Dict[str, int] = {}
         self._name_literals({})
@@ -67,18 +69,21 @@ class Model:
         self._found: Dict[FrozenSet[int], Reply] = {}  # the best ones by what they assume, until something is stated
 
     def __setattr__(self, name: str, value: object) -> None:
-        """Refuses what would be a call in place of a value, as `model.minimise = x` does."""
+        """Refuses what would be a call in place of a value, as `model.minimise = x` does, and what would do nothing, as
+        `model.time_limit = 10` does."""
         if not name.startswith("_") and callable(getattr(type(self), name, None)):
             raise AttributeError(f"{name} is a call of a model, and takes no value: write model.{name}(..)")
-        if hints.is_of_other(name):
-            raise AttributeError(hints.of_model(name))
+        is_own = name.startswith("_") or hasattr(type(self), name) or type(self) is not Model  # a subclass has what it sets
+        if hints.is_of_other(name) or not is_own:
+            raise AttributeError(hints.of_value(name, dir(type(self))))
         super().__setattr__(name, value)
 
     if not TYPE_CHECKING:  # which would then take each name for one of a model
 
         def __getattr__(self, name: str) -> NoReturn:
             is_variable = name in self.__dict__.get("_names", ())
-            raise AttributeError(f"a model has no {name!r}: write model[{name!r}]" if is_variable else hints.of_model(name))
+            has = hints.of_model(name, dir(type(self)))
+            raise AttributeError(f"a model has no {name!r}: write model[{name!r}]" if is_variable else has)
 
     def copy(self) -> Model:
         """A model of the same variables and rules, which takes more without this one. The literals that this one has are literals of
@@ -398,7 +403,7 @@ class Model:
         """
         if not isinstance(self, Model):
             raise TypeError(f"Model.solve is asked of a model, and not of {self!r}: Model.read(path).solve() solves a file")
-        _check_words(others)
+        _check_words(others, Model.solve)
         given = self._own(assuming)
         first = None if start is None else self._values_of(start)
         asked, program = self._asked("solve", given, first, 0), Workers.of(workers, split)
@@ -417,6 +422,7 @@ class Model:
         nodes: Optional[int] = None,
         *,
         time_limit: Optional[float] = None,
+        **others: NoReturn,
     ) -> Explanation:
         """Tells why nothing is feasible: of the constraints that have names, the names of some that cannot hold together, with those
         that have none. Where literals are assumed, it tells some of them under which nothing is feasible, and leaves no constraint out.
@@ -438,6 +444,7 @@ class Model:
             >>> why.status, [literal.name for literal in why.core], why.is_minimal
             (Status.UNSATISFIABLE, ['cheap', 'strong'], True)
         """
+        _check_words(others, Model.explain)
         limits = searches.Limits.of(nodes, time_limit)
         if assuming is None:
             return self._conflict(limits)
@@ -475,6 +482,7 @@ class Model:
         nodes: Optional[int] = None,
         *,
         time_limit: Optional[float] = None,
+        **others: NoReturn,
     ) -> Fixed:
         """Tells which variables have one value in all assignments in which the literals of `assuming` are true: among those that are
         'feasible', or those of them of the 'least' cost.
@@ -488,6 +496,7 @@ class Model:
             >>> model.fixed()[x] is None, model.fixed(among="least")[x]
             (True, False)
         """
+        _check_words(others, Model.fixed)
         if isinstance(assuming, str) and assuming in AMONG:
             raise TypeError(f"no literals: {assuming!r}: write fixed(among={assuming!r})")
         if not isinstance(among, str) or among not in AMONG:
@@ -672,10 +681,11 @@ def _check_alone(more: Sequence[object], example: str) -> None:
         raise TypeError(f"literals stand in one list, as in {example}, and the name of a constraint behind name=")
 
 
-def _check_words(others: Mapping[str, object]) -> None:
-    """Refuses words that `solve` does not take."""
+def _check_words(others: Mapping[str, object], call: Callable[..., object]) -> None:
+    """Refuses words that the call does not take."""
     if others:
-        raise TypeError(hints.of_solve(others))
+        takes = [name for name in inspect.signature(call).parameters if name not in ("self", "others")]
+        raise TypeError(hints.of_words(call.__name__, others, takes))
 
 
 def _number_of_literals(count: object, call: str, more: Sequence[object]) -> int:
@@ -721,7 +731,7 @@ def solve(
         Traceback (most recent call last):
         pbcube.Refused: Syntax at line 2: line 2, column 6: '>': write >= and the least number allowed, as >= 2 for > 1
     """
-    _check_words(others)
+    _check_words(others, solve)
     _check_format(format)
     if isinstance(text, os.PathLike):
         path = os.fsdecode(text)
