@@ -172,6 +172,9 @@ def many_name_facts():
     yield "pickled", again == answer and again["v7"] and len(pickle.dumps(answer)) == len(pickle.dumps(replace(answer)))
     yield "of two of one name the first", Answer(Status.FOUND, 1, (True, False), ("x", "x"))["x"]
     yield "no name", isinstance(raised(lambda: answer["w"]), LookupError) and isinstance(raised(lambda: fixed["w"]), LookupError)
+    text = raised(lambda: solve(TEXT)["x1"]), raised(lambda: Fixed(Status.SATISFIABLE, b"\1")["x1"]), raised(lambda: answer["w"])
+    said = ["answer.values[0]" in str(text[0]) and "Model.read(text).solve()" in str(text[0]), "fixed[x]" in str(text[1])]
+    yield f"of a text, and without names: {text}", said == [True] * 2 and str(text[2]) == "no variable is named 'w'"
 
 
 def pickle_facts():
@@ -322,6 +325,8 @@ def other_name_facts():
         (lambda: model.implies([x, y], z), "clause([~x, ~y, z])"), (lambda: model.implies(x >= 1, y), "model.implies(~z, opposite)"),
         (lambda: model.implies(x, [y, z]), "for y in literals: model.implies(x, y)"), (lambda: model.variable(3), "variable('x')"),
         (lambda: model.variables(range(2)), "f'x{i}'"), (lambda: bool(model.solve()), "answer.status is"), (lambda: [*model.solve()], "named()"),
+        (lambda: bool(model.explain([x])), "why.status is"), (lambda: bool(model.fixed()), "fixed.status is"),
+        (lambda: dict(model.fixed()), "fixed.named()"), (lambda: [*model.explain([x])], "why.core"), (lambda: model.explain([x])[0], "why.core"),
         (lambda: model.solve(timeout=1), "solve takes no timeout=: write time_limit=10"), (lambda: model.solve(threads=4), "split=8"),
         (lambda: model.solve(minimize=x), "model.minimise(sum) before"), (lambda: solve(TEXT, timeout=1), "time_limit=10"),
         (lambda: model.solve(assumptions=[x]), "assuming=[x, ~y]"), (lambda: model.solve(colour=1), "solve takes no colour="),
@@ -342,6 +347,8 @@ def other_name_facts():
         (lambda: model.y, "model['y']"), (lambda: Model().read(TEXT), "model = Model.read(path)"), (lambda: model.solve().x, "answer[x]"),
         (lambda: model.solve().objective, "answer.cost"), (lambda: model.solve().colour, "'colour'"),
         (lambda: (x + y).value, "answer.value(x + y)"), (lambda: x.Not(), "write ~x"), (lambda: x.colour, "'colour'"),
+        (lambda: model.fixed().items(), "fixed.named()"), (lambda: model.fixed().colour, "'colour'"),
+        (lambda: model.explain([x]).values, "why.core or why.constraints"), (lambda: model.explain([x]).colour, "'colour'"),
         (lambda: setattr(model, "time_limit", 5), "model.solve(time_limit=10)"), (lambda: setattr(model, "workers", 4), "split=8"),
         (lambda: setattr(model, "timeout", 5), "model.solve(time_limit=10)"), (lambda: setattr(model, "verbose", True), "class Plan(Model)"),
         (lambda: model.setParam("TimeLimit", 3), "time_limit=10"), (lambda: model.update(), "holds at once"),
@@ -444,6 +451,9 @@ def mistake_facts():
         yield f"by its format: {path}", raised(lambda: solve(str(path))).hint.endswith(told)
     yield "its names", "x" in model and "z" not in model and "'z'" in str(raised(lambda: model["z"]))
     yield "which is not there", "'b/a.opb' is not there" in raised(lambda: solve("b/a.opb")).hint
+    for call in (solve, Model.read):
+        ended = raised(lambda: call(f"{text}\n")).hint, raised(lambda: call("b/a.opb\n")).hint
+        yield f"with a line end: {ended}", f"Model.read({text!r}, 'opb') reads" in ended[0] and "line end" in ended[0] and "'b/a.opb' is" in ended[1]
     named = ((lambda: solve(TEXT, "OPB"), "'opb'"), (lambda: model.fixed(among="all"), "'least'"),
         (lambda: model.fixed(among=["feasible"]), "'least'"), (lambda: solve(TEXT, ["opb"]), "'opb'"),
         (lambda: model.variables("a, b"), "variables('a b')"), (lambda: model.variables("a,b ,c"), "variables('a b c')"),
@@ -892,7 +902,7 @@ def question_facts():
     yield "nothing is fixed", model.fixed([x, ~x]).status is Status.UNSATISFIABLE and model.fixed([x, ~x]).named() == {}
     cut = model.fixed(nodes=0)
     yield "cut", cut.status is Status.UNKNOWN and not cut.is_known(x) and cut.named() == {}
-    yield "not known", isinstance(raised(lambda: cut[x]), LookupError)
+    yield "not known", isinstance(raised(lambda: cut[x]), LookupError) and str(raised(lambda: cut[~x])).startswith("whether x is fixed is not")
     first = model.solve(0, start={x: True, ~y: True, "z": True})
     yield "a start", (first.status, first.cost, first[z]) == (Status.FOUND, 3, True)
     model.add(x + z >= 2)

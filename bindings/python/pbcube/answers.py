@@ -43,10 +43,28 @@ class Names(Tuple[Optional[str], ...]):
         return tuple, (tuple(self),)
 
 
-class _Named:
+class _Told:
+    """What answers of all kinds refuse, with what to write instead."""
+
+    _kind, _compared, _instead = "", "", ""
+
+    def __bool__(self) -> bool:
+        raise TypeError(f"{self._kind} has no truth value: compare its status, as {self._compared}")
+
+    def __iter__(self) -> NoReturn:
+        raise TypeError(f"{self._kind} is no list: write {self._instead}")
+
+    if not TYPE_CHECKING:  # which would then take each name for one of an answer
+
+        def __getattr__(self, name: str) -> NoReturn:
+            raise AttributeError(hints.of_answer(self._kind, name))
+
+
+class _Named(_Told):
     """What tells of variables that may have names."""
 
     names: Tuple[Optional[str], ...]
+    _where_no_name = ""
 
     @cached_property
     def _numbers(self) -> Dict[Optional[str], int]:
@@ -55,7 +73,8 @@ class _Named:
 
     def _number_of(self, name: str) -> int:
         if name not in self._numbers:
-            raise LookupError(f"no variable is named {name!r}")
+            has_names = any(it is not None for it in self._numbers)
+            raise LookupError(f"no variable is named {name!r}{'' if has_names else f': none has a name: {self._where_no_name}'}")
         return self._numbers[name]
 
     def _name_of(self, number: int) -> str:
@@ -77,6 +96,9 @@ class Answer(_Named):
     values: Optional[Tuple[bool, ...]]
     names: Tuple[Optional[str], ...] = field(default=(), repr=False)
     owners: Optional[Tuple[Tuple[int, int], ...]] = field(default=None, repr=False, compare=False)
+    _kind, _compared = "an answer", "answer.status is Status.UNSATISFIABLE"
+    _instead = "answer.values, or answer.named() for the values by name"
+    _where_no_name = "answer.values[0] is the value of the first one, and Model.read(text).solve() has the names x1, x2 and so on"
 
     def __getitem__(self, literal: Union[Literal, str]) -> bool:
         """Whether a literal, or the variable of a name, is true.
@@ -87,17 +109,6 @@ class Answer(_Named):
             return self._is_true(self._number_of(literal))
         self._check(as_literal(literal).owners)
         return self._is_true(literal.number)
-
-    def __bool__(self) -> bool:
-        raise TypeError("an answer has no truth value: compare its status, as answer.status is Status.UNSATISFIABLE")
-
-    def __iter__(self) -> NoReturn:
-        raise TypeError("an answer is no list: write answer.values, or answer.named() for the values by name")
-
-    if not TYPE_CHECKING:  # which would then take each name for one of an answer
-
-        def __getattr__(self, name: str) -> NoReturn:
-            raise AttributeError(hints.of_answer(name))
 
     def _check(self, owners: Tuple[Tuple[int, int], ...]) -> None:
         if self.owners is not None:
@@ -151,7 +162,7 @@ class Answer(_Named):
 
 
 @dataclass(frozen=True, eq=False)
-class Explanation:
+class Explanation(_Told):
     """Why nothing is feasible: `Status.UNSATISFIABLE` with a core, which are some of the literals that were assumed, or with
     `constraints`, the names of some constraints, which are enough for that; `Status.SATISFIABLE` where something is feasible, or
     `Status.UNKNOWN`. They are minimal where something is feasible without any one of them; where they are not, the budget or the time
@@ -161,6 +172,11 @@ class Explanation:
     core: Optional[Tuple[Literal, ...]] = None
     is_minimal: bool = False
     constraints: Optional[Tuple[str, ...]] = None
+    _kind, _compared = "an explanation", "why.status is Status.UNSATISFIABLE"
+    _instead = "why.core for the literals, or why.constraints for the names"
+
+    def __getitem__(self, _: object) -> NoReturn:
+        self.__iter__()
 
     def _repr_html_(self) -> str:
         """The status and the first names or literals as a table, which notebooks show."""
@@ -179,6 +195,9 @@ class Fixed(_Named):
     statuses: Optional[bytes] = field(repr=False)
     names: Tuple[Optional[str], ...] = field(default=(), repr=False)
     owners: Tuple[Tuple[int, int], ...] = field(default=(), repr=False, compare=False)
+    _kind, _compared = "an answer of fixed", "fixed.status is Status.UNSATISFIABLE"
+    _instead = "fixed[x] for a literal, or fixed.named() for all by name"
+    _where_no_name = "write fixed[x] with the literal x"
 
     def __getitem__(self, literal: Union[Literal, str]) -> Optional[bool]:
         """The value of a literal, or of the variable of a name, in all these assignments, and None where it has both.
@@ -188,7 +207,8 @@ class Fixed(_Named):
         number = self._number(literal)
         status = self._status(number)
         if status == 3:
-            raise LookupError(f"of variable {abs(number)} it is not known")
+            name = self._name_of(abs(number))
+            raise LookupError(f"whether {name} is fixed is not known: the budget or the time limit cut the question, so give it more")
         return None if status == 2 else (status == 1) == (number > 0)
 
     def is_known(self, literal: Union[Literal, str]) -> bool:

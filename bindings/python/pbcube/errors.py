@@ -64,10 +64,12 @@ def format_of(path: str, format: str) -> str:
 def refused(name: str, line: int, text: bytes, format: str, reads: str = "solve") -> Refused:
     """The refusal of a text in this format by the call of that name. It has the hint that the program gives, which names another format
     by an option, and here by the call."""
-    if _is_path(text):
-        path = os.fsdecode(text)
-        return Refused(name, line, f"the text is the name of a file: Model.read({path!r}, {format_of(path, format)!r}) reads that")
-    if _LIKE_A_PATH.fullmatch(text):
-        return Refused(name, line, f"the text is like the name of a file, and {os.fsdecode(text)!r} is not there")
+    named = text.strip()
+    beside = "" if named == text else " with a blank or a line end beside it"
+    if _is_path(named):
+        path = os.fsdecode(named)
+        return Refused(name, line, f"the text is the name of a file{beside}: Model.read({path!r}, {format_of(path, format)!r}) reads that")
+    if _LIKE_A_PATH.fullmatch(named):
+        return Refused(name, line, f"the text is like the name of a file{beside}, and {os.fsdecode(named)!r} is not there")
     hint = hint_on(loaded, text, FORMATS[format])
     return Refused(name, line, re.sub("give --format ([a-z]+)", rf"call {reads}(text, '\1')", hint))

@@ -41,16 +41,15 @@ _OF_SUMS: Dict[str, Tuple[str, ...]] = {
     "write ~x": ("Not", "negated", "negate", "invert"),
     "write model.implies(x, y)": ("implies", "OnlyEnforceIf", "only_enforce_if"),
 }
-_OF_ANSWERS: Dict[str, Tuple[str, ...]] = {
-    "answer.cost": ("objective", "objective_value", "ObjVal", "obj", "optimum"),
-    "answer.status": ("is_optimal", "optimal", "is_feasible", "feasible", "is_sat", "sat", "success"),
-    "answer[x], answer.values or answer.named()": ("x", "get", "items", "keys", "solution", "assignment", "variables"),
-}
-_OF_EXPLANATIONS: Dict[str, Tuple[str, ...]] = {
-    "why.core or why.constraints": ("values", "names", "named", "items", "keys", "literals", "conflict", "rules"),
-}
-_OF_FIXED: Dict[str, Tuple[str, ...]] = {
-    "fixed[x] or fixed.named()": ("values", "value", "get", "items", "keys", "literals", "variables", "x"),
+_VALUES = ("x", "get", "items", "keys", "solution", "assignment", "variables")
+_OF_ANSWERS: Dict[str, Dict[str, Tuple[str, ...]]] = {
+    "an answer": {
+        "answer.cost": ("objective", "objective_value", "ObjVal", "obj", "optimum"),
+        "answer.status": ("is_optimal", "optimal", "is_feasible", "feasible", "is_sat", "sat", "success"),
+        "answer[x], answer.values or answer.named()": _VALUES,
+    },
+    "an explanation": {"why.core or why.constraints": ("values", "names", "named", "literals", "conflict", "rules", *_VALUES)},
+    "an answer of fixed": {"fixed[x] or fixed.named()": ("values", "value", "literals", *_VALUES)},
 }
 _OF_SOLVE: Dict[str, Tuple[str, ...]] = {
     "time_limit=10": ("timeout", "time", "timelimit", "timeLimit", "TimeLimit", "seconds", "max_time", "setParam", "Params"),
@@ -62,9 +61,7 @@ _OF_SOLVE: Dict[str, Tuple[str, ...]] = {
     "model.minimise(sum) before": ("minimise", "minimize", "objective"),
     "model.maximise(sum) before": ("maximise", "maximize"),
 }
-_FOR_ANSWERS = {name: has for has, names in _OF_ANSWERS.items() for name in names}
-_FOR_EXPLANATIONS = {name: has for has, names in _OF_EXPLANATIONS.items() for name in names}
-_FOR_FIXED = {name: has for has, names in _OF_FIXED.items() for name in names}
+_FOR_ANSWERS = {kind: {name: has for has, names in of.items() for name in names} for kind, of in _OF_ANSWERS.items()}
 _WORD = re.compile(r"(\w+)=")
 _FOR_SOLVE = {name: word for word, names in _OF_SOLVE.items() for name in (*names, *_WORD.findall(word))}
 _FOR_MODELS = {
@@ -98,19 +95,10 @@ def of_sum(name: str) -> str:
     return f"literals and sums have no {name!r}{f': {_FOR_SUMS[name]}' if name in _FOR_SUMS else ''}"
 
 
-def of_answer(name: str) -> str:
-    """What is said where an answer is asked for one."""
-    return f"an answer has no {name!r}{f': write {_FOR_ANSWERS[name]}' if name in _FOR_ANSWERS else ''}"
-
-
-def of_explanation(name: str) -> str:
-    """What is said where an explanation is asked for one."""
-    return f"an explanation has no {name!r}{f': write {_FOR_EXPLANATIONS[name]}' if name in _FOR_EXPLANATIONS else ''}"
-
-
-def of_fixed(name: str) -> str:
-    """What is said where an answer on fixed variables is asked for one."""
-    return f"the answer of fixed has no {name!r}{f': write {_FOR_FIXED[name]}' if name in _FOR_FIXED else ''}"
+def of_answer(kind: str, name: str) -> str:
+    """What is said where an answer of this kind is asked for one."""
+    has = _FOR_ANSWERS.get(kind, {}).get(name)
+    return f"{kind} has no {name!r}{f': write {has}' if has else ''}"
 
 
 def of_words(call: str, others: Iterable[str], takes: Sequence[str]) -> str:
