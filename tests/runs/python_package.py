@@ -415,7 +415,9 @@ def mistake_facts():
         (lambda: Truth() + x, "int(value)"), (lambda: x + y >= Truth(), "int(value)"), (lambda: Array() * x, "zip(numbers, variables)"),
         (lambda: x + Array(), "zip(numbers, variables)"), (lambda: (x + y) * Array(), "zip(numbers, variables)"),
         (lambda: Array() >= x, "zip(numbers, variables)"), (lambda: model.minimise(x >= 1), "model.add"),
-        (lambda: model.clause([1]), "model[name]"), (lambda: model.variables(1.5), "variables(3)"),
+        (lambda: total({x: 2, y: 3}), "for x, number in numbers.items()"),
+        (lambda: total(x, y), "total([x, 2 * y])"), (lambda: total(x), "total([x, 2 * y])"),
+        (lambda: total([2, 3], [x, y]), "zip(numbers, variables)"), (lambda: model.clause([1]), "model[name]"), (lambda: model.variables(1.5), "variables(3)"),
         (lambda: model.solve("a.opb"), "Model.read(path)"), (lambda: Model.solve("a.opb"), "Model.read(path)"),
         (lambda: Model("a.opb"), "Model.read(path)"), (lambda: solve(Path("a.opb")), "Model.read('a.opb', 'opb')"),
         (lambda: model.solve(1.5), "whole number"), (lambda: model.solve(start="x"), "{x: True}"),
@@ -440,7 +442,7 @@ def mistake_facts():
     for at, (call, said) in enumerate(cases):
         fault = raised(call)
         yield f"mistake {at}: {fault!r}", type(fault) is TypeError and said in str(fault)
-    for call in (lambda: model.solve(start=[True]), lambda: model.solve(start={"x": 2}), lambda: model.solve(start=[1, "y"])):
+    for call in (lambda: model.solve(start=[True]), lambda: model.solve(start={"x": 2}), lambda: model.solve(start=[1, "y"]), lambda: model.solve(start=solve("1 x1 >= 1 ;"))):
         yield f"a start: {raised(call)!r}", type(raised(call)) is ValueError
     yield "a number below 0", "from 0 to" in raised(lambda: model.variables(-1)).hint
     text = str(TOP / "examples/tie.opb")
@@ -570,6 +572,9 @@ def foreign_facts():
     for name, call in calls.items():
         yield f"a literal of another model: {name}", is_foreign(call)
     yield "nothing was added", model.copy().solve() == Answer(Status.SATISFIABLE, None, (False,))
+    copied = raised(lambda: model.solve(start=model.copy().solve()))
+    yield f"an answer of a copy: {copied}", isinstance(copied, ForeignLiteral) and "write start=answer.values" in copied.hint
+    yield "whose values are taken", model.solve(start=model.copy().solve().values) == model.solve(start=solve("* #variable= 1")) == model.solve()
     yield "pickled", str(pickle.loads(pickle.dumps(ForeignLiteral()))) == str(ForeignLiteral())
     page = (TOP / "docs/EMBEDDING.md").read_text()
     yield "as docs/EMBEDDING.md says it", ForeignLiteral().hint in page

@@ -14,7 +14,7 @@ _HINTS: Dict[str, str] = {
     "TooLarge": "the numbers of a statement, without their signs, add up to at most 2**126 - 1: take smaller units",
     "TooMany": "there are at most 1048576 variables, 4194304 constraints, 1048575 cubes and 16777216 terms",
 }
-_FOREIGN = "a literal belongs to another model; a copy has only those literals of its original that were made before the copy"
+FOREIGN = "a literal belongs to another model; a copy has only those literals of its original that were made before the copy"
 _LIKE_A_PATH = re.compile(rb"[^\s;]+\.(opb|i?cnf)")
 
 
@@ -33,7 +33,7 @@ class Error(Exception):
 class ForeignLiteral(Error):
     """A literal was handed to a model, or to an answer, of which its variable is none."""
 
-    def __init__(self, hint: str = _FOREIGN) -> None:
+    def __init__(self, hint: str = FOREIGN) -> None:
         super().__init__("ForeignLiteral", hint)
         self.args = (hint,)
 

@@ -26,6 +26,7 @@ from .wholes import is_truth_value, is_whole
 _MOST_CONSTRAINTS = 4_194_304
 _MOST_TERMS = 16_777_216
 _MOST_FOUND = 100  # replies that a model keeps
+_FOREIGN_START = "the answer is one of another model: write start=answer.values where that has as many variables, in the same order"
 _WIDE = "the numbers of a model are below 2**63 where it is asked for more than an answer: take smaller units"
 
 
@@ -510,9 +511,11 @@ class Model:
     def _values_of(self, start: Union[Answer, Mapping[Union[Literal, str], bool], Sequence[bool]]) -> bytes:
         """The values to be tried first, as bytes 0 and 1."""
         if isinstance(start, Answer):
-            check_owners(start.owners or (), self._known())
             if start.values is None:
                 raise LookupError("nothing was found")
+            if start.owners is None:  # of a text
+                return _values_in_order(start.values, self._variables)
+            check_owners(start.owners, self._known(), _FOREIGN_START)
             return bytes(start.values)
         values = bytearray(self._variables)
         if not isinstance(start, Mapping) and not hasattr(start, "items"):

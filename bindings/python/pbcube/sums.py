@@ -11,7 +11,7 @@ from operator import index
 from typing import TYPE_CHECKING, Any, Dict, Iterable, List, Mapping, NoReturn, Optional, Sequence, Tuple, Union
 
 from . import hints
-from .errors import Error, ForeignLiteral
+from .errors import FOREIGN, Error, ForeignLiteral
 from .wholes import is_truth_value
 
 MOST_VARIABLES = 1_048_576
@@ -142,10 +142,10 @@ def _written(terms: Terms, constant: Exact, owners: Owners) -> str:
     return f"-{text[3:]}" if text.startswith(" -") else text[3:]
 
 
-def check_owners(owners: Owners, known: Mapping[int, int]) -> None:
-    """Raises ForeignLiteral unless each variable is of a model that is known, and up to the number that is known of it."""
+def check_owners(owners: Owners, known: Mapping[int, int], hint: str = FOREIGN) -> None:
+    """Raises ForeignLiteral with the hint unless each variable is of a model that is known, and up to the number that is known of it."""
     if any(number > known.get(owner, 0) for owner, number in owners):
-        raise ForeignLiteral()
+        raise ForeignLiteral(hint)
 
 
 class _Operand:
@@ -429,8 +429,15 @@ def as_literal(value: object) -> Literal:
     raise TypeError(f"no literal: {value!r}: write a variable of the model, as model.variable() makes one or model[name] is one, or its ~")
 
 
-def total(parts: Iterable[Expression]) -> Sum:
+def total(parts: Iterable[Expression], *more: NoReturn) -> Sum:
     """The sum of all parts. It is what `sum` gives, but of none a `Sum` too."""
+    if more or not isinstance(parts, Iterable):
+        raise TypeError(
+            "the parts of a sum stand in one list, as in total([x, 2 * y]), and with a list of numbers they are multiplied before, as in "
+            "total(number * x for number, x in zip(numbers, variables))"
+        )
+    if isinstance(parts, Mapping):
+        raise TypeError("a dict is no list of parts: write total(number * x for x, number in numbers.items())")
     sums = [as_sum(part) for part in parts]
     owners: Owners = ()
     for each in sums:
