@@ -711,6 +711,10 @@ def states(pieces, cut=()):
     return "".join(f"pbcube_join: piece {number} {it}\n" for number, it in said.items()) + run_again("pieces", pieces)
 
 
+# what is said before that where there is no report at all
+NO_REPORT = "pbcube_join: no report was found: name files, or folders with files whose names end in .report\n"
+
+
 def run_refused(name):
     """The line on a report of pieces whose run refused its input."""
     return f"pbcube_join: {name}: its run refused its input\n"
@@ -751,9 +755,9 @@ OF_THREE_PIECES = [
     ("tie.opb", [(0, FIRST), (1, ""), (2, NONE)], FIRST_ATTAINED, states([1]), 10),
     # the second report of a piece counts where the first is empty
     ("tie.opb", [(1, ""), (0, FIRST), (1, SECOND), (2, NONE)], SECOND, "", 30),
-    ("tie.opb", [(0, ""), (0, ""), (5, "")], UNKNOWN, states([0, 1, 2])),
+    ("tie.opb", [(0, ""), (0, ""), (5, "")], UNKNOWN, NO_REPORT + states([0, 1, 2])),
     ("tie.opb", [(1, ""), (0, FIRST), (0, FIRST)], 2, "there are two reports of this piece", 1),
-    ("tie.opb", [], UNKNOWN, states([0, 1, 2])),
+    ("tie.opb", [], UNKNOWN, NO_REPORT + states([0, 1, 2])),
     ("tie.opb", [(0, NONE), (1, NONE), (2, NONE)], NONE, "", 20),
     ("free.opb", [(0, NONE), (1, FEASIBLE), (2, NONE)], FEASIBLE, "", 10),
     ("tie.opb", [(0, FIRST), (1, SECOND), (0, FIRST)], 2, "there are two reports of this piece", 0),
@@ -777,11 +781,11 @@ OF_TWO_TASKS = [
     ("tie.opb", [of_task(0, " 0", FIRST_ATTAINED, " 2"), of_task(1, " 1", WORSE)], FIRST_ATTAINED, again(0), 10),
     # the pieces 0 and 1 are named by no report
     ("tie.opb", [of_task(0, " 2", UNKNOWN), of_task(1, "", UNKNOWN)], UNKNOWN, in_no_report([0, 1]) + again(0, 1)),
-    ("tie.opb", [], UNKNOWN, again(0, 1)),
+    ("tie.opb", [], UNKNOWN, NO_REPORT + again(0, 1)),
     ("tie.opb", ["", of_task(1, " 1", ATTAINED)], ATTAINED, again(0), 10),
     ("tie.opb", ["", "", of_task(1, " 1", ATTAINED), of_task(0, " 0 2", FIRST_ATTAINED)], SECOND, "", 30),
     ("tie.opb", ["", FIRST_PART, FIRST_PART], 2, "there are two reports of this task", 1),
-    ("tie.opb", ["", ""], UNKNOWN, again(0, 1)),
+    ("tie.opb", ["", ""], UNKNOWN, NO_REPORT + again(0, 1)),
     ("tie.opb", [of_task(0, " 0 2", UNKNOWN), of_task(1, " 1", UNKNOWN)], NONE, "", 20),
     ("free.opb", [of_task(0, " 0 2", UNKNOWN, text=FREE), of_task(1, " 1", FEASIBLE, text=FREE)], FEASIBLE, "", 10),
     ("tie.opb", [of_task(0, " 0 2", FIRST_ATTAINED, text=FREE)], 0, "the part is of another instance"),
@@ -833,10 +837,10 @@ JOIN = [
         10,
     ),
     Row("--format cnf --pieces 1 clause.cnf clause-0.out", "s SATISFIABLE\nv -1 2 0\n", status=10),
-    Row("--pieces 1 tie.opb", "s UNKNOWN\n", states([0])),
+    Row("--pieces 1 tie.opb", "s UNKNOWN\n", NO_REPORT + states([0])),
     # folders
     Row("--pieces 3 tie.opb 2 reports", SECOND, status=30),
-    Row("--pieces 1 tie.opb empty", "s UNKNOWN\n", states([0])),
+    Row("--pieces 1 tie.opb empty", "s UNKNOWN\n", NO_REPORT + states([0])),
     rejected("--pieces 1 tie.opb none", f"cannot read none: {MISSING}"),
     # folders with an index
     Row("tie.opb cut", SECOND, status=30),
@@ -880,7 +884,7 @@ JOIN = [
     ),
     rejected("--pieces 3 tie.opb binary-1.out", "binary-1.out: Syntax at line 1"),
     rejected("--pieces 3 tie.opb silent-1.out", "silent-1.out: NoStatus at line 2: its first line is 'c a solver'"),
-    Row("--pieces 3 tie.opb empty-1.out", "s UNKNOWN\n", states([0, 1, 2])),
+    Row("--pieces 3 tie.opb empty-1.out", "s UNKNOWN\n", NO_REPORT + states([0, 1, 2])),
     rejected("--pieces 3 tie.opb blank-1.out", "blank-1.out: NoStatus at line 1"),
     rejected("--pieces 3 tie.opb long-1.out", f"long-1.out: NoStatus at line 1: its first line is 'c {58 * 'x'}'"),
     rejected("--pieces 3 tie.opb wrong-1.out", "wrong-1.out: the o line is not the cost of the assignment"),
@@ -893,8 +897,8 @@ JOIN = [
     Row("--tasks 2 tie.opb parts/first.report cut.part", "o 3\ns SATISFIABLE\nv x1 -x2 x3\n", again(1), 10),
     Row("--tasks 2 tie.opb parts/second.report", ATTAINED, again(0), 10),
     Row("--tasks 5 tie.opb few.part", SECOND, status=30),
-    Row("--tasks 3 tie.opb", "s UNKNOWN\n", again(0, 1, 2)),
-    Row("--tasks 1 tie.opb empty", "s UNKNOWN\n", again(0)),
+    Row("--tasks 3 tie.opb", "s UNKNOWN\n", NO_REPORT + again(0, 1, 2)),
+    Row("--tasks 1 tie.opb empty", "s UNKNOWN\n", NO_REPORT + again(0)),
     # a task has done pieces that are dealt to another one: that one has a report without them, none, or one that names them too
     Row("--tasks 2 tie.opb others.part unnamed.part", SECOND, status=30),
     Row("--tasks 2 tie.opb all.part", SECOND, status=30),
