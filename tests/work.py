@@ -29,7 +29,7 @@ from lib import PROCESSORS, TOP, ran, side_by_side
 
 INSTANCES = TOP / "tests/work"
 STEPS = 20_000_000
-LONGER = 30_000_000  # for two instances that take more than STEPS without a comment, since cliques are looked for
+LONGER = 24_500_000  # for two instances that take more than STEPS without a comment, since cliques are looked for
 SPARE = 2  # requests for memory that are allowed beyond those of today
 SECONDS = 60  # for the run of the compiled code, with checks, that stands beside the interpreter's
 SIDES = min(4, max(1, PROCESSORS // 2))  # parts of the cases that are run at the same time, each with a build of its own
@@ -53,9 +53,9 @@ TODAY = {
     "assignment": Today(71_300, 124),
     "chain": Today(5_500, 98),
     "clauses": Today(18_000, 95),
-    "colours": Today(0, 224, LONGER),
+    "colours": Today(2_000, 181, LONGER),
     "cubes": Today(68_886, 328),
-    "cubes_of_a_contradiction": Today(0, 355, LONGER),
+    "cubes_of_a_contradiction": Today(4_000, 355, LONGER),
     "cubes_of_last_variables": Today(93_887, 168),
     "descent": Today(63_333, 128),
     "garden": Today(64_443, 126),

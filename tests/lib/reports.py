@@ -46,6 +46,10 @@ def run_again(of, numbers):
     return f"pbcube_join: run again: {of} {array_of(numbers)}\n"
 
 
+# the line in which it says that there is no report at all
+NO_REPORT = "pbcube_join: no report was found: name files, or folders with files whose names end in .report\n"
+
+
 def in_no_report(pieces):
     """The line in which it names pieces that are in no report, though each task has one."""
     return f"pbcube_join: no report names pieces {array_of(pieces)}: first remove TASK.*.claim of these tasks from the folder of --exchange\n"

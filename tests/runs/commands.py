@@ -26,7 +26,7 @@ from lib.hinted_texts import (
     BEGUN, BY_CR, BY_ZERO, BY_ZIP, CUBE_LINE, IS_MARKED, IS_WCNF, LETTERED, MINIMISE, NO_PRODUCT, NO_SOFT, NUMBER, OF_RUN, OF_TASK, PART,
     PLACED, SPACE, TO_MOST, ZERO,
 )  # fmt: skip
-from lib.reports import ALL_REFUSED, TIE, digest, in_no_report, index_of, part, run_again
+from lib.reports import ALL_REFUSED, NO_REPORT, TIE, digest, in_no_report, index_of, part, run_again
 
 FULL = "/dev/full"  # takes no byte
 CLOSED = "|"  # a pipe that nobody reads
@@ -709,10 +709,6 @@ def states(pieces, cut=()):
     """What is said of these pieces, of which some were cut and no other one has a report."""
     said = {number: "was not solved to its end" if number in cut else "has no report" for number in pieces}
     return "".join(f"pbcube_join: piece {number} {it}\n" for number, it in said.items()) + run_again("pieces", pieces)
-
-
-# what is said before that where there is no report at all
-NO_REPORT = "pbcube_join: no report was found: name files, or folders with files whose names end in .report\n"
 
 
 def run_refused(name):

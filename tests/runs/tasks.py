@@ -93,7 +93,8 @@ def faults_of(task, instance, words, tasks, workers, folder):
         (part, pieces, of_done, cut), claim = told(end.out)
         has_piece = number < int(pieces[1])
         none = f"pbcube_task: none of the {pieces[1]} pieces is of task {number}\n"
-        several_on_one = int(workers) > 1 and has_piece and number + tasks >= int(pieces[1])
+        has_one = has_piece and (int(pieces[1]) == 1 if folder else number + tasks >= int(pieces[1]))
+        several_on_one = int(workers) > 1 and has_one
         alone = "pbcube_task: one worker searches the one piece: a greater --split divides the work among several\n"
         if end.err != (alone if several_on_one else "" if has_piece else none) or end.status != (10 if rank(claim) else 0):
             yield f"task {number}: {end}"

@@ -39,10 +39,13 @@ pub fn search<'i, R: Threads + Sync, N: Notes + Sync + Drop, P: Places<N>, E: Wr
     }
 }
 
-/// Whether the line's task has one of these pieces, and no second one.
+/// Whether the line's task has one of these pieces, and no second one: where it claims pieces it may get all.
 fn has_one_piece(line: &Line<'_>, pieces: u32) -> bool {
     let rest = pieces.saturating_sub(line.task);
-    rest > 0 && rest <= line.tasks
+    match line.exchange {
+        Some(_) => rest > 0 && pieces == 1,
+        None => rest > 0 && rest <= line.tasks,
+    }
 }
 
 /// The notes of the tasks, where the line names a folder and this task has a piece. A folder that cannot be used is reported.
