@@ -421,6 +421,7 @@ def mistake_facts():
         (lambda: model.solve("a.opb"), "Model.read(path)"), (lambda: Model.solve("a.opb"), "Model.read(path)"),
         (lambda: Model("a.opb"), "Model.read(path)"), (lambda: solve(Path("a.opb")), "Model.read('a.opb', 'opb')"),
         (lambda: model.solve(1.5), "whole number"), (lambda: model.solve(start="x"), "{x: True}"),
+        (lambda: model.solve([x]), "assuming=[x, ~y]"), (lambda: model.solve(x), "assuming=[x, ~y]"), (lambda: bool(x >= 1), ".sum()"),
         (lambda: model.solve(start=7), "{x: True}"), (lambda: model.add("x >= 1"), "x + y >= 1"), (lambda: model.clause(x), "[x]"),
         (lambda: model.solve(assuming=~x), "[~x]"), (lambda: model.solve(assuming={x: False}), "[x, ~y]"),
         (lambda: model.at_most(1, {x: 2, y: 3}), "[x, ~y]"), (lambda: model.explain({x: 0}), "[x, ~y]"), (lambda: model.minimise("x"), "model['x']"), (lambda: 2 * x + "y", "model['y']"),

@@ -48,11 +48,17 @@ def budget(nodes: Optional[int]) -> int:
     if nodes is None:
         return NO_LIMIT
     if not is_whole(nodes):
-        other = "" if isinstance(nodes, float) else ": Model.read(path).solve() solves a file, and pbcube.solve(text) a text"
-        raise TypeError(f"a budget is a whole number of decisions, and not {nodes!r}{other}")
+        raise TypeError(f"a budget is a whole number of decisions, and not {nodes!r}{_instead_of_budget(nodes)}")
     if not 0 <= index(nodes) < NO_LIMIT:
         raise ValueError("a budget is from 0 to 2**64 - 2")
     return index(nodes)
+
+
+def _instead_of_budget(given: object) -> str:
+    """What to write where this was given as a budget."""
+    if isinstance(given, (str, bytes, os.PathLike)):
+        return ": Model.read(path).solve() solves a file, and pbcube.solve(text) a text"
+    return "" if isinstance(given, float) else ": literals that are to be true stand behind assuming=, as solve(assuming=[x, ~y])"
 
 
 def deadline_of(time_limit: Optional[float]) -> Optional[float]:

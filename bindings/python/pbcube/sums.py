@@ -477,7 +477,8 @@ class Constraint:
     def __bool__(self) -> bool:
         raise TypeError(
             "a constraint has no truth value: add it to a model, and 1 <= x + y <= 2 as two, or x == y == z; whether two literals are one "
-            "is told by x.number == y.number, and `x in literals` by x.number in {it.number for it in literals}"
+            "is told by x.number == y.number, and `x in literals` by x.number in {it.number for it in literals}; an array of numpy is compared "
+            "item by item in a loop, or as its .sum()"
         )
 
 
