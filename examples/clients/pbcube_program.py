@@ -193,12 +193,16 @@ def end_with_program() -> None:
 def end_with_status(main: Callable[[], int]) -> None:
     """Ends this process with the status that `main` returns, or with 1 where its output cannot be written: silently, as pbcube's tools
     do, where nobody reads it."""
+    name = Path(sys.argv[0]).name
+    if sys.stdout is None:
+        print(f"{name}: cannot write: standard output is closed", file=sys.stderr)
+        sys.exit(1)
     try:
         status = main()
         sys.stdout.flush()
     except OSError as fault:
         if not isinstance(fault, BrokenPipeError):
-            print(f"{Path(sys.argv[0]).name}: cannot write: {fault.strerror}", file=sys.stderr)
+            print(f"{name}: cannot write: {fault.strerror}", file=sys.stderr)
         os.dup2(os.open(os.devnull, os.O_WRONLY), sys.stdout.fileno())  # for what is left, which Python writes at the end
         status = 1
     sys.exit(status)

@@ -169,6 +169,9 @@ def word_faults(path, room):
     said = ended.returncode, ended.stderr
     told = 1, "pbcube-lp: cannot write: No space left on device\n"
     yield "pbcube-lp on a full device", "" if said == told else f"{said} and not {told}"
+    ended = ran(["bash", "-c", '"$@" >&-', "bash", CLIENTS / "pbcube-lp", "--program", path, file])
+    closed = Ended("", "pbcube-lp: cannot write: standard output is closed\n", 1)
+    yield "pbcube-lp without an output", "" if ended == closed else f"{ended} and not {closed}"
 
 
 def beside_faults(path, room):

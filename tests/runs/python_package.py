@@ -443,6 +443,10 @@ def mistake_facts():
     for at, (call, said) in enumerate(cases):
         fault = raised(call)
         yield f"mistake {at}: {fault!r}", type(fault) is TypeError and said in str(fault)
+    for compared in (True, False):  # as numpy has it of arrays of sums, some versions of which pass over the exception
+        raised(lambda: bool(x == 1))
+        yield f"compared by numpy: {compared}", ".sum()" in str(raised(lambda: model.add(compared)))
+    yield "compared by Python", raised(lambda: Model().add(sum([]) >= 1)) is None
     for call in (lambda: model.solve(start=[True]), lambda: model.solve(start={"x": 2}), lambda: model.solve(start=[1, "y"]), lambda: model.solve(start=solve("1 x1 >= 1 ;"))):
         yield f"a start: {raised(call)!r}", type(raised(call)) is ValueError
     yield "a number below 0", "from 0 to" in raised(lambda: model.variables(-1)).hint

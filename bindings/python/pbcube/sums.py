@@ -3,6 +3,7 @@
 from __future__ import annotations
 
 import math
+import threading
 from array import array
 from dataclasses import dataclass, field
 from decimal import Decimal
@@ -17,6 +18,9 @@ from .wholes import is_truth_value
 MOST_VARIABLES = 1_048_576
 GREATEST_SUM = 2**126 - 1
 
+_refused = threading.local()
+"""Whether a constraint was asked for its truth value, or a sum compared by !=, since the last constraint was added. Some versions of numpy
+do so where arrays of sums are compared, and go on with a truth value of their own though the answer is an exception."""
 Exact = Union[int, Fraction]
 Number = Union[int, float, Fraction, Decimal]
 Terms = Tuple[Tuple[Exact, int], ...]
@@ -87,7 +91,9 @@ def _advice(value: object) -> str:
         return ""
     if hasattr(value, "__len__") and getattr(value, "shape", None) != ():
         return ": take one item after the other, as total(number * x for number, x in zip(numbers, variables))"
-    return ": write int(value) where it is a truth value" if hasattr(value, "__bool__") else ""
+    if is_truth_value(value) or not hasattr(value, "item"):
+        return ": write int(value) where it is a truth value" if hasattr(value, "__bool__") else ""
+    return ": write value.item()"
 
 
 def tidy(number: Exact) -> Exact:
@@ -167,6 +173,7 @@ class _Operand:
         )
 
     def __ne__(self, other: object) -> NoReturn:
+        _refused.truth = True
         raise TypeError("a sum is not compared by !=: write x + y == 1 where two literals are to differ, and else <= or >=")
 
     def __and__(self, other: NoReturn) -> NoReturn:
@@ -475,6 +482,7 @@ class Constraint:
         return self
 
     def __bool__(self) -> bool:
+        _refused.truth = True
         raise TypeError(
             "a constraint has no truth value: add it to a model, and 1 <= x + y <= 2 as two, or x == y == z; whether two literals are one "
             "is told by x.number == y.number, and `x in literals` by x.number in {it.number for it in literals}; an array of numpy is compared "
@@ -521,10 +529,16 @@ class Constraint:
 
 def as_constraint(value: object) -> Constraint:
     """The constraint that this is. What Python itself compared holds always or never."""
+    was_refused = vars(_refused).pop("truth", False)
     if isinstance(value, Sameness):
         raise TypeError(
             "constraints are not made equal by == or !=: where both are to hold or neither write a new variable z, with "
             "model.implies(z, constraint) for each, and model.implies(~z, opposite) for each"
+        )
+    if isinstance(value, bool) and was_refused:
+        raise TypeError(
+            f"no constraint: {value!r}, which came of a comparison that asked constraints for their truth values: an array of numpy is "
+            "compared item by item in a loop, or as its .sum()"
         )
     if isinstance(value, bool):
         return Constraint((), ">=", 0 if value else 1)
