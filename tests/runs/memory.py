@@ -40,7 +40,7 @@ REQUESTS = {
     "assignment": 151,
     "chain": 130,
     "clauses": 126,
-    "colours": 255,
+    "colours": 214,
     "cubes": 355,
     "cubes_of_a_contradiction": 387,
     "cubes_of_last_variables": 195,
