@@ -137,6 +137,7 @@ FILES = {
     "twelve.opb": "* #variable= 12 #constraint= 0\n",
     "clause.cnf": "p cnf 2 1\n1 2 0\n",
     "late_clause.cnf": "p cnf 2 0\n" + 10 * "c a note\n" + "1 2 0\n",
+    "late_cube.cnf": "p cnf 2 1\n1 2 0\na 1 0\n",
     "clause-0.out": "s SATISFIABLE\nv -1 2 0\n",
     "out/0.out": FIRST,
     "again-0.out": FIRST,
@@ -316,6 +317,7 @@ PRODUCT_HINT = f"line 1, column 6: 'x2': {NO_PRODUCT}"
 PRODUCT_IN_FILE = f"product.opb: {PRODUCT_HINT}"
 IS_STDIN = "/dev/stdin is the name of standard input"
 SECOND_OVER_HINT = "second_over.cubes: line 2, column 3: '4': variables are numbered from 1 to 3"
+LATE_CUBE_HINT = "late_cube.cnf: line 3, column 1: 'a': write cubes as iCNF, whose header is p inccnf, or into a file of their own"
 LATE_CLAUSE_HINT = "late_clause.cnf: line 12: the header says that the number of clauses is 0, but it is 1: write 1 there"
 IS_OPB_HINT = "tie.opb begins as OPB: give --format opb"
 FEW_HINT = "tie.opb has 3 variables, too few for --split 4"
@@ -521,6 +523,7 @@ PIECES = [
         for words, name, refusal, hint in (
             ("", "product.opb", "product.opb: NonLinear at line 1", PRODUCT_IN_FILE),
             ("--format cnf", "late_clause.cnf", "late_clause.cnf: TooManyClauses at line 12", LATE_CLAUSE_HINT),
+            ("--format cnf", "late_cube.cnf", "late_cube.cnf: TooManyClauses at line 3", LATE_CUBE_HINT),
             ("--cubes second_over.cubes", "tie.opb", "second_over.cubes: BadVariable at line 2", SECOND_OVER_HINT),
             ("--cubes word.cubes", "tie.opb", "word.cubes: Syntax at line 2", f"word.cubes: line 2, column 5: 'x2': {NUMBER}"),
             ("--split 4", "tie.opb", "the split is over more variables than there are", FEW_HINT),
@@ -534,7 +537,8 @@ PIECES = [
     Row("--out with_index tie.opb", err="pbcube_pieces: with_index holds an index already: remove it, or name another folder\n", status=1),
     Row(
         "--split 1 --out with_piece tie.opb",
-        err=f"pbcube_pieces: cannot write with_piece/0.opb: {reason(errno.EEXIST)}\n",
+        err=f"pbcube_pieces: cannot write with_piece/0.opb: {reason(errno.EEXIST)}\n"
+        "pbcube_pieces: remove the pieces that the folder holds, or name another folder\n",
         status=1,
         files={"with_piece/0.opb": "kept\n"},
     ),

@@ -6,6 +6,7 @@ use pb_read::ReadFault;
 use pb_write::WriteFault;
 use std::alloc::AllocError;
 use std::io;
+use std::io::ErrorKind;
 use thiserror::Error;
 
 /// What keeps pieces from being written, with the name of the file where it was met, and for inputs with what may help.
@@ -47,6 +48,9 @@ impl PiecesFault<'_> {
             return hint_on_name(name);
         }
         match self {
+            PiecesFault::CannotWrite(_, error) if error.kind() == ErrorKind::AlreadyExists => {
+                Some("remove the pieces that the folder holds, or name another folder")
+            }
             PiecesFault::Refused(_, _, hint)
             | PiecesFault::BadSplit(hint)
             | PiecesFault::TooManyCubes(hint) => hint.as_deref(),

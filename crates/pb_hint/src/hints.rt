@@ -147,10 +147,11 @@ fn stray_comment(text: &[u8]) -> Option<(Range<usize>, Option<Advice>)> {
     }
 }
 
-/// Such a word on the first line, which stands where no clause may stand. What to write in its place is told if it begins no clause.
+/// Such a word on the first line, which stands where no clause may stand. What to write in its place is told if it begins no clause,
+/// and no cube of a format that has cubes.
 fn stray_line(text: &[u8], has_cubes: bool) -> Option<(Range<usize>, Option<Advice>)> {
     let (bounds, advice) = misplaced_in_lists(text.lines().next()?, has_cubes)?;
-    let advice = advice.filter(|it| *it != Advice::Number && *it != Advice::Cube);
+    let advice = advice.filter(|it| *it != Advice::Number && !(has_cubes && *it == Advice::Cube));
     Some((bounds, advice))
 }
 
