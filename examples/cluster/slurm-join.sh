@@ -29,6 +29,8 @@ trap 'cat "$folder/joined.log" >&3 || true' EXIT
 [ -f "$file" ] && [ -r "$file" ] || refuse "FILE is a file that can be read, and not '$1'"
 [[ $format =~ ^(opb|cnf|icnf)$ ]] || refuse "FORMAT is opb, cnf or icnf, and not '$format'"
 [[ $tasks =~ ^[1-9][0-9]{0,8}$ ]] || refuse "TASKS is a number from 1 to 999999999, and not '$tasks'"
+[ $# -eq 4 ] || [ ! -e "$folder/division" ] ||
+  refuse "FOLDER has reports of tasks, so give TASKS too: it is the number at the end of $folder/division"
 # No report is tied to its piece, so one of an earlier cut would be taken for that of a new piece.
 for report in "$folder"/*.report; do
   [ $# -eq 4 ] || [ ! -s "$report" ] || [ ! "$report" -ot "$folder/index" ] ||

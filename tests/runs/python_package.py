@@ -45,6 +45,7 @@ from lib.worked_texts import SPOILED, WORKED
 
 callers.package()
 from pbcube import Answer, Constraint, Error, Explanation, Fixed, ForeignLiteral, Literal, Model, Refused, Status, Sum, solve, total
+from pbcube import starts
 from pbcube.programs import Workers
 
 MODELS = 150
@@ -427,6 +428,8 @@ def mistake_facts():
         (lambda: model.at_most(1, {x: 2, y: 3}), "[x, ~y]"), (lambda: model.explain({x: 0}), "[x, ~y]"), (lambda: model.minimise("x"), "model['x']"), (lambda: 2 * x + "y", "model['y']"),
         (lambda: model.at_least([x], 1), "at_least(1, [x, y])"), (lambda: model.at_most(x, 1), "at_most(1, [x, y])"),
         (lambda: model.exactly(1.5, [x]), "exactly(1, [x, y])"), (lambda: model.at_least(1, 2), "[x, ~y]"),
+        (lambda: model.minimise(x, y), "minimise(x + y)"), (lambda: model.maximise(x, y), "1000 * x + y"), (lambda: model.text("cnf"), "model.text()"),
+        (lambda: model.variables("k", 3), "variables('x y z')"),
         (lambda: x in model, "'x' in model"), (lambda: [*model], "for x in xs"), (lambda: model.variables(model), "for x in xs"),
         (lambda: model.add([x >= 1]), "for rule in rules"), (lambda: model.add(it >= 1 for it in [x, y]), "for rule in rules"),
         (lambda: model.add(x >= 1, "a rule"), "name='budget'"), (lambda: solve(7), "pbcube.solve(text)"),
@@ -938,6 +941,40 @@ def start_facts():
     yield "both are cut", plain.status is led.status is Status.FOUND
     yield "a start is tried first", sum(led[item] != value for item, value in start.items()) <= 4
     yield "and else it is not", sum(plain[item] != value for item, value in start.items()) > 8
+    yield from facts_of_whole_starts(model, items)
+
+
+def facts_of_whole_starts(model, items):
+    """A start that keeps to everything is an answer itself, also where no search gets to it."""
+    everything = [True] * len(items)
+    cost = sum(1 + at % 5 for at in range(len(items)))
+    for words in ({"nodes": 0}, {"nodes": 0, "assuming": items[:3]}):
+        begun = (model if "assuming" in words else model.copy()).solve(start=everything, **words)
+        yield f"a start that keeps to all, {words}", (begun.status, begun.cost, begun.values) == (Status.FOUND, cost, (True,) * len(items))
+    yield "one that does not", model.copy().solve(0, start=[False] * len(items)).status is Status.UNKNOWN
+    yield "nor to what is assumed", model.solve(0, start=everything, assuming=[~items[9]]).status is Status.UNKNOWN
+    more = model.copy()
+    answer = more.solve(0, start=everything)
+    more.variable()
+    more.minimise(total((1 + at % 5) * item for at, item in enumerate(items)) + 7)
+    yield "of an answer before there were more variables", more.solve(0, start=answer).cost == cost + 7
+    yield from facts_of_told_starts()
+
+
+def facts_of_told_starts():
+    """What a start tells by itself is what a search tells where each variable has the value of the start."""
+    model = Model()
+    x, y, z = variables = model.variables(3)
+    model.maximise(10**30 * x - Fraction(1, 2) * y)
+    for rule in (2 * x + 3 * ~y >= 3, x + y + z <= 2, 10**25 * x + 10**25 * z == 10**25):
+        model.add(rule)
+    model.clause([y, ~z])
+    statements = model._asked("solve", [], b"", 0).statements.after(None)
+    for values in itertools.product((False, True), repeat=3):
+        told = starts.told_by(bytes(values), statements, [])
+        searched = model.solve(assuming=[variable if value else ~variable for variable, value in zip(variables, values)])
+        cost = None if searched.cost is None else -2 * searched.cost
+        yield f"a start of {values}", told[:2] == ((1, None) if cost is None else (11, cost))
 
 
 def never_worse_facts():

@@ -657,8 +657,11 @@ def faults_of_words(script):
 
 def wrong_words(room):
     """Words of each recipe that are refused, each with a part of what is said, and with whether Slurm gives the number of a task."""
-    file, bare, no = TOP / "examples/tie.opb", room / "bare", room / "no/such"
+    file, bare, divided, no = TOP / "examples/tie.opb", room / "bare", room / "divided", room / "no/such"
     bare.mkdir()
+    divided.mkdir()
+    (divided / "division").write_text("instance of tasks\n")
+    yield "slurm-join.sh", "give TASKS too", [file, "opb", divided], False
     ends = [("FILE", no, "opb", 1), ("FILE", room, "opb", 1), ("FORMAT", file, "lp", 1), ("SPLIT", file, "opb", "two"), ("SPLIT", file, "opb", 13)]
     for told, *words in ends:
         yield "parallel.sh", told, [*words, bare], False

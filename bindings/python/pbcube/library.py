@@ -81,7 +81,10 @@ def load(path: str) -> ctypes.CDLL:
         "name": (ctypes.c_char_p, [integer]),
     }
     for name, (result, arguments) in signatures.items():
-        call = getattr(library, f"pbcube_{name}")
+        try:
+            call = getattr(library, f"pbcube_{name}")
+        except AttributeError as fault:
+            raise ImportError(f"{path} is no {_LIBRARY} of this version: name one in PBCUBE_LIBRARY") from fault
         call.restype, call.argtypes = result, arguments
     return library
 

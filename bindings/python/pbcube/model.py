@@ -12,11 +12,11 @@ from operator import index
 from typing import TYPE_CHECKING, Any, Callable, Dict, FrozenSet, Iterable, List, Mapping, NoReturn, Optional, Sequence
 from typing import Tuple, Union
 
-from . import conflicts, hints, searches, texts
+from . import conflicts, hints, searches, starts, texts
 from .answers import Answer, Explanation, Fixed, Names, Status
 from .errors import Error, Refused, format_of, refused
 from .jobs import Job, Question, Reply, Statement
-from .library import AMONG, FORMATS, NOTHING, RELATIONS
+from .library import AMONG, CUT, FORMATS, NOTHING, RELATIONS
 from .programs import Workers
 from .sums import MOST_VARIABLES, Constraint, Exact, Expression, Literal, Owner, Sum, total
 from .sums import as_constraint, as_literal, as_sum, check_owners, compact, lower_bounds, tidy, whole
@@ -179,9 +179,11 @@ class Model:
         else:
             self._tell(statement, terms)
 
-    def text(self) -> str:
+    def text(self, *formats: NoReturn) -> str:
         """The model as a text in OPB, whose variables are numbered from x1 on in the order in which they were made. An objective that is
         to be greatest is negated, and has no constant; numbers that are not whole are multiplied until they are. Cubes are left out."""
+        if formats:
+            raise TypeError("a model is written as OPB alone: write model.text()")
         with self._lock:
             objective = [self._objective.statement] if self._objective else []
             variables, statements = self._variables, [*objective, *self._statements]
@@ -205,8 +207,10 @@ class Model:
         """A new variable, with a name where one is given."""
         return self.variables(1 if name is None else [name])[0]
 
-    def variables(self, count: Union[int, str, Iterable[str]]) -> List[Literal]:
+    def variables(self, count: Union[int, str, Iterable[str]], *more: NoReturn) -> List[Literal]:
         """New variables: `count` of them, or one of each name, which may also be the words of one text, as "x y"."""
+        if more:
+            raise TypeError("a number of variables or their names is given, as variables(3), variables('x y z') or variables(['x', 'y', 'z'])")
         names = _names_of(count)
         with self._lock:
             self._check_names(names)
@@ -235,8 +239,14 @@ class Model:
         """The variable of that name, the same object each time. Raises KeyError where there is none."""
         literal = self._literals.get(name)
         if literal is None and name not in self._names:
-            raise KeyError(f"no variable is named {name!r}: model.variable('x') makes the one that model['x'] is")
+            raise KeyError(f"no variable is named {name!r}: {self._instead_of(name)}")
         return self._literals.setdefault(name, Literal(self._names[name], name, self._owner)) if literal is None else literal
+
+    def _instead_of(self, name: object) -> str:
+        """What to write where no variable has this name."""
+        if isinstance(name, str) and name[:1] == "x" and name[1:] in map(str, range(1, self._variables + 1)):
+            return f"one without a name is printed as {name}, so keep what makes it, as in x, y = model.variables(2)"
+        return "model.variable('x') makes the one that model['x'] is"
 
     def __contains__(self, name: str) -> bool:
         """Whether one of its variables has that name."""
@@ -247,12 +257,14 @@ class Model:
     def __iter__(self) -> NoReturn:
         raise TypeError("a model is no list of its variables: keep what makes them, as in xs = model.variables(3), and write for x in xs")
 
-    def minimise(self, cost: Expression) -> None:
+    def minimise(self, cost: Expression, *more: NoReturn) -> None:
         """Makes the sum what is to be least, in place of an earlier objective."""
+        _check_one_sum(more, "minimise")
         self._aim(as_sum(cost), 1)
 
-    def maximise(self, gain: Expression) -> None:
+    def maximise(self, gain: Expression, *more: NoReturn) -> None:
         """Makes the sum what is to be greatest, in place of an earlier objective. The answer's cost is its value."""
+        _check_one_sum(more, "maximise")
         self._aim(as_sum(gain), -1)
 
     def _aim(self, aim: Sum, sign: int) -> None:
@@ -386,6 +398,7 @@ class Model:
 
         A start is an answer of this model, values of literals or names, all others being False, or one value for each variable in order.
         Searches try these values first, until there is another start or a better answer; only an answer that is cut depends on them.
+        One that keeps to all constraints and to `assuming` is an answer itself, so that none which is cut is worse.
         Raises ValueError where it has not as many values as there are variables, or one that is neither True nor False.
 
         With `workers`, 1 to 64, or `split`, 0 to 12, the program pbcube solves the model's text, by as many threads and divided by as many
@@ -410,7 +423,8 @@ class Model:
         asked, program = self._asked("solve", given, first, 0), Workers.of(workers, split)
         limits = searches.Limits.of(nodes, time_limit, told_by(on_better, asked.answer), asked.known)
         if program is None:
-            return self._noted(asked, self._ask(asked, limits))
+            reply = self._ask(asked, limits)
+            return self._noted(asked, reply if first is None else searches.best_of(asked.begun(first, reply), reply))
         if first is not None:
             raise ValueError("the program takes no start: leave out either start, or workers and split")
         if program.split > asked.variables:
@@ -607,6 +621,11 @@ class _Asked:
         ordered = sorted(self.statements.after(None) + units, key=lambda it: it[0] != "min")  # the objective comes first, the others stay
         return "text", texts.opb(self.variables, ordered).encode("ascii"), FORMATS["opb"]
 
+    def begun(self, first: bytes, reply: Reply) -> Reply:
+        """What the values of a start tell beside a reply that was cut."""
+        values = first.ljust(self.variables, b"\0")
+        return starts.told_by(values, self.statements.after(None), self.assumed) if reply[0] in CUT else NOTHING
+
     def answer(self, reply: Reply) -> Answer:
         """What the reply to a question for an answer tells."""
         status, found, values, _ = reply
@@ -682,6 +701,12 @@ def _check_alone(more: Sequence[object], example: str) -> None:
     """Refuses what stands behind the literals."""
     if more:
         raise TypeError(f"literals stand in one list, as in {example}, and the name of a constraint behind name=")
+
+
+def _check_one_sum(more: Sequence[object], call: str) -> None:
+    """Refuses what stands behind the objective."""
+    if more:
+        raise TypeError(f"a model has one objective, which is one sum: write {call}(x + y), or {call}(1000 * x + y) where x comes first")
 
 
 def _check_words(others: Mapping[str, object], call: Callable[..., object]) -> None:

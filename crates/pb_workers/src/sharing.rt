@@ -26,6 +26,9 @@ const PIECES_ARE_DONE: u64 = 1;
 /// The signal of the board: the whole was searched, so no piece need be.
 const WHOLE_IS_DONE: u64 = 2;
 
+/// How many times a worker that stays apart asks and is lent nothing. A search asks after every 256th decision. Chosen by hand.
+const LOOKS_APART: u32 = 128;
+
 /// How a worker reaches the others: by its seat on the board, by its own row, and by the rows of the others, which it reads in
 /// turn. Beside the board it has a share with others who are not on it, `Alone` where there are none.
 #[derive(Drop)]
@@ -37,6 +40,8 @@ pub struct BoardShare<'b, S: OuterShare + Drop> {
     last_read: u32,
     // the least signal that ends the search
     ends_at: u64,
+    // how many more times nothing is borrowed
+    looks_apart: u32,
     beside: S,
 }
 
@@ -62,6 +67,7 @@ impl<'b, S: OuterShare + Drop> BoardShare<'b, S> {
             worker,
             last_read: worker,
             ends_at: PIECES_ARE_DONE,
+            looks_apart: 0,
             beside,
         }
     }
@@ -83,6 +89,7 @@ impl<'b, S: OuterShare + Drop> BoardShare<'b, S> {
             worker: _,
             last_read: _,
             ends_at: _,
+            looks_apart: _,
             beside: _,
         } = self;
         seat
@@ -95,6 +102,7 @@ impl<'b, S: OuterShare + Drop> BoardShare<'b, S> {
     {
         self.beside.begin();
         self.ends_at = WHOLE_IS_DONE;
+        self.looks_apart = 0;
         self.board.claim(&mut self.seat)
     }
 
@@ -103,6 +111,14 @@ impl<'b, S: OuterShare + Drop> BoardShare<'b, S> {
         ensures { self.new ≡ self.old }
     {
         self.beside.may_search(piece)
+    }
+
+    /// Borrows nothing for some time, so that the search begins as that of one worker does: what is closed by then takes no longer,
+    /// whatever the others find. A better assignment may also have a search do less at its root, and then take longer.
+    pub(crate) fn stay_apart(&mut self)
+        ensures { self.new ≡ self.old }
+    {
+        self.looks_apart = LOOKS_APART;
     }
 
     /// Tells all workers that the whole was searched.
@@ -148,6 +164,10 @@ impl<'b, S: OuterShare + Drop> Share for BoardShare<'b, S> {
     /// Where some worker offered a lesser key than that of `below`, reads the row of the next other worker in turn. Else asks
     /// whoever is beside the board.
     fn borrow(&mut self, below: Number, into: &mut Assignment) -> bool {
+        if self.looks_apart > 0 {
+            self.looks_apart -= 1;
+            return false;
+        }
         self.borrow_from_row(below, into) || self.beside.borrow(below, into)
     }
 

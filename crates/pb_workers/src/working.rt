@@ -133,8 +133,8 @@ impl<'a, 'i, N: Notes, G: Gate> SearchWorkers<'a, 'i, N, G> {
         Ok((part, share.into_seat()))
     }
 
-    /// In a race, begins the search of the whole: the first worker stays with it, and who comes to its end tells the others. Without a
-    /// race this is left to the search of the first piece, so that a worker without pieces searches nothing.
+    /// In a race, begins the search of the whole: the first worker stays with it, at first apart from the others, and who comes to its
+    /// end tells them. Without a race this is left to the search of the first piece, so that a worker without pieces searches nothing.
     fn begin<S: OuterShare + Drop>(
         &self,
         search: &mut Search<'_>,
@@ -149,9 +149,11 @@ impl<'a, 'i, N: Notes, G: Gate> SearchWorkers<'a, 'i, N, G> {
         if !self.is_race {
             return;
         }
-        let turns = match share.worker() {
-            0 => LONG_TURNS,
-            _ => FIRST_TURNS,
+        let turns = if share.worker() == 0 {
+            share.stay_apart();
+            LONG_TURNS
+        } else {
+            FIRST_TURNS
         };
         search.begin(best, share, turns, self.nodes);
         if search.is_settled(best) {
