@@ -555,7 +555,11 @@ def copy_facts():
     yield "which the model does not have", model.solve().cost == 1 and len(model.solve().values) == 2
     yield "a literal made after the copy is not the copy's", is_foreign(lambda: model.copy().add(z >= 1))
     later = model.variable("z")
-    yield "nor the other way round", is_foreign(lambda: copied.copy().add(later >= 1)) and is_foreign(lambda: answer[later])
+    yield "nor the other way round", is_foreign(lambda: copied.copy().add(later >= 1))
+    asked = (answer, later), (model.copy().solve(), model.variable()), (copied.fixed(), copied.variable())
+    for told, literal in asked:
+        fault = raised(lambda: told[literal])
+        yield f"nor an answer's that was there before: {fault!r}", isinstance(fault, ForeignLiteral) and "made after the model was asked" in fault.hint
     yield "a copy of a copy knows all", raised(lambda: copied.copy().clause([x, z])) is None
 
 

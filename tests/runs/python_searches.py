@@ -15,6 +15,7 @@ import pickle
 import random
 import subprocess
 import sys
+import tempfile
 import threading
 import time
 from pathlib import Path
@@ -26,6 +27,7 @@ from lib import TOP, callers
 callers.package()
 import pbcube
 from pbcube import Model, Status, solve, total
+from pbcube.programs import find
 
 INSTANCES = (
     *("cover 300", "sets 340", "units 185", "random 180", "knapsack 500"),
@@ -230,6 +232,21 @@ def program_facts():
     yield "a split of too many", "variables" in str(raised(lambda: solve("1 x1 >= 1 ;", split=2)))
     answer, _ = limited(Model.read(made("cover 700")), workers=2, split=2)
     yield f"a time limit: {answer.status}", answer.status is Status.FOUND
+    yield from slow_piece_facts()
+
+
+def slow_piece_facts():
+    """Where a run on all pieces does not end in time, the answer is that of a run on the whole."""
+    named = os.environ.get("PBCUBE_PROGRAMS")
+    with tempfile.TemporaryDirectory() as folder:
+        path = Path(folder) / "pbcube"
+        path.write_text(f'#!/bin/sh\ncase "$* " in *"--split 0 "*) exec {find()} "$@" ;; esac\nexec sleep 999\n')
+        path.chmod(0o755)
+        os.environ["PBCUBE_PROGRAMS"] = folder
+        answer, told = limited(Model.read(made("cover 700")), workers=4, split=8)
+        yield f"a time limit that no run on pieces meets: {answer.status}", answer.status is Status.FOUND and answer.cost == told[-1].cost
+    del os.environ["PBCUBE_PROGRAMS"]
+    os.environ.update({"PBCUBE_PROGRAMS": named} if named else {})
 
 
 # ---- constraints by name

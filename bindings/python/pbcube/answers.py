@@ -9,6 +9,7 @@ from functools import cached_property
 from typing import TYPE_CHECKING, Any, Dict, List, NoReturn, Optional, Tuple, Union
 
 from . import hints
+from .errors import FOREIGN, LATER
 from .sums import Exact, Expression, Literal, as_literal, as_sum, check_owners, tidy
 from .tables import first_rows, table
 
@@ -64,6 +65,7 @@ class _Named(_Told):
     """What tells of variables that may have names."""
 
     names: Tuple[Optional[str], ...]
+    owners: Optional[Tuple[Tuple[int, int], ...]]
     _where_no_name = ""
 
     @cached_property
@@ -76,6 +78,12 @@ class _Named(_Told):
             has_names = any(it is not None for it in self._numbers)
             raise LookupError(f"no variable is named {name!r}{'' if has_names else f': none has a name: {self._where_no_name}'}")
         return self._numbers[name]
+
+    def _check(self, owners: Tuple[Tuple[int, int], ...]) -> None:
+        """Raises ForeignLiteral unless the answer has each variable."""
+        if self.owners is not None:
+            known = dict(self.owners)
+            check_owners(owners, known, LATER if all(owner in known for owner, _ in owners) else FOREIGN)
 
     def _name_of(self, number: int) -> str:
         """The name of a variable, or x and its number where it has none."""
@@ -104,15 +112,11 @@ class Answer(_Named):
         """Whether a literal, or the variable of a name, is true.
 
         Raises LookupError where nothing was found or the answer has no such variable, and ForeignLiteral where the variable is one
-        of another model."""
+        of another model, or was made after the model was asked."""
         if isinstance(literal, str):
             return self._is_true(self._number_of(literal))
         self._check(as_literal(literal).owners)
         return self._is_true(literal.number)
-
-    def _check(self, owners: Tuple[Tuple[int, int], ...]) -> None:
-        if self.owners is not None:
-            check_owners(owners, dict(self.owners))
 
     def _is_true(self, number: int) -> bool:
         if self.values is None:
@@ -231,7 +235,7 @@ class Fixed(_Named):
         if isinstance(literal, str):
             return self._number_of(literal)
         given = as_literal(literal)
-        check_owners(given.owners, dict(self.owners))
+        self._check(given.owners)
         return given.number
 
     def _status(self, number: int) -> int:

@@ -15,6 +15,7 @@ _HINTS: Dict[str, str] = {
     "TooMany": "there are at most 1048576 variables, 4194304 constraints, 1048575 cubes and 16777216 terms",
 }
 FOREIGN = "a literal belongs to another model; a copy has only those literals of its original that were made before the copy"
+LATER = "it has no value of this variable, which was made after the model was asked or copied: ask the model again"
 _LIKE_A_PATH = re.compile(rb"[^\s;]+\.(opb|i?cnf)")
 
 
@@ -31,7 +32,7 @@ class Error(Exception):
 
 
 class ForeignLiteral(Error):
-    """A literal was handed to a model, or to an answer, of which its variable is none."""
+    """A literal was handed to a model, or to an answer, of which its variable is none, or none yet."""
 
     def __init__(self, hint: str = FOREIGN) -> None:
         super().__init__("ForeignLiteral", hint)

@@ -210,7 +210,7 @@ class Model:
     def variables(self, count: Union[int, str, Iterable[str]], *more: NoReturn) -> List[Literal]:
         """New variables: `count` of them, or one of each name, which may also be the words of one text, as "x y"."""
         if more:
-            raise TypeError("a number of variables or their names is given, as variables(3), variables('x y z') or variables(['x', 'y', 'z'])")
+            raise TypeError("one number of variables is given, as variables(3), or names, as variables('x y z') or variables(['x', 'y'])")
         names = _names_of(count)
         with self._lock:
             self._check_names(names)
@@ -403,7 +403,8 @@ class Model:
 
         With `workers`, 1 to 64, or `split`, 0 to 12, the program pbcube solves the model's text, by as many threads and divided by as many
         variables; a whole search gives the same answer. Several workers need a split, so give both, as `workers=4, split=8`. The program
-        takes no start, and `nodes` is for each piece. Raises FileNotFoundError where the program is not there.
+        takes no start, and `nodes` is for each piece. With a time limit one worker first searches the whole for an eighth of it, since the
+        first run on many pieces may take longer than the limit. Raises FileNotFoundError where the program is not there.
 
             >>> model = Model()
             >>> x, y = model.variables(2)
