@@ -403,8 +403,9 @@ class Model:
 
         With `workers`, 1 to 64, or `split`, 0 to 12, the program pbcube solves the model's text, by as many threads and divided by as many
         variables; a whole search gives the same answer. Several workers need a split, so give both, as `workers=4, split=8`. The program
-        takes no start, and `nodes` is for each piece. With a time limit one worker first searches the whole for an eighth of it, since the
-        first run on many pieces may take longer than the limit. Raises FileNotFoundError where the program is not there.
+        takes no start, and `nodes` is for each piece. With a time limit one worker first searches the whole for an eighth of it or some
+        more, and until it finds something, since the first run on many pieces may take longer than the limit. Raises FileNotFoundError
+        where the program is not there.
 
             >>> model = Model()
             >>> x, y = model.variables(2)

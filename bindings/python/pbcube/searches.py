@@ -21,7 +21,7 @@ import os
 import threading
 import time
 import weakref
-from dataclasses import dataclass, replace
+from dataclasses import dataclass
 from operator import index
 from typing import Callable, List, Optional, Tuple, Union
 
@@ -39,7 +39,7 @@ _PLAIN = ("solve", b"", None)
 _FOUND = (10, 11, 30)
 _LONGEST = 2_000_000  # seconds of a time limit, as many milliseconds of which a poll takes
 _MOST_WAITING = 4
-_EARLY_SHARE = 0.125  # of a time limit, in which one worker searches the whole: a first run on many pieces may take longer than all of it
+_EARLY_SHARE = 0.125  # of a time limit, in which one worker searches the whole: the first run on many pieces may not end in time
 _waiting: List[weakref.ref[_Child]] = []
 _waiting_lock = threading.RLock()  # a handler of a signal may ask too
 
@@ -333,19 +333,23 @@ def run_program(job: Job, workers: Workers, limits: Limits) -> Reply:
     if MOST_NODES < limits.nodes < NO_LIMIT:
         raise ValueError(f"with workers or a split a budget is at most {MOST_NODES}, and not {limits.nodes}")
     told = _Told(job, limits)
-    if limits.deadline is not None:
-        now = time.monotonic()
-        early = now + _EARLY_SHARE * (limits.deadline - now)
-        _run_up_to(told, Workers(), job, replace(limits, deadline=early))
-    if told.reply[0] in CUT:
-        _run_up_to(told, workers, job, limits)
+    try:
+        if limits.deadline is None or not _is_whole_at_once(told, job, limits, limits.deadline):
+            for _, reply in replies(_Runs(workers, limits.deadline), job, limits.plan()):
+                told.take(reply)
+    except _TimeIsUp:
+        pass
     return told.best
 
 
-def _run_up_to(told: _Told, workers: Workers, job: Job, limits: Limits) -> None:
-    """Hands over what the program finds by the deadline."""
-    try:
-        for _, reply in replies(_Runs(workers, limits.deadline), job, limits.plan()):
-            told.take(reply)
-    except _TimeIsUp:
-        pass
+def _is_whole_at_once(told: _Told, job: Job, limits: Limits, deadline: float) -> bool:
+    """Hands over what one worker finds in the whole, until it has found something and some of the time has passed. Whether that is all."""
+    now = time.monotonic()
+    early = now + _EARLY_SHARE * (deadline - now)
+    for _, reply in replies(_Runs(Workers(), deadline), job, limits.plan()):
+        told.take(reply)
+        if told.reply[0] not in CUT:
+            return True
+        if told.reply[0] in _FOUND and time.monotonic() >= early:
+            return False
+    return False
