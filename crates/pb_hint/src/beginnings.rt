@@ -285,9 +285,10 @@ const STATUSES: [&str; 5] = [
     "s UNSUPPORTED",
 ];
 
-/// Whether a line begins a declaration of FlatZinc, or is a constraint of it. A comment of CNF may begin with that word too.
+/// Whether a line begins a declaration of FlatZinc, or is a constraint of it. A comment of CNF may begin with that word too. In FlatZinc
+/// a type and a colon follow `var`, in AMPL a name.
 fn is_flatzinc(line: &[u8]) -> bool {
-    line.starts_with(b"var ")
+    (line.starts_with(b"var ") && line.fields().any(|word| word.ends_with(b":")))
         || line.starts_with(b"array [")
         || line.starts_with(b"predicate ")
         || line.starts_with(b"int:")
