@@ -470,7 +470,7 @@ FLATZINC_FAULTS = {
 }
 
 
-OF_MINIZINC = "this is MiniZinc, and not FlatZinc: have it compiled and solved by minizinc --solver pbcube FILE"
+OF_MINIZINC = "this seems to be MiniZinc, and not FlatZinc: have it compiled and solved by minizinc --solver pbcube FILE"
 MINIZINC_TEXTS = {  # that are no FlatZinc, and the lines of the statements that show it
     "int: n = 3;\nvar 1..n: x;\nsolve satisfy;": 2,
     "int: n;\nvar 0..3: x;\nsolve satisfy;": 1,

@@ -7,7 +7,7 @@ import re
 from typing import Dict, Iterable, Sequence, Tuple
 
 _SUM = "minimise(sum) or maximise(sum)"
-_ANSWER = "solve() gives an answer, which has it, as answer.cost"
+_ANSWER = "solve() gives an answer: write answer.status, answer.cost, answer.values, or answer[x] of a literal or a name"
 
 _OF_MODELS: Dict[str, Tuple[str, ...]] = {
     "minimise(sum)": ("minimize", "Minimize", "Minimise"),

@@ -244,6 +244,8 @@ class Model:
 
     def _instead_of(self, name: object) -> str:
         """What to write where no variable has this name."""
+        if not isinstance(name, str):
+            return "a name is a text, as in model['x']"
         if isinstance(name, str) and name[:1] == "x" and name[1:] in map(str, range(1, self._variables + 1)):
             return f"one without a name is printed as {name}, so keep what makes it, as in x, y = model.variables(2)"
         return "model.variable('x') makes the one that model['x'] is"
