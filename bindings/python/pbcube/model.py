@@ -398,7 +398,8 @@ class Model:
         Until something is stated, no answer is worse than an earlier one that assumed the same: where no start is given, the earlier
         one is the start, and where it was whole it is the answer. For this the last 100 answers that assume different literals are kept.
 
-        A start is an answer of this model, values of literals or names, all others being False, or one value for each variable in order.
+        A start is an answer of this model, of which one that found nothing is none, values of literals or names, all others being False, or
+        one value for each variable in order.
         Searches try these values first, until there is another start or a better answer; only an answer that is cut depends on them.
         One that keeps to all constraints and to `assuming` is an answer itself, so that none which is cut is worse.
         Raises ValueError where it has not as many values as there are variables, or one that is neither True nor False.
@@ -526,11 +527,11 @@ class Model:
             return Fixed(Status.UNSATISFIABLE, None, asked.names, asked.owners)
         return Fixed(Status(status), statuses or b"\3" * asked.variables, asked.names, asked.owners)
 
-    def _values_of(self, start: Union[Answer, Mapping[Union[Literal, str], bool], Sequence[bool]]) -> bytes:
-        """The values to be tried first, as bytes 0 and 1."""
+    def _values_of(self, start: Union[Answer, Mapping[Union[Literal, str], bool], Sequence[bool]]) -> Optional[bytes]:
+        """The values to be tried first, as bytes 0 and 1. An answer that found nothing has none."""
         if isinstance(start, Answer):
             if start.values is None:
-                raise LookupError("nothing was found")
+                return None
             if start.owners is None:  # of a text
                 return _values_in_order(start.values, self._variables)
             check_owners(start.owners, self._known(), _FOREIGN_START)

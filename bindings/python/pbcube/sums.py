@@ -3,6 +3,7 @@
 from __future__ import annotations
 
 import math
+import sys
 import threading
 from array import array
 from dataclasses import dataclass, field
@@ -19,8 +20,8 @@ MOST_VARIABLES = 1_048_576
 GREATEST_SUM = 2**126 - 1
 
 _refused = threading.local()
-"""Whether a constraint was asked for its truth value, or a sum compared by !=, since the last constraint was added. Some versions of numpy
-do so where arrays of sums are compared, and go on with a truth value of their own though the answer is an exception."""
+"""The exception that a constraint had in place of a truth value, or a sum that was compared by !=, since the last constraint was added.
+Some versions of numpy ask so where arrays of sums are compared, and go on with a truth value of their own."""
 Exact = Union[int, Fraction]
 Number = Union[int, float, Fraction, Decimal]
 Terms = Tuple[Tuple[Exact, int], ...]
@@ -173,8 +174,7 @@ class _Operand:
         )
 
     def __ne__(self, other: object) -> NoReturn:
-        _refused.truth = True
-        raise TypeError("a sum is not compared by !=: write x + y == 1 where two literals are to differ, and else <= or >=")
+        raise _noted("a sum is not compared by !=: write x + y == 1 where two literals are to differ, and else <= or >=")
 
     def __and__(self, other: NoReturn) -> NoReturn:
         raise TypeError("literals are not joined by &: write model.add(x + y >= 2) where both are to be true")
@@ -482,8 +482,7 @@ class Constraint:
         return self
 
     def __bool__(self) -> bool:
-        _refused.truth = True
-        raise TypeError(
+        raise _noted(
             "a constraint has no truth value: add it to a model, and 1 <= x + y <= 2 as two, or x == y == z; whether two literals are one "
             "is told by x.number == y.number, and `x in literals` by x.number in {it.number for it in literals}; an array of numpy is compared "
             "item by item in a loop, or as its .sum()"
@@ -527,9 +526,22 @@ class Constraint:
     __ror__ = __or__
 
 
+def _noted(told: str) -> TypeError:
+    """The exception that tells this, which is kept where numpy may pass it over."""
+    fault = TypeError(told)
+    if "numpy" in sys.modules:
+        _refused.fault = fault
+    return fault
+
+
+def _was_passed_over(fault: Optional[TypeError]) -> bool:
+    """Whether no caller in Python has seen the exception, so that nothing but the frame which raised it is in its traceback."""
+    return fault is not None and (fault.__traceback__ is None or fault.__traceback__.tb_next is None)
+
+
 def as_constraint(value: object) -> Constraint:
     """The constraint that this is. What Python itself compared holds always or never."""
-    was_refused = vars(_refused).pop("truth", False)
+    was_refused = _was_passed_over(vars(_refused).pop("fault", None))
     if isinstance(value, Sameness):
         raise TypeError(
             "constraints are not made equal by == or !=: where both are to hold or neither write a new variable z, with "
