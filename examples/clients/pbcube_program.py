@@ -3,6 +3,7 @@
 from __future__ import annotations
 
 import argparse
+import ctypes
 import math
 import os
 import re
@@ -20,6 +21,20 @@ GROWTH = 4  # of the budget from one search to the next, unless that would not e
 SAFE_SHARE = 0.8  # of the decisions that fit into the time that is left, since some take longer than others
 GREATEST_BUDGET = 1_000_000_000  # that pbcube takes
 GREATEST_SPLIT = 12
+_END_WITH_PARENT = 1  # PR_SET_PDEATHSIG
+_SET_PROCESS = getattr(ctypes.CDLL(None), "prctl", None)  # of Linux
+
+
+def _end_with(parent: int) -> Callable[[], None]:
+    """What a new process does first, so that the system ends it where its parent is killed."""
+
+    def begin() -> None:
+        if _SET_PROCESS is not None:
+            _SET_PROCESS(_END_WITH_PARENT, signal.SIGKILL.value)
+            if os.getppid() != parent:
+                os._exit(1)
+
+    return begin
 
 
 class NoAnswer(Exception):
@@ -149,7 +164,7 @@ class Program:
         if left is not None and left <= 0:
             raise subprocess.TimeoutExpired(command, 0)
         try:
-            ended = subprocess.run(command, input=opb, capture_output=True, text=True, timeout=left)
+            ended = subprocess.run(command, input=opb, capture_output=True, text=True, timeout=left, preexec_fn=_end_with(os.getpid()))
         except OSError as fault:
             where = "" if "/" in self.path else ": it is neither beside the clients nor on the PATH, and a path names another"
             raise NoAnswer(f"cannot run {self.path}: {fault.strerror}{where}") from fault

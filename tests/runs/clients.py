@@ -14,6 +14,7 @@ import random
 import re
 import runpy
 import shutil
+import signal
 import subprocess
 import sys
 import tempfile
@@ -217,17 +218,20 @@ def unread_fault(command):
     return "" if (ended.returncode, ended.stderr) == (1, "") else f"status {ended.returncode}: {ended.stderr}"
 
 
-def stopped_fault(room):
-    """Where pbcube goes on when pbcube-lp, which waits for it, is told to end."""
-    sleeper, number = room / "sleeper", room / "number"
+def stopped_fault(room, by, status):
+    """Where pbcube goes on when pbcube-lp, which waits for it, is told to end or killed."""
+    sleeper, number = room / f"sleeper-{by}", room / f"number-{by}"
     sleeper.write_text(f"#!/bin/sh\ncat > /dev/null\necho $$ > {number}.new\nmv {number}.new {number}\nexec sleep {SECONDS}\n")
     sleeper.chmod(0o755)
     with subprocess.Popen([CLIENTS / "pbcube-lp", "--program", sleeper, CLIENTS / "mixture.lp"]) as process:
         while not number.exists() and process.poll() is None:
             time.sleep(0.01)
-        process.terminate()
-    goes_on = Path(f"/proc/{number.read_text().strip()}").exists()
-    return "" if process.returncode == 143 and not goes_on else f"status {process.returncode}, and the program goes on: {goes_on}"
+        process.send_signal(by)
+    goes_on, last = Path(f"/proc/{number.read_text().strip()}"), time.monotonic() + SECONDS / 2
+    while goes_on.exists() and time.monotonic() < last:  # the system may take some time
+        time.sleep(0.01)
+    told = process.returncode, goes_on.exists()
+    return "" if told == (status, False) else f"status {told[0]}, and the program goes on: {told[1]}"
 
 
 # ---- what the clients share
@@ -646,7 +650,8 @@ def checks(path, room):
     yield from word_faults(path, room)
     yield from beside_faults(path, room)
     yield "pbcube-lp, its manual page", manual_fault()
-    yield "pbcube-lp, stopped", stopped_fault(room)
+    yield "pbcube-lp, stopped", stopped_fault(room, signal.SIGTERM, 143)
+    yield "pbcube-lp, killed", stopped_fault(room, signal.SIGKILL, -9)
     yield "pbcube-lp, not read", unread_fault([CLIENTS / "pbcube-lp", "--program", path, CLIENTS / "mixture.lp"])
     yield from timed_faults(room)
     yield from flatzinc_faults(path, room)

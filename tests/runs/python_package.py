@@ -437,7 +437,7 @@ def mistake_facts():
         (lambda: model.at_least([x], 1), "at_least(1, [x, y])"), (lambda: model.at_most(x, 1), "at_most(1, [x, y])"),
         (lambda: model.exactly(1.5, [x]), "exactly(1, [x, y])"), (lambda: model.at_least(1, 2), "[x, ~y]"),
         (lambda: model.minimise(x, y), "minimise(x + y)"), (lambda: model.maximise(x, y), "1000 * x + y"), (lambda: model.text("cnf"), "model.text()"),
-        (lambda: model.variables("k", 3), "variables('x y z')"),
+        (lambda: model.variables("k", 3), "variables('x y z')"), (lambda: model.implies(x, y, "a rule"), "name='rule'"),
         (lambda: x in model, "'x' in model"), (lambda: [*model], "for x in xs"), (lambda: model.variables(model), "for x in xs"),
         (lambda: model.add([x >= 1]), "for rule in rules"), (lambda: model.add(it >= 1 for it in [x, y]), "for rule in rules"),
         (lambda: model.add(x >= 1, "a rule"), "name='budget'"), (lambda: solve(7), "pbcube.solve(text)"),

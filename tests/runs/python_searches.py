@@ -233,6 +233,18 @@ def program_facts():
     answer, _ = limited(Model.read(made("cover 700")), workers=2, split=2)
     yield f"a time limit: {answer.status}", answer.status is Status.FOUND
     yield from slow_piece_facts()
+    yield from daemon_facts()
+
+
+def daemon_facts():
+    """A thread that is in a search while the interpreter ends says nothing, and the program ends as without it."""
+    model = "pbcube.Model.read(sys.stdin.read())"
+    search = f"threading.Thread(target=lambda model: model.solve(time_limit={PATIENCE}), args=[{model}], daemon=True).start()"
+    script = f"import sys, threading, time, pbcube\n{search}\ntime.sleep(1)\n"
+    environment = {**os.environ, "PYTHONPATH": str(callers.PYTHON), "PYTHONDONTWRITEBYTECODE": "1"}
+    for _ in range(3):
+        ended = subprocess.run([sys.executable, "-c", script], input=made("cover 700"), env=environment, capture_output=True, text=True)
+        yield f"a thread that goes on at the end: {ended}", (ended.returncode, ended.stderr) == (0, "")
 
 
 def slow_piece_facts():

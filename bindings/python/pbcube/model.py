@@ -305,7 +305,9 @@ class Model:
         given = self._own(literals)
         self._tell(("or", 0, array("i", (literal.number for literal in given))), len(given), name)
 
-    def implies(self, condition: Literal, consequence: Union[Literal, Constraint, bool], *, name: Optional[str] = None) -> None:
+    def implies(
+        self, condition: Literal, consequence: Union[Literal, Constraint, bool], *more: NoReturn, name: Optional[str] = None
+    ) -> None:
         """Adds that where the condition is true, so is the literal or the constraint.
 
             >>> model = Model()
@@ -314,6 +316,8 @@ class Model:
             >>> model.solve().values
             (False, True, True)
         """
+        if more:
+            raise TypeError("a condition has one consequence, and the name of a constraint stands behind name=: implies(x, y, name='rule')")
         if isinstance(condition, (list, tuple, set, Sum, Constraint)):
             raise TypeError(
                 f"a condition is one literal, and not {condition!r}: write model.clause([~x, ~y, z]) where z is to be true if x and y "

@@ -44,9 +44,16 @@ class Process:
     def __enter__(self) -> Process:
         return self
 
-    def __exit__(self, *_: object) -> None:
-        self._end()
+    def __exit__(self, kind: object = None, *_: object) -> None:
+        is_over = kind is not None and not self._end.alive and threading.current_thread() is not threading.main_thread()
+        self._leave()
         self._let_through()
+        if is_over:  # the process was ended with the interpreter, while this thread went on: it ends in silence
+            raise SystemExit
+
+    def _leave(self) -> None:
+        """Ends the process."""
+        self._end()
 
     def _let_through(self) -> None:
         """Lets Ctrl-C through again."""
@@ -109,8 +116,8 @@ class Program(Process):
         launched = [*python_command(str(Path(__file__).with_name("launch.py"))), str(os.getpid()), *command]
         super().__init__(launched, self._errors)
 
-    def __exit__(self, *_: object) -> None:
-        super().__exit__()
+    def _leave(self) -> None:
+        super()._leave()
         if self._errors is not None:
             self._said = _last_line(self._errors)
             self._errors.close()

@@ -263,10 +263,9 @@ class _Child(Child):
         self._request = library.framed((os.getpid(), library.loaded._name))
         super().__init__(python_command(library.__file__))
 
-    def __exit__(self, *_: object) -> None:
+    def _leave(self) -> None:
         if not self._is_waiting:
             self._end()
-        self._let_through()
 
     def ask(self, job: Job, plan: Plan, told: _Told) -> None:
         """Hands over what it finds, up to the deadline. Raises ChildProcessError where it did not begin."""
