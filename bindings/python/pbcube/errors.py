@@ -15,8 +15,8 @@ _HINTS: Dict[str, str] = {
     "TooMany": "there are at most 1048576 variables, 4194304 constraints, 1048575 cubes and 16777216 terms",
 }
 FOREIGN = (
-    "a literal belongs to another model; a copy has only those literals of its original that were made before the copy: model[x.name] is the "
-    "model's variable of the same name as x, and answer[x.name] tells its value"
+    "a literal belongs to another model; a copy has only those literals of its original that were made before the copy: model[x.name] is "
+    "the model's variable of the same name as x, and answer[x.name] tells its value"
 )
 LATER = "it has no value of this variable, which was made after the model was asked or copied: ask the model again"
 _LIKE_A_PATH = re.compile(rb"[^\s;]+\.(opb|i?cnf)")
